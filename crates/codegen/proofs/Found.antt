@@ -15,18 +15,20 @@ use Rattle.sim_tree.specs.declared.expr.Identifier.{Identifier}
 use Rattle.sim_tree.specs.declared.expr.Selector.{Selector}
 use Rattle.sim_tree.specs.declared.stmt.Assignment.{Assignment}
 use Rattle.sim_tree.specs.declared.stmt.Assignment.TheVariants as assignment
-use Rattle.sim_tree.specs.Syntax.{Binary, Constant, Dot, Expression, If, Member, Named, New, Not, Parentheses, Qua, Signed, This, expressions}
+use Rattle.sim_tree.specs.Syntax.{Binary, Constant, Dot, Expression, If, Member, Named, New, NoMore, Not, Parentheses, Qua, Signed, This, expressions}
 use Rattle.sim_tree.specs.SyntaxOf.{Cast, Selection, Take, selected, selector_syntax, syntax_of}
 use Rattle.sim_meaning.specs.Attributes.{connection_at, declared_attribute}
-use Rattle.sim_meaning.specs.Closing.{is_text, own_block_denoted, own_result, result_meant, unless_connected}
+use Rattle.sim_meaning.specs.Closing.{is_text, own_block_denoted, own_match, own_result, result_meant, result_or_own, unless_connected}
+use Rattle.sim_meaning.specs.Pending.{Result}
+use Rattle.sim_meaning.specs.Virtuals.{text_of_procedure}
 use Rattle.codegen_expr.specs.declared.forms.Form.{Form}
 use Rattle.codegen_expr.specs.declared.forms.Form.TheVariants as form
 use Rattle.codegen_expr.specs.declared.spot.Spot.{Spot}
 use Rattle.codegen_expr.specs.Forms.{FindsForm, FormIs, IsNew, IsOther}
 use Rattle.codegen.specs.declared.left.Left.{Left}
 use Rattle.codegen.specs.declared.left.Left.TheVariants as left
-use Rattle.codegen.specs.CodeLeft.{NotBuilt, Stored, stored_found, stored_left, stored_named, stored_of, stored_text}
-use Rattle.codegen.specs.EmitLeft.{FindsLeft, FindsNamed, FindsOwn, FindsOwnNamed, FindsSide, FindsTaken, FindsText, FindsWhole, IsLeft, IsVariable, IsWhole, operands_in, own_if}
+use Rattle.codegen.specs.CodeLeft.{InCell, NotBuilt, Stored, stored_found, stored_left, stored_match, stored_named, stored_of, stored_result, stored_text}
+use Rattle.codegen.specs.EmitLeft.{FindsLeft, FindsMatchText, FindsNamed, FindsOwn, FindsOwnNamed, FindsResult, FindsSide, FindsTaken, FindsText, FindsWhole, IsLeft, IsVariable, IsWhole, operands_in, own_if, own_match_if}
 use Rattle.codegen_expr.proofs.Attributes.{selector-Dot, selector-Qua}
 use Rattle.codegen.proofs.Cells.{own_found, own_missing, own_outside}
 
@@ -103,17 +105,19 @@ own_taken s x p [] is some' = absurd (some' refl)
 own_taken s x p (y ∷ ys) is some' = own_selected s p (selector_syntax y) (map selector_syntax ys) ∙ sym (ap (result_meant s) is)
 
 -- an identifier alone, or with subscripts
-abbrev seen_own : Source → TokenNo → Option ℕ
-seen_own s token = unless_connected (connection_at s token.0) (own_block_denoted s token.0 (denoted s token.0))
-
-own_operands : (s : Source) (k : Identifier) (l : List Expr) → own_if (length l) (seen_own s k.token) ≡ result_meant s (Named k (expressions (map syntax_of l)))
-unfolding result_meant own_result
+own_operands : (s : Source) (k : Identifier) (l : List Expr) → own_if (length l) (result_meant s (Named k NoMore)) ≡ result_meant s (Named k (operands_in l))
+unfolding result_meant own_result own_match
 own_operands s k [] = refl
 own_operands s k (x ∷ xs) = through (connection_at s k.token.0)
   where
     through : (o : Option ℕ) → None ≡ unless_connected o None
     through None = refl
     through (Some c) = refl
+
+pub match_operands : (s : Source) (k : Identifier) (l : List Expr) → own_match_if (length l) (own_match s (Named k NoMore)) ≡ own_match s (Named k (operands_in l))
+unfolding own_match
+match_operands s k [] = refl
+match_operands s k (x ∷ xs) = refl
 
 -- ---- variables
 
@@ -133,11 +137,41 @@ module _ (b : Bound) (w : Spot) where
 
   pub named_through : (x : Identifier) (es : List Expr) (o : Option ℕ) (k : ℕ) → o ≡ connection_at (source_of b) x.token.0 → o ≡ Some k → FindsNamed b w x es left.Attribute
   unfolding FindsNamed
-  named_through x es o k eo some = sym (ap (λ z. stored_found z (Named x (operands_in es)) (stored_named (source_of b) (denoted (source_of b) x.token.0) (operands_in es) (line_at (source_of b) x.token.0))) (sym some ∙ eo))
+  named_through x es o k eo some =
+      let s = source_of b in
+      let e = Named x (operands_in es) in
+      sym (ap (λ z. stored_found z e (stored_match (text_of_procedure s (own_match s e)) (stored_named s (denoted s x.token.0) (operands_in es) (line_at s x.token.0)))) (sym some ∙ eo))
 
-  pub named_plain : (x : Identifier) (es : List Expr) (o : Option ℕ) (r : Left) → o ≡ connection_at (source_of b) x.token.0 → o ≡ None → FindsLeft b w x.token es r → FindsNamed b w x es r
-  unfolding FindsNamed FindsLeft
-  named_plain x es o r eo none f = subst (λ z. IsWhole (source_of b) w (Named x (operands_in es)) r (stored_found z (Named x (operands_in es)) (stored_named (source_of b) (denoted (source_of b) x.token.0) (operands_in es) (line_at (source_of b) x.token.0)))) (sym none ∙ eo) (whole_of (Named x (operands_in es)) r _ f)
+  match_is : (x : Identifier) (es : List Expr) (n : ℕ) (p : Option ℕ) → FindsMatchText b x n p → n ≡ length es → p ≡ text_of_procedure (source_of b) (own_match (source_of b) (Named x (operands_in es)))
+  unfolding FindsMatchText
+  match_is x es n p f en = f ∙ ap (λ z. text_of_procedure (source_of b) (own_match_if z (own_match (source_of b) (Named x NoMore)))) en ∙ ap (text_of_procedure (source_of b)) (match_operands (source_of b) x es)
+
+  -- what is seen through no connection
+  unconnected : (x : Identifier) (es : List Expr) (o p : Option ℕ) (r : Left) → o ≡ connection_at (source_of b) x.token.0 → o ≡ None → p ≡ text_of_procedure (source_of b) (own_match (source_of b) (Named x (operands_in es)))
+      → IsVariable (source_of b) w r (stored_match p (stored_named (source_of b) (denoted (source_of b) x.token.0) (operands_in es) (line_at (source_of b) x.token.0))) → FindsNamed b w x es r
+  unfolding FindsNamed
+  unconnected x es o p r eo none ep f =
+      let s = source_of b in
+      let e = Named x (operands_in es) in
+      let other = stored_named s (denoted s x.token.0) (operands_in es) (line_at s x.token.0) in
+      subst (λ z. IsWhole s w e r (stored_found z e (stored_match (text_of_procedure s (own_match s e)) other))) (sym none ∙ eo)
+      (subst (λ z. IsWhole s w e r (stored_match z other)) ep (whole_of e r _ f))
+
+  pub named_plain : (x : Identifier) (es : List Expr) (n : ℕ) (o p : Option ℕ) (r : Left) → o ≡ connection_at (source_of b) x.token.0 → o ≡ None → FindsMatchText b x n p → n ≡ length es → p ≡ None → FindsLeft b w x.token es r → FindsNamed b w x es r
+  unfolding FindsLeft
+  named_plain x es n o p r eo none ep en no_match f = unconnected x es o None r eo none (sym no_match ∙ match_is x es n p ep en) f
+
+  -- the result of a match has no subscripts
+  of_match : (x : Identifier) (es : List Expr) (k : ℕ) (r : Left) → Some k ≡ text_of_procedure (source_of b) (own_match (source_of b) (Named x (operands_in es))) → IsVariable (source_of b) w r (stored_result k (operands_in es)) → IsVariable (source_of b) w r (InCell k Result)
+  unfolding own_match
+  of_match x [] k r e f = f
+  of_match x (y ∷ ys) k r e f = absurd (cc)
+
+  pub named_match : (x : Identifier) (es : List Expr) (n k : ℕ) (o p : Option ℕ) (r : Left) → o ≡ connection_at (source_of b) x.token.0 → o ≡ None → FindsMatchText b x n p → n ≡ length es → p ≡ Some k → FindsResult b w k es r → FindsNamed b w x es r
+  unfolding FindsResult
+  named_match x es n k o p r eo none ep en some f =
+      let is = sym some ∙ match_is x es n p ep en in
+      unconnected x es o (Some k) r eo none is (of_match x es k r is f)
 
   pub taken_attribute : (y : Selector) (i : TokenNo) (k : Identifier) (l : Vec Expr Global) (o : Option Denotation) (d : DeclNo) → y ≡ take.Dot i k l → o ≡ denoted (source_of b) k.token.0 → o ≡ Some (denotation.Declared d) → FindsTaken b w y left.Attribute
   unfolding FindsTaken
@@ -232,25 +266,52 @@ module _ (b : Bound) (w : Spot) where
 
 -- ---- results
 
-pub own_subscripts : (b : Bound) (token : TokenNo) (n : ℕ) → n ≢ 0 → FindsOwnNamed b token n None
+pub own_subscripts : (b : Bound) (x : Identifier) (n : ℕ) → n ≢ 0 → FindsOwnNamed b x n None
 unfolding FindsOwnNamed
-own_subscripts b token zero ne = absurd (ne refl)
-own_subscripts b token (suc n) ne = refl
+own_subscripts b x zero ne = absurd (ne refl)
+own_subscripts b x (suc n) ne = refl
 
-pub own_through : (b : Bound) (token : TokenNo) (n c : ℕ) (o : Option ℕ) → n ≡ 0 → o ≡ connection_at (source_of b) token.0 → o ≡ Some c → FindsOwnNamed b token n None
+-- an identifier alone
+own_alone : (b : Bound) (x : Identifier) (n : ℕ) (r : Option ℕ) → n ≡ 0 → r ≡ result_meant (source_of b) (Named x NoMore) → FindsOwnNamed b x n r
 unfolding FindsOwnNamed
-own_through b token n c o none eo some = ap (λ z. unless_connected z (own_block_denoted (source_of b) token.0 (denoted (source_of b) token.0))) (sym some ∙ eo) ∙ ap (λ z. own_if z (seen_own (source_of b) token)) (sym none)
+own_alone b x n r none e = e ∙ ap (λ z. own_if z (result_meant (source_of b) (Named x NoMore))) (sym none)
 
-pub own_plain : (b : Bound) (token : TokenNo) (n : ℕ) (o p : Option ℕ) (u : Option Denotation) → n ≡ 0 → o ≡ connection_at (source_of b) token.0 → o ≡ None → u ≡ denoted (source_of b) token.0 → p ≡ own_block_denoted (source_of b) token.0 u → FindsOwnNamed b token n p
-unfolding FindsOwnNamed
-own_plain b token n o p u none eo no' eu ep =
-    ep ∙ ap (own_block_denoted (source_of b) token.0) eu ∙ ap (λ z. unless_connected z (own_block_denoted (source_of b) token.0 (denoted (source_of b) token.0))) (sym no' ∙ eo) ∙ ap (λ z. own_if z (seen_own (source_of b) token)) (sym none)
+pub own_through : (b : Bound) (x : Identifier) (n c : ℕ) (o : Option ℕ) → n ≡ 0 → o ≡ connection_at (source_of b) x.token.0 → o ≡ Some c → FindsOwnNamed b x n None
+unfolding result_meant
+own_through b x n c o none eo some = own_alone b x n None none through
+  where
+    through : None ≡ result_meant (source_of b) (Named x NoMore)
+    through = ap (λ z. unless_connected z (result_or_own (text_of_procedure (source_of b) (own_match (source_of b) (Named x NoMore))) (own_result (source_of b) (Named x NoMore)))) (sym some ∙ eo)
 
-pub own_named_form : (b : Bound) (x : Expr) (f : Form) (k : Bor Identifier) (l : Bor (List Expr)) (o : Option ℕ) (n : ℕ) → FindsForm f x → f ≡ form.Named k l → n ≡ length l.now → FindsOwnNamed b k.now.token n o → o ≡ result_meant (source_of b) (syntax_of x)
+-- one that is seen through no connection
+own_unconnected : (b : Bound) (x : Identifier) (n : ℕ) (o p own : Option ℕ) → n ≡ 0 → o ≡ connection_at (source_of b) x.token.0 → o ≡ None → FindsMatchText b x n p → own ≡ own_result (source_of b) (Named x NoMore) → FindsOwnNamed b x n (result_or_own p own)
+unfolding FindsMatchText result_meant
+own_unconnected b x n o p own none eo no' ep e = own_alone b x n (result_or_own p own) none meant
+  where
+    is : p ≡ text_of_procedure (source_of b) (own_match (source_of b) (Named x NoMore))
+    is = ep ∙ ap (λ z. text_of_procedure (source_of b) (own_match_if z (own_match (source_of b) (Named x NoMore)))) none
+
+    meant : result_or_own p own ≡ result_meant (source_of b) (Named x NoMore)
+    meant =
+        let s = source_of b in
+        let match = text_of_procedure s (own_match s (Named x NoMore)) in
+        ap (λ z. result_or_own z own) is ∙ ap (result_or_own match) e ∙ ap (λ z. unless_connected z (result_or_own match (own_result s (Named x NoMore)))) (sym no' ∙ eo)
+
+pub own_of_match : (b : Bound) (x : Identifier) (n k : ℕ) (o p : Option ℕ) → n ≡ 0 → o ≡ connection_at (source_of b) x.token.0 → o ≡ None → FindsMatchText b x n p → p ≡ Some k → FindsOwnNamed b x n (Some k)
+own_of_match b x n k o p none eo no' ep some =
+    let own = own_result (source_of b) (Named x NoMore) in
+    subst (λ z. FindsOwnNamed b x n (result_or_own z own)) some (own_unconnected b x n o p own none eo no' ep refl)
+
+pub own_plain : (b : Bound) (x : Identifier) (n : ℕ) (o p q : Option ℕ) (u : Option Denotation) → n ≡ 0 → o ≡ connection_at (source_of b) x.token.0 → o ≡ None → FindsMatchText b x n p → p ≡ None → u ≡ denoted (source_of b) x.token.0 → q ≡ own_block_denoted (source_of b) x.token.0 u → FindsOwnNamed b x n q
+unfolding own_result
+own_plain b x n o p q u none eo no' ep no_match eu eq =
+    subst (λ z. FindsOwnNamed b x n (result_or_own z q)) no_match (own_unconnected b x n o p q none eo no' ep (eq ∙ ap (own_block_denoted (source_of b) x.token.0) eu))
+
+pub own_named_form : (b : Bound) (x : Expr) (f : Form) (k : Bor Identifier) (l : Bor (List Expr)) (o : Option ℕ) (n : ℕ) → FindsForm f x → f ≡ form.Named k l → n ≡ length l.now → FindsOwnNamed b k.now n o → o ≡ result_meant (source_of b) (syntax_of x)
 unfolding FindsOwnNamed
 own_named_form b x f k l o n h is en eo =
     let s = source_of b in
-    eo ∙ ap (λ z. own_if z (seen_own s k.now.token)) en ∙ own_operands s k.now l.now ∙ sym (ap (result_meant s) (form_at f (form.Named k l) x h is))
+    eo ∙ ap (λ z. own_if z (result_meant s (Named k.now NoMore))) en ∙ own_operands s k.now l.now ∙ sym (ap (result_meant s) (form_at f (form.Named k l) x h is))
 
 pub own_taken_form : (b : Bound) (x : Expr) (f : Form) (p : Bor Expr) (l : Bor (List Selector)) → FindsForm f x → f ≡ form.Taken p l → None ≡ result_meant (source_of b) (syntax_of x)
 own_taken_form b x f p l h is = let g = form_at f (form.Taken p l) x h is in own_taken (source_of b) (syntax_of x) (syntax_of p.now) l.now g.0 g.1
@@ -265,4 +326,4 @@ own_new_form b x f h is = own_new (source_of b) (syntax_of x) (form_at f form.Ne
 pub own_other_form : (b : Bound) (x : Expr) (f : Form) → FindsForm f x → f ≡ form.Other → None ≡ result_meant (source_of b) (syntax_of x)
 own_other_form b x f h is = own_other (source_of b) (syntax_of x) (form_at f form.Other x h is)
 
-pub ruleset founds = (named_through, named_plain, taken_attribute, taken_standard, taken_unknown, taken_cast, whole_named, whole_taken, whole_closed, whole_new, whole_other, text_own, text_plain, side_text, side_denoted, side_value, side_reference, own_subscripts, own_through, own_plain, own_named_form, own_taken_form, own_closed_form, own_new_form, own_other_form, own_found, own_missing, own_outside)
+pub ruleset founds = (named_through, named_match, named_plain, taken_attribute, taken_standard, taken_unknown, taken_cast, whole_named, whole_taken, whole_closed, whole_new, whole_other, text_own, text_plain, side_text, side_denoted, side_value, side_reference, own_subscripts, own_through, own_of_match, own_plain, own_named_form, own_taken_form, own_closed_form, own_new_form, own_other_form, own_found, own_missing, own_outside)

@@ -20,6 +20,7 @@ use Rattle.sim_code.specs.declared.code.BlockKind.{BlockKind}
 use Rattle.sim_code.specs.declared.code.BlockKind.TheVariants as kind
 use Rattle.sim_code.specs.declared.code.CodeType.{CodeType}
 use Rattle.sim_code.specs.declared.code.CodeType.TheVariants as type
+use Rattle.sim_code.specs.declared.code.Match.{Match}
 use Rattle.sim_code.specs.declared.instr.Instr.{Instr}
 use Rattle.sim_code.specs.declared.instr.Instr.TheVariants as i
 use Rattle.sim_code.specs.declared.instr.Lined.{Lined}
@@ -98,8 +99,8 @@ abbrev Place : Type 1
 Place = CodeOf → Site → ℕ → ℕ → Type 0
 
 -- the class of a level
-abbrev class_of_level : LevelStart → (stated after : ℕ) → ClassOf
-class_of_level x stated after = class_record (record { prefix = x.prefix; block = x.block; declarations = x.start; statements = stated; after_inner = after; process = x.process })
+abbrev class_of_level : LevelStart → (stated after : ℕ) → List Match → ClassOf
+class_of_level x stated after matches = class_record (record { prefix = x.prefix; block = x.block; declarations = x.start; statements = stated; after_inner = after; process = x.process }) matches
 
 -- what is known of a text with levels but its code
 pub record Kinded (s : Source) (h : LevelHead) (x : Text) : Type 0 where
@@ -112,7 +113,7 @@ module _ (b : Bound) where
   -- Behind before a text begins, and behind old its level, whose body is this. The level ends in mid.
   level_recorded : (before old begun mid new : Written) (c : DraftOf) (h : LevelHead) (y : LevelStart) (stated behind : ℕ) (x : Text) (P : Type 0) (Body : Place) → Entered before old → LevelBegun (source_of b) old begun h.text y → Emits (spot h.text y.used) begun.draft c P Body → mid.draft ≡ c → mid.blocks ≡ begun.blocks → mid.classes ≡ begun.classes
       → LevelEnded (source_of b) mid new h y stated behind → Next (source_of b) before h.text x → Kinded (source_of b) h x → (TextBuilt (source_of b) h.text x → P)
-      → ((final : CodeOf) (block : BlockOf) → Grows old.draft.instrs final.instrs → block.entry ≡ h.entry → RecordOf (source_of b) final h.text h.kind type.Nothing block → ClassIs (source_of b) final h.text block (class_of_level y stated behind) → y.start ≡ length old.draft.instrs
+      → ((final : CodeOf) (block : BlockOf) (matches : List Match) → Grows old.draft.instrs final.instrs → block.entry ≡ h.entry → RecordOf (source_of b) final h.text h.kind type.Nothing block → ClassIs (source_of b) final h.text block (class_of_level y stated behind matches) → y.start ≡ length old.draft.instrs
       → Body final (site_of (source_of b) final h.text block) (length begun.draft.instrs) (length c.instrs) → length begun.draft.instrs ≡ y.start → length begun.draft.instrs ≤ length c.instrs → length c.instrs < length final.instrs → Is final (i.EndLevel (pos y.level)) (length c.instrs) (suc (length c.instrs)) → CodeHas (source_of b) final h.text x (Some block))
       → TextEmitted (source_of b) before new h.text x
   unfolding kinds_agree OwnEnd
@@ -121,7 +122,6 @@ module _ (b : Bound) where
       let k = h.text in
       let m = y.used in
       let stop = i.EndLevel (pos y.level) in
-      let class = class_of_level y stated behind in
       let plan = before.draft.classes in
       let w2 = g.more in
       let ended : g.mid.draft ≡ with_instr c stop 0 = g.draft ∙ ap (λ z. with_instr z stop 0) ed in
@@ -173,15 +173,15 @@ module _ (b : Bound) where
             let in_front : class_in (block_in_front s final k) ≡ (planned_front s plan k).class = ap (λ z. z.class) (front_planned s final plan k known) in
             let lower = (next.plan.each k x next.is kinded.planned).class kinded.one_class in
             let its_own : g.added.block.class ≡ (planned_at plan (block_number s k)).class = ap (λ z. z.class) own in
+            let class = t.classes g.put.place _ put in
             subst (λ z. CodeHas s final k x z) (sym r.found)
-            (code final g.added.block (grows_then old.draft.instrs new.draft.instrs final.instrs (grows_front old.draft.instrs new.draft.instrs behind_old) t.grows) r.entry r.heads
+            (code final g.added.block class.0 (grows_then old.draft.instrs new.draft.instrs final.instrs (grows_front old.draft.instrs new.draft.instrs behind_old) t.grows) r.entry r.heads
             (record {
-              numbered = ap (class_numbered final) counts ∙ t.classes g.put.place _ put;
+              numbered = ap (class_numbered final) counts ∙ class.1;
               of_block = f.block ∙ ap (λ z. length z.items) entered.blocks ∙ sym next.block;
               prefix = front_is ∙ sym in_front;
               lower = omega (arith, front_is, lower, its_own);
               process = f.process;
-              no_matches = refl;
             })
             f.start stands at_start le1 inside (record { line = 0; is = record { at = there; on = refl } }));
       }
@@ -200,9 +200,9 @@ module _ (b : Bound) where
       let body = emits_then (spot k y.used) _ _ _ _ c1 c2 c4 fa (emits_then (spot k y.used) _ _ _ _ c2 c3 c4 (emits_to b (spot k y.used) c2 c3 ⊤ _ stated est (emits_at (spot k y.used) c2 c3 (i.NextDecl (pos y.level)) 0 (e3 ∙ ap (λ z. with_instr c2 z 0) e3') (λ z. cc) refl)) fl.1) in
       level_recorded before old begun mid new c4 h y stated behind x _ _ its_text.entered f body ed eb ec g next (record { planned = its_text.planned; formals = its_text.formals; one_block = its_text.one_block; one_class = its_text.one_class })
       (λ q. (let parts = its_text.parts q in (parts.0, (tt, parts.1))))
-      (λ final block grows entry heads its starts stands at_start le1 inside ends.
+      (λ final block matches grows entry heads its starts stands at_start le1 inside ends.
       let site = site_of s final k block in
-      its_text.code final block (class_of_level y stated behind) grows entry starts heads its
+      its_text.code final block (class_of_level y stated behind matches) grows entry starts heads its
       (record {
         place = y.level;
         placed = f.level;
@@ -387,9 +387,9 @@ module _ (b : Bound) where
       let body = emits_then (spot k y.used) _ _ _ _ c1 c2 c3 (emits_to b (spot k y.used) c1 c2 ⊤ _ stated est (emits_at (spot k y.used) c1 c2 (i.NextDecl (pos y.level)) 0 (e2 ∙ ap (λ z. with_instr c1 z 0) e2') (λ z. cc) refl)) fp.1 in
       level_recorded b old old begun mid new c3 (record { kind = kind.Object; text = k; entry = 4; inner = false }) y stated behind (StandardText standard.Process) _ _ (at_once old) f body ed eb ec g next (record { planned = refl; formals = refl; one_block = refl; one_class = omega arith })
       (λ q. (tt, (around.block, around.around)))
-      (λ final block grows entry heads its starts stands at_start le1 inside ends.
+      (λ final block matches grows entry heads its starts stands at_start le1 inside ends.
       let site = site_of s final k block in
-      process_code final k block (class_of_level y stated behind) ne entry heads its
+      process_code final k block (class_of_level y stated behind matches) ne entry heads its
       (record {
         place = y.level;
         placed = f.level;

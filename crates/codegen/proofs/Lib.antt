@@ -21,6 +21,9 @@ pub mod Heads
 pub mod Declared
 pub mod Walked
 pub mod LevelTexts
+pub mod OwnMatches
+pub mod Listed
+pub mod Recorded
 pub mod Whole
 pub mod Controls
 pub mod Lying

@@ -3,7 +3,7 @@ use Rattle.std.proofs.Common.{◌≡◌, ◌+◌, ℕ, true, false, pos, [], Opt
 use Rattle.std.specs.Prelude.{⊤}
 use Rattle.sim_scope.specs.declared.bound.Bound.{Bound}
 use Rattle.sim_scope.specs.declared.types.SimType.{SimType}
-use Rattle.sim_scope.specs.Source.{level_of, source_of, type_at}
+use Rattle.sim_scope.specs.Source.{level_of, source_of}
 use Rattle.sim_tree.specs.declared.expr.Expr.{Expr}
 use Rattle.sim_tree.specs.declared.expr.Identifier.{Identifier}
 use Rattle.sim_tree.specs.Syntax.{Expression, Named, NoMore}
@@ -11,7 +11,7 @@ use Rattle.sim_tree.specs.SyntaxOf.{syntax_of}
 use Rattle.sim_code.specs.declared.instr.Instr.{Instr}
 use Rattle.sim_code.specs.declared.instr.Instr.TheVariants as i
 use Rattle.sim_code.specs.Code.{CodeOf}
-use Rattle.sim_meaning.specs.Closing.{own_result, result_meant, typed_token}
+use Rattle.sim_meaning.specs.Closing.{left_type, result_meant}
 use Rattle.sim_meaning.specs.Levels.{qualification}
 use Rattle.sim_meaning.specs.Pending.{Result}
 use Rattle.codegen_expr.specs.declared.spot.Spot.{Spot}
@@ -22,7 +22,7 @@ use Rattle.codegen_expr.specs.Emit.{PutsPlace, WritesNamedPlace, WritesPlace}
 use Rattle.codegen_expr.specs.Sites.{Pushes, Site, block_number, class_number, slot_of}
 use Rattle.codegen_expr.proofs.Pieces.{emits_as, emits_classed, emits_nothing, emits_push}
 use Rattle.codegen_expr.proofs.Slots.{slot_found}
-use Rattle.codegen.specs.EmitLeft.{FindsOwnNamed, WritesNamedReference, WritesReferencePlace, WritesResultPlace}
+use Rattle.codegen.specs.EmitLeft.{FindsOwnNamed, FindsType, WritesNamedReference, WritesReferencePlace, WritesResultPlace}
 use Rattle.codegen.proofs.Cells.{cell_there, own_cell}
 use Rattle.codegen.proofs.Sides.{here}
 
@@ -75,68 +75,72 @@ module _ (b : Bound) (w : Spot) where
         at = λ v final site g. subst (λ z. PlaceOrResultAt s final site n z own (PlaceAt s final site n z e) (length a.instrs) (length c.instrs)) (numbered final site c k m number g em (en ∙ ap (λ z. class_of z m) (sym f.classed))) (f.at v final site g);
       }
 
-  -- the class of a left side, of what token its type is
-  lies_as : (n : ℕ) (a c : DraftOf) (e : Expression) (k : ℕ) → qualification (source_of b) (type_at (source_of b) (typed_token e)) ≡ Some k
+  -- the class of a left side, by its type
+  lies_as : (n : ℕ) (a c : DraftOf) (e : Expression) (k : ℕ) → qualification (source_of b) (left_type (source_of b) e) ≡ Some k
       → Emits w a c (⊤ × PlaceOrResultBuilt (source_of b) w.text (result_meant (source_of b) e) (PlaceBuilt (source_of b) w.text e)) (λ final site p q. PlaceOrResultAt (source_of b) final site n (class_number (source_of b) final k) (result_meant (source_of b) e) (PlaceAt (source_of b) final site n (class_number (source_of b) final k) e) p q)
       → Emits w a c (ReferenceBuilt (source_of b) w.text e) (λ final site p q. ReferencePlaceAt (source_of b) final site n e p q)
   lies_as n a c e k is f =
       let s = source_of b in
       subst (λ z. Emits w a c (ClassBuilt z × PlaceOrResultBuilt s w.text (result_meant s e) (PlaceBuilt s w.text e)) (λ final site p q. QualifiedPlaceAt s final site n z e p q)) (sym is) f
 
-  none_as : (n : ℕ) (a c : DraftOf) (e : Expression) → qualification (source_of b) (type_at (source_of b) (typed_token e)) ≡ None → c ≡ given_up a → Emits w a c (ReferenceBuilt (source_of b) w.text e) (λ final site p q. ReferencePlaceAt (source_of b) final site n e p q)
+  none_as : (n : ℕ) (a c : DraftOf) (e : Expression) → qualification (source_of b) (left_type (source_of b) e) ≡ None → c ≡ given_up a → Emits w a c (ReferenceBuilt (source_of b) w.text e) (λ final site p q. ReferencePlaceAt (source_of b) final site n e p q)
   none_as n a c e is ec = emits_nothing w a c _ _ (λ h. subst ClassBuilt is h.0) ec
 
-  pub reference_none : (n : ℕ) (a c : DraftOf) (x : Expr) (token : ℕ) (u : Option SimType) (o : Option ℕ) → token ≡ typed_token (syntax_of x) → u ≡ type_at (source_of b) token → o ≡ qualification (source_of b) u → o ≡ None → c ≡ given_up a → WritesReferencePlace b w n a c x
+  pub reference_none : (n : ℕ) (a c : DraftOf) (x : Expr) (u : Option SimType) (o : Option ℕ) → u ≡ left_type (source_of b) (syntax_of x) → o ≡ qualification (source_of b) u → o ≡ None → c ≡ given_up a → WritesReferencePlace b w n a c x
   unfolding WritesReferencePlace
-  reference_none n a c x token u o et eu eo none ec = none_as n a c (syntax_of x) (sym (ap (λ z. qualification (source_of b) (type_at (source_of b) z)) et) ∙ sym (ap (qualification (source_of b)) eu) ∙ sym eo ∙ none) ec
+  reference_none n a c x u o eu eo none ec = none_as n a c (syntax_of x) (sym (ap (qualification (source_of b)) eu) ∙ sym eo ∙ none) ec
 
-  pub reference_result : (n : ℕ) (a c : DraftOf) (x : Expr) (token k m number own : ℕ) (u : Option SimType) (o p : Option ℕ) → token ≡ typed_token (syntax_of x) → u ≡ type_at (source_of b) token → o ≡ qualification (source_of b) u → o ≡ Some k → m ≡ block_number (source_of b) k → number ≡ class_of a.classes m
+  pub reference_result : (n : ℕ) (a c : DraftOf) (x : Expr) (k m number own : ℕ) (u : Option SimType) (o p : Option ℕ) → u ≡ left_type (source_of b) (syntax_of x) → o ≡ qualification (source_of b) u → o ≡ Some k → m ≡ block_number (source_of b) k → number ≡ class_of a.classes m
       → p ≡ result_meant (source_of b) (syntax_of x) → p ≡ Some own → WritesResultPlace b w n a c number own → WritesReferencePlace b w n a c x
   unfolding WritesReferencePlace WritesResultPlace
-  reference_result n a c x token k m number own u o p et eu eo some em en ep is f =
+  reference_result n a c x k m number own u o p eu eo some em en ep is f =
       let s = source_of b in
       let e = syntax_of x in
-      lies_as n a c e k (sym (ap (λ z. qualification s (type_at s z)) et) ∙ sym (ap (qualification s) eu) ∙ sym eo ∙ some)
+      lies_as n a c e k (sym (ap (qualification s) eu) ∙ sym eo ∙ some)
       (subst (λ z. Emits w a c (⊤ × PlaceOrResultBuilt s w.text z (PlaceBuilt s w.text e)) (λ final site p q. PlaceOrResultAt s final site n (class_number s final k) z (PlaceAt s final site n (class_number s final k) e) p q)) (sym is ∙ ep)
       (with_class n a c e k m number (Some own) em en f))
 
-  pub reference_place : (n : ℕ) (a c : DraftOf) (x : Expr) (token k m number : ℕ) (u : Option SimType) (o p : Option ℕ) → token ≡ typed_token (syntax_of x) → u ≡ type_at (source_of b) token → o ≡ qualification (source_of b) u → o ≡ Some k → m ≡ block_number (source_of b) k → number ≡ class_of a.classes m
+  pub reference_place : (n : ℕ) (a c : DraftOf) (x : Expr) (k m number : ℕ) (u : Option SimType) (o p : Option ℕ) → u ≡ left_type (source_of b) (syntax_of x) → o ≡ qualification (source_of b) u → o ≡ Some k → m ≡ block_number (source_of b) k → number ≡ class_of a.classes m
       → p ≡ result_meant (source_of b) (syntax_of x) → p ≡ None → WritesPlace b w n a c number x → WritesReferencePlace b w n a c x
   unfolding WritesReferencePlace WritesPlace PutsPlace
-  reference_place n a c x token k m number u o p et eu eo some em en ep is f =
+  reference_place n a c x k m number u o p eu eo some em en ep is f =
       let s = source_of b in
       let e = syntax_of x in
-      lies_as n a c e k (sym (ap (λ z. qualification s (type_at s z)) et) ∙ sym (ap (qualification s) eu) ∙ sym eo ∙ some)
+      lies_as n a c e k (sym (ap (qualification s) eu) ∙ sym eo ∙ some)
       (subst (λ z. Emits w a c (⊤ × PlaceOrResultBuilt s w.text z (PlaceBuilt s w.text e)) (λ final site p q. PlaceOrResultAt s final site n (class_number s final k) z (PlaceAt s final site n (class_number s final k) e) p q)) (sym is ∙ ep)
       (with_class n a c e k m number None em en f))
 
   -- ---- the same of an identifier alone
 
-  named_own : (x : Identifier) (p : Option ℕ) → FindsOwnNamed b x.token 0 p → p ≡ result_meant (source_of b) (Named x NoMore)
-  unfolding FindsOwnNamed result_meant own_result
+  named_own : (x : Identifier) (p : Option ℕ) → FindsOwnNamed b x 0 p → p ≡ result_meant (source_of b) (Named x NoMore)
+  unfolding FindsOwnNamed
   named_own x p f = f
 
-  pub named_none : (n : ℕ) (a c : DraftOf) (x : Identifier) (u : Option SimType) (o : Option ℕ) → u ≡ type_at (source_of b) x.token.0 → o ≡ qualification (source_of b) u → o ≡ None → c ≡ given_up a → WritesNamedReference b w n a c x
-  unfolding WritesNamedReference
-  named_none n a c x u o eu eo none ec = none_as n a c (Named x NoMore) (sym (ap (qualification (source_of b)) eu) ∙ sym eo ∙ none) ec
+  named_typed : (x : Identifier) (u : Option SimType) → FindsType b x 0 u → u ≡ left_type (source_of b) (Named x NoMore)
+  unfolding FindsType
+  named_typed x u f = f
 
-  pub named_result : (n : ℕ) (a c : DraftOf) (x : Identifier) (k m number own : ℕ) (u : Option SimType) (o p : Option ℕ) → u ≡ type_at (source_of b) x.token.0 → o ≡ qualification (source_of b) u → o ≡ Some k → m ≡ block_number (source_of b) k → number ≡ class_of a.classes m
-      → FindsOwnNamed b x.token 0 p → p ≡ Some own → WritesResultPlace b w n a c number own → WritesNamedReference b w n a c x
+  pub named_none : (n : ℕ) (a c : DraftOf) (x : Identifier) (u : Option SimType) (o : Option ℕ) → FindsType b x 0 u → o ≡ qualification (source_of b) u → o ≡ None → c ≡ given_up a → WritesNamedReference b w n a c x
+  unfolding WritesNamedReference
+  named_none n a c x u o eu eo none ec = none_as n a c (Named x NoMore) (sym (ap (qualification (source_of b)) (named_typed x u eu)) ∙ sym eo ∙ none) ec
+
+  pub named_result : (n : ℕ) (a c : DraftOf) (x : Identifier) (k m number own : ℕ) (u : Option SimType) (o p : Option ℕ) → FindsType b x 0 u → o ≡ qualification (source_of b) u → o ≡ Some k → m ≡ block_number (source_of b) k → number ≡ class_of a.classes m
+      → FindsOwnNamed b x 0 p → p ≡ Some own → WritesResultPlace b w n a c number own → WritesNamedReference b w n a c x
   unfolding WritesNamedReference WritesResultPlace
   named_result n a c x k m number own u o p eu eo some em en ep is f =
       let s = source_of b in
       let e = Named x NoMore in
-      lies_as n a c e k (sym (ap (qualification s) eu) ∙ sym eo ∙ some)
+      lies_as n a c e k (sym (ap (qualification s) (named_typed x u eu)) ∙ sym eo ∙ some)
       (subst (λ z. Emits w a c (⊤ × PlaceOrResultBuilt s w.text z (PlaceBuilt s w.text e)) (λ final site p q. PlaceOrResultAt s final site n (class_number s final k) z (PlaceAt s final site n (class_number s final k) e) p q)) (sym is ∙ named_own x p ep)
       (with_class n a c e k m number (Some own) em en f))
 
-  pub named_place : (n : ℕ) (a c : DraftOf) (x : Identifier) (k m number : ℕ) (u : Option SimType) (o p : Option ℕ) → u ≡ type_at (source_of b) x.token.0 → o ≡ qualification (source_of b) u → o ≡ Some k → m ≡ block_number (source_of b) k → number ≡ class_of a.classes m
-      → FindsOwnNamed b x.token 0 p → p ≡ None → WritesNamedPlace b w n a c number x [] → WritesNamedReference b w n a c x
+  pub named_place : (n : ℕ) (a c : DraftOf) (x : Identifier) (k m number : ℕ) (u : Option SimType) (o p : Option ℕ) → FindsType b x 0 u → o ≡ qualification (source_of b) u → o ≡ Some k → m ≡ block_number (source_of b) k → number ≡ class_of a.classes m
+      → FindsOwnNamed b x 0 p → p ≡ None → WritesNamedPlace b w n a c number x [] → WritesNamedReference b w n a c x
   unfolding WritesNamedReference WritesNamedPlace PutsPlace
   named_place n a c x k m number u o p eu eo some em en ep is f =
       let s = source_of b in
       let e = Named x NoMore in
-      lies_as n a c e k (sym (ap (qualification s) eu) ∙ sym eo ∙ some)
+      lies_as n a c e k (sym (ap (qualification s) (named_typed x u eu)) ∙ sym eo ∙ some)
       (subst (λ z. Emits w a c (⊤ × PlaceOrResultBuilt s w.text z (PlaceBuilt s w.text e)) (λ final site p q. PlaceOrResultAt s final site n (class_number s final k) z (PlaceAt s final site n (class_number s final k) e) p q)) (sym is ∙ named_own x p ep)
       (with_class n a c e k m number None em en f))
 

@@ -2,27 +2,34 @@
 use Rattle.std.proofs.Common.{◌≡◌, ◌<◌, ◌≤◌, ◌+◌, ℕ, zero, suc, Bool, true, false, List, [], ◌∷◌, ◌++◌, drop, length, map, Option, Some, None, refl, sym, ap, ◌∙◌, subst, arith, length-append}
 use Rattle.std.specs.Prelude.{slice_get}
 use Rattle.sim_scope.specs.declared.bound.Bound.{Bound}
+use Rattle.sim_scope.specs.declared.types.StandardClass.{StandardClass}
+use Rattle.sim_scope.specs.declared.types.StandardClass.TheVariants as standard
 use Rattle.sim_scope.specs.Source.{Source, source_of}
 use Rattle.sim_scope.specs.Tables.{BlockOf as TableBlock}
 use Rattle.sim_code.specs.declared.code.CodeActual.{CodeActual}
+use Rattle.sim_code.specs.declared.code.Match.{Match}
 use Rattle.sim_code.specs.declared.code.ThunkRecord.{ThunkRecord}
 use Rattle.sim_code.specs.declared.instr.Lined.{Lined}
+use Rattle.sim_code.specs.Classes.{class_numbered}
 use Rattle.sim_code.specs.Code.{BlockOf, ClassOf, CodeOf}
 use Rattle.sim_code.specs.Running.{AllRun}
 use Rattle.sim_meaning.specs.Attributes as Attributes
 use Rattle.sim_meaning.specs.Constants.{constants_of}
+use Rattle.sim_meaning.specs.Levels.{has_levels}
 use Rattle.sim_meaning.specs.Texts.{BlockText, ClassText, ConnectionText, PrefixedText, ProcedureText, StandardText, Text, program_texts, text}
 use Rattle.program_texts.specs.declared.tree.TextTree.{TextTree}
 use Rattle.program_texts.specs.TextTrees.{AreTexts, text_in}
-use Rattle.codegen_expr.specs.Sites.{block_number, blocks_before, counted_unless, is_connected, is_connection}
-use Rattle.codegen_expr.specs.Drafts.{DraftOf, PlannedOf, planned_at, planned_in, planned_or_none}
+use Rattle.codegen_expr.specs.Sites.{block_number, blocks_before, class_in, class_number, counted_unless, is_connected, is_connection}
+use Rattle.codegen_expr.specs.Drafts.{DraftOf, PlannedOf, class_of, planned_at, planned_in, planned_or_none}
 use Rattle.codegen_expr.proofs.Pieces.{get_front}
 use Rattle.codegen.specs.declared.texts.ClassAt.{ClassAt}
 use Rattle.codegen.specs.declared.texts.Written.{Written}
 use Rattle.codegen.specs.Agrees.{Agrees}
 use Rattle.codegen.specs.BuiltProgram.{ProgramBuilt, TextBuilt, TextsBuilt, texts_of}
-use Rattle.codegen.specs.Compiled.{CodeHas, Compiled}
-use Rattle.codegen.specs.EmitProgram.{Begins, Ends, Next, Plans, TextEmitted, TextsEmitted, WritesProgram, WritesText, WritesTo, blocks_in, record_or_blank}
+use Rattle.codegen.specs.Compiled.{ClassIs, CodeHas, Compiled, StandardTextOf, actual_lists, matches_of}
+use Rattle.codegen.specs.EmitMatches.{AreTextsOfClasses}
+use Rattle.codegen.specs.EmitProgram.{Begins, Ends, Next, Plans, TextEmitted, TextsEmitted, WritesProgram, WritesText, WritesTo, blocks_in}
+use Rattle.codegen.specs.EmitRecords.{AreClasses, AreRecords, ClassesAre, matches_in_class, record_with}
 use Rattle.codegen.specs.Planning.{IsPlan}
 
 -- ---- lists
@@ -234,10 +241,95 @@ pub texts_last : (b : Bound) (old new : Written) (ts : List TextTree) (k : ℕ) 
 unfolding WritesProgram
 texts_last b old new ts k f e = subst (WritesTo b old new ts) e f
 
+-- ---- one text of each class
+
+blocks_more : (j k : ℕ) (bs : List TableBlock) → j ≤ k → blocks_before j bs ≤ blocks_before k bs
+blocks_more zero k bs le = omega arith
+blocks_more (suc j) zero bs le = absurd (omega (arith, le))
+blocks_more (suc j) (suc k) [] le = omega arith
+blocks_more (suc j) (suc k) (b ∷ bs) le = more (is_connection b.kind) (blocks_more j k bs (omega (arith, le)))
+  where
+    more : (o : Bool) → blocks_before j bs ≤ blocks_before k bs → counted_unless o (blocks_before j bs) ≤ counted_unless o (blocks_before k bs)
+    more true h = h
+    more false h = omega (arith, h)
+
+numbers_more : (s : Source) (j k : ℕ) → j ≤ k → block_number s j ≤ block_number s k
+unfolding block_number
+numbers_more s j k le = blocks_more j k s.tables.blocks le
+
+-- a text with levels has a block of its own
+levels_count : (x : Text) → has_levels (Some x) ≡ true → blocks_in x ≡ 1
+levels_count (BlockText begin ds ss) h = absurd (cc)
+levels_count (ProcedureText result h' a) h = absurd (cc)
+levels_count (ClassText prefix h' ds ss) h = refl
+levels_count (PrefixedText class arguments ds ss) h = refl
+levels_count ConnectionText h = absurd (cc)
+levels_count (StandardText which) h = refl
+
+text_there : (o : Option Text) → has_levels o ≡ true → (x : Text) × (o ≡ Some x)
+text_there None h = absurd (cc)
+text_there (Some x) h = (x, refl)
+
+block_behind : (s : Source) (k : ℕ) → Agrees s → has_levels (text s k) ≡ true → block_number s (suc k) ≡ block_number s k + 1
+block_behind s k agrees levels =
+    let t = text_there (text s k) levels in
+    number_next s k t.0 agrees t.1 ∙ ap (λ z. block_number s k + z) (levels_count t.0 (sym (ap has_levels t.1) ∙ levels))
+
+-- texts with levels that have the same block are the same
+block_alone : (s : Source) (j k : ℕ) → Agrees s → has_levels (text s j) ≡ true → has_levels (text s k) ≡ true → block_number s j ≡ block_number s k → j ≡ k
+block_alone s j k agrees first second e = sides j k (beside j k) (λ le. absurd (apart j k le first e)) (λ le. sides k j (beside k j) (λ more. absurd (apart k j more second (sym e))) (λ more. omega (arith, le, more)))
+  where
+    apart : (j k : ℕ) → j < k → has_levels (text s j) ≡ true → block_number s j ≡ block_number s k → ⊥
+    apart j k le levels e = let next = block_behind s j agrees levels in let more = numbers_more s (suc j) k (omega (arith, le)) in omega (arith, next, more, e)
+
+-- the class of a text with levels
+record ClassOfText (s : Source) (code : CodeOf) (k : ℕ) : Type 0 where
+  pub class : ClassOf
+  pub numbered : class_numbered code (class_number s code k) ≡ Some class
+  pub of_block : class.block ≡ block_number s k
+
+class_found : (s : Source) (code : CodeOf) (k : ℕ) (b : BlockOf) (class : ClassOf) → slice_get code.blocks (block_number s k) ≡ Some b → ClassIs s code k b class → ClassOfText s code k
+unfolding class_number
+class_found s code k b class e f = record { class = class; numbered = ap (λ z. class_numbered code (class_in z)) e ∙ f.numbered; of_block = f.of_block }
+
+class_of_standard : (s : Source) (code : CodeOf) (k : ℕ) (b : BlockOf) (which : StandardClass) → slice_get code.blocks (block_number s k) ≡ Some b → StandardTextOf s code k which b → ClassOfText s code k
+class_of_standard s code k b standard.Linkage e f = class_found s code k b f.class e f.is
+class_of_standard s code k b standard.Link e f = class_found s code k b f.class e f.is
+class_of_standard s code k b standard.Head e f = class_found s code k b f.class e f.is
+class_of_standard s code k b standard.Process e f = class_found s code k b f.class e f.is
+
+class_of_text : (s : Source) (code : CodeOf) (k : ℕ) (x : Text) (o : Option BlockOf) → has_levels (Some x) ≡ true → slice_get code.blocks (block_number s k) ≡ o → CodeHas s code k x o → ClassOfText s code k
+class_of_text s code k (BlockText begin ds ss) o h e f = absurd (cc)
+class_of_text s code k (ProcedureText result h' a) o h e f = absurd (cc)
+class_of_text s code k ConnectionText o h e f = absurd (cc)
+class_of_text s code k (ClassText prefix h' ds ss) None h e f = absurd f
+class_of_text s code zero (ClassText prefix h' ds ss) (Some b) h e f = absurd f
+class_of_text s code (suc k) (ClassText prefix h' ds ss) (Some b) h e f = class_found s code (suc k) b f.class e f.is
+class_of_text s code k (PrefixedText class arguments ds ss) None h e f = absurd f
+class_of_text s code zero (PrefixedText class arguments ds ss) (Some b) h e f = class_found s code 0 b f.class e f.is
+class_of_text s code (suc k) (PrefixedText class arguments ds ss) (Some b) h e f = class_found s code (suc k) b f.class e f.is
+class_of_text s code k (StandardText which) None h e f = absurd f
+class_of_text s code zero (StandardText which) (Some b) h e f = absurd f
+class_of_text s code (suc k) (StandardText which) (Some b) h e f = class_of_standard s code (suc k) b which e f
+
+module _ (s : Source) (code : CodeOf) (agrees : Agrees s) (each : (k : ℕ) (x : Text) → text s k ≡ Some x → CodeHas s code k x (slice_get code.blocks (block_number s k))) where
+  class_there : (k : ℕ) → has_levels (text s k) ≡ true → ClassOfText s code k
+  class_there k levels =
+      let t = text_there (text s k) levels in
+      class_of_text s code k t.0 (slice_get code.blocks (block_number s k)) (sym (ap has_levels t.1) ∙ levels) refl (each k t.0 t.1)
+
+  -- texts of the same class are the same
+  class_alone : (j k : ℕ) → has_levels (text s j) ≡ true → has_levels (text s k) ≡ true → class_number s code j ≡ class_number s code k → j ≡ k
+  class_alone j k first second e =
+      let f = class_there j first in
+      let g = class_there k second in
+      let same : f.class ≡ g.class = some_same f.class g.class (sym f.numbered ∙ ap (class_numbered code) e ∙ g.numbered) in
+      block_alone s j k agrees first second (sym f.of_block ∙ ap (λ z. z.block) same ∙ g.of_block)
+
 -- ---- the code
 
 abbrev whole_code : List (List ℕ) → List ClassOf → Written → CodeOf
-whole_code texts classes w = record { texts = texts; blocks = w.blocks.items; classes = classes; thunks = []; actual_lists = []; instrs = w.draft.instrs }
+whole_code texts classes w = record { texts = texts; blocks = w.blocks.items; classes = classes; thunks = []; actual_lists = actual_lists; instrs = w.draft.instrs }
 
 abbrev nothing : List PlannedOf → DraftOf
 nothing plan = record { instrs = []; room = 0; size = 0; whole = true; classes = plan }
@@ -245,6 +337,10 @@ nothing plan = record { instrs = []; room = 0; size = 0; whole = true; classes =
 map_length : {A B : Type 0} (f : A → B) (xs : List A) → length (map f xs) ≡ length xs
 map_length f [] = refl
 map_length f (x ∷ xs) = ap suc (map_length f xs)
+
+counts : (code : CodeOf) (n : ℕ) (x : ClassOf) → class_numbered code n ≡ Some x → (j : ℕ) × (n ≡ suc j) × (slice_get code.classes j ≡ Some x)
+counts code zero x e = absurd (cc)
+counts code (suc j) x e = (j, refl, e)
 
 module _ (b : Bound) (old new : Written) (ts : List TextTree) (plan : List PlannedOf) (built : ProgramBuilt (source_of b)) (are : AreTexts b.program ts) (no_draft : old.draft ≡ nothing plan) (no_block : old.blocks.items ≡ []) (planned : IsPlan b plan ts) (f : WritesProgram b old new ts) where
   plans : Plans (source_of b) plan
@@ -286,28 +382,80 @@ module _ (b : Bound) (old new : Written) (ts : List TextTree) (plan : List Plann
   unfolding block_number texts_of
   blocks_many = sym emitted.counted ∙ ap (λ n. blocks_before n (source_of b).tables.blocks) (as_many ∙ sym built.agrees.as_many)
 
-  stands : (texts : List (List ℕ)) → texts ≡ constants_of (source_of b) → Compiled (source_of b) (whole_code texts (map record_or_blank new.classes.items) new)
-  unfolding text texts_of
-  stands texts et = record {
-    agrees = built.agrees;
-    texts = et;
-    each = λ k x is.
+  module _ (texts : List (List ℕ)) (classes : List ClassOf) (g : AreClasses b new classes) where
+    abbrev all : CodeOf
+    all = whole_code texts classes new
+
+    found : ClassesAre b new classes
+    unfolding AreClasses
+    found = g
+
+    texts_many : length found.texts ≡ length new.classes.items
+    unfolding AreTextsOfClasses
+    texts_many = found.each.0
+
+    as_long : length classes ≡ length new.classes.items
+    unfolding AreRecords
+    as_long = found.records.0
+
+    -- each record, with its matches
+    recorded : (j : ℕ) (c : Option ClassAt) → slice_get new.classes.items j ≡ Some c → (k : Option ℕ) × (slice_get found.texts j ≡ Some k) × (slice_get classes j ≡ Some (record_with c (matches_in_class (source_of b) k)))
+    unfolding AreRecords
+    recorded j c there =
+        let inside : j < length new.classes.items = within new.classes.items j c there in
+        let row = row_of found.texts j (omega (arith, inside, texts_many)) in
+        (row.0, row.1, found.records.1 j c row.0 there row.1)
+
+    ends : Ends new all
+    ends = record {
+      grows = record { keeps = λ j y there ne. there };
+      blocks = λ j y there. there;
+      classes = λ j y there. let r = recorded j (Some y) there in (matches_in_class (source_of b) r.0, r.2);
+      classed = classed;
+    }
+
+    each : (k : ℕ) (x : Text) → text (source_of b) k ≡ Some x → CodeHas (source_of b) all k x (slice_get all.blocks (block_number (source_of b) k))
+    unfolding text texts_of
+    each k x is =
         let inside : k < length (texts_of (source_of b)) = within (texts_of (source_of b)) k x is in
         let many = as_many in
-        emitted.each (whole_code texts (map record_or_blank new.classes.items) new)
-        (record { grows = record { keeps = λ j y there ne. there }; blocks = λ j y there. there; classes = λ j y there. at_map record_or_blank new.classes.items j (Some y) there; classed = classed }) k x (omega (arith, inside, many)) is;
-    as_many = blocks_many;
-  }
+        emitted.each all ends k x (omega (arith, inside, many)) is
 
-pub code_stands : (b : Bound) (old new : Written) (ts for_plan for_code : List TextTree) (plan : List PlannedOf) (texts : List (List ℕ)) (all : List (Option ClassAt)) (classes : List ClassOf) (thunks : List ThunkRecord) (lists : List (List CodeActual)) (instrs : List Lined)
+    number_is : (k : ℕ) → class_number (source_of b) all k ≡ class_of new.draft.classes (block_number (source_of b) k)
+    unfolding class_number
+    number_is k = ap (λ z. z.class) (classed (block_number (source_of b) k))
+
+    matches : (k : ℕ) (x : ClassOf) → has_levels (text (source_of b) k) ≡ true → class_numbered all (class_number (source_of b) all k) ≡ Some x → x.matches ≡ matches_of (source_of b) k
+    unfolding AreTextsOfClasses
+    matches k x levels e =
+        let s = source_of b in
+        let n = counts all (class_number s all k) x e in
+        let j = n.0 in
+        let inside : j < length classes = within classes j x n.2 in
+        let row = row_of new.classes.items j (omega (arith, inside, as_long)) in
+        let r = recorded j row.0 row.1 in
+        let in_texts : j < length found.texts = omega (arith, inside, as_long, texts_many) in
+        let its : class_of new.draft.classes (block_number s k) ≡ suc j = sym (number_is k) ∙ n.1 in
+        let text_is : slice_get found.texts j ≡ Some (Some k) = found.each.1 k j levels its in_texts (λ l there same. class_alone s all built.agrees each l k there levels (number_is l ∙ same ∙ sym n.1)) in
+        let of_text : r.0 ≡ Some k = some_same r.0 (Some k) (sym r.1 ∙ text_is) in
+        let same : x ≡ record_with row.0 (matches_in_class s r.0) = some_same x _ (sym n.2 ∙ r.2) in
+        ap (λ z. z.matches) same ∙ with_matches row.0 (matches_in_class s r.0) ∙ ap (matches_in_class s) of_text
+      where
+        with_matches : (c : Option ClassAt) (ms : List Match) → (record_with c ms).matches ≡ ms
+        with_matches None ms = refl
+        with_matches (Some c) ms = refl
+
+    stands : texts ≡ constants_of (source_of b) → Compiled (source_of b) all
+    stands et = record { agrees = built.agrees; texts = et; actuals = refl; each = each; matches = matches; as_many = blocks_many }
+
+pub code_stands : (b : Bound) (old new : Written) (ts for_plan for_code : List TextTree) (plan : List PlannedOf) (texts : List (List ℕ)) (classes : List ClassOf) (thunks : List ThunkRecord) (lists : List (List CodeActual)) (instrs : List Lined)
     → ProgramBuilt (source_of b) → AreTexts b.program ts → old.draft ≡ nothing plan → old.blocks.items ≡ [] → for_plan ≡ ts → IsPlan b plan for_plan → for_code ≡ ts → WritesProgram b old new for_code → texts ≡ constants_of (source_of b)
-    → all ≡ new.classes.items → classes ≡ map record_or_blank all → thunks ≡ [] → lists ≡ [] → instrs ≡ new.draft.instrs → Compiled (source_of b) (record { texts = texts; blocks = new.blocks.items; classes = classes; thunks = thunks; actual_lists = lists; instrs = instrs })
-code_stands b old new ts for_plan for_code plan texts all classes thunks lists instrs built are ed eb e1 ep e2 f et ea ec eth el ei =
+    → AreClasses b new classes → thunks ≡ [] → lists ≡ actual_lists → instrs ≡ new.draft.instrs → Compiled (source_of b) (record { texts = texts; blocks = new.blocks.items; classes = classes; thunks = thunks; actual_lists = lists; instrs = instrs })
+code_stands b old new ts for_plan for_code plan texts classes thunks lists instrs built are ed eb e1 ep e2 f et g eth el ei =
     let s = source_of b in
     let blocks = new.blocks.items in
-    let first = stands b old new ts plan built are ed eb (subst (IsPlan b plan) e1 ep) (subst (WritesProgram b old new) e2 f) texts et in
-    let with_classes = subst (λ z. Compiled s (whole_code texts z new)) (sym (ec ∙ ap (map record_or_blank) ea)) first in
-    let with_thunks = subst (λ z. Compiled s (record { texts = texts; blocks = blocks; classes = classes; thunks = z; actual_lists = []; instrs = new.draft.instrs })) (sym eth) with_classes in
+    let first = stands b old new ts plan built are ed eb (subst (IsPlan b plan) e1 ep) (subst (WritesProgram b old new) e2 f) texts classes g et in
+    let with_thunks = subst (λ z. Compiled s (record { texts = texts; blocks = blocks; classes = classes; thunks = z; actual_lists = actual_lists; instrs = new.draft.instrs })) (sym eth) first in
     let with_lists = subst (λ z. Compiled s (record { texts = texts; blocks = blocks; classes = classes; thunks = thunks; actual_lists = z; instrs = new.draft.instrs })) (sym el) with_thunks in
     subst (λ z. Compiled s (record { texts = texts; blocks = blocks; classes = classes; thunks = thunks; actual_lists = lists; instrs = z })) (sym ei) with_lists
 

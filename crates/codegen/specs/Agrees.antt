@@ -1,5 +1,5 @@
 -- That the tables of scopes agree with each other and with the texts, as far as code rests on it: the tables of each program do.
-use Rattle.std.specs.Prelude.{◌≡◌, ◌<◌, ◌+◌, ℕ, suc, Bool, true, false, length, slice_get, Option, Some, None}
+use Rattle.std.specs.Prelude.{◌≡◌, ◌<◌, ◌+◌, ℕ, suc, Bool, true, false, [], length, slice_get, Option, Some, None}
 use Rattle.sim_base.specs.declared.numbering.DeclNo.{DeclNo}
 use Rattle.sim_scope.specs.declared.types.Entry.TheVariants as entry
 use Rattle.sim_scope.specs.declared.types.Formal.{Formal}
@@ -9,17 +9,19 @@ use Rattle.sim_scope.specs.declared.types.StandardClass.TheVariants as standard
 use Rattle.sim_scope.specs.declared.types.BlockKind.{BlockKind}
 use Rattle.sim_scope.specs.declared.types.BlockKind.TheVariants as kind
 use Rattle.sim_scope.specs.Access.{encloser, is_kind}
-use Rattle.sim_scope.specs.Scopes.{entry_of, formals_in}
+use Rattle.sim_scope.specs.Actuals.{result_in}
+use Rattle.sim_scope.specs.Scopes.{entry_is, entry_of, formals_in, is_virtual}
 use Rattle.sim_scope.specs.Source.{Source, block_around, block_of, level_of}
 use Rattle.sim_scope.specs.Tables.{Tables}
 use Rattle.sim_tree.specs.declared.stmt.TypeName.{TypeName}
 use Rattle.sim_tree.specs.Syntax.{Heading, Statement}
 use Rattle.sim_meaning.specs.Attributes.{first_in, is_connection}
 use Rattle.sim_meaning.specs.Closing.{has_type}
-use Rattle.sim_meaning.specs.Entries.{numbers_of}
+use Rattle.sim_meaning.specs.Entries.{formals_of, numbers_of}
 use Rattle.sim_meaning.specs.Levels.{has_levels, is_class}
 use Rattle.sim_meaning.specs.Meaning.{has_result}
 use Rattle.sim_meaning.specs.Texts.{ProcedureText, StandardText, program_texts, text}
+use Rattle.sim_meaning.specs.Virtuals.{match_in_text}
 use Rattle.codegen_expr.specs.Sites.{LevelOf, frame_text, is_connected, prefix_of}
 
 -- the text of a declared procedure stands in the text of its declaration, and has a result where the declaration has one
@@ -67,6 +69,18 @@ pub record ProcessBrought (s : Source) (k : ℕ) : Type 0 where
   pub head : text s (block + 3) ≡ Some (StandardText standard.Head)
   pub around : encloser s.tables k ≡ Some block
 
+-- A procedure that matches a virtual in the class of a text stands in a level of that, has no parameters, and has a result where the virtual has one.
+pub record MatchThere (s : Source) (virtual own match : ℕ) : Type 0 where
+  pub around : ℕ
+  pub is : encloser s.tables match ≡ Some around
+  pub level : LevelOf s.tables own around
+  pub given : Option TypeName
+  pub heading : Heading
+  pub body : Statement
+  pub procedure : text s match ≡ Some (ProcedureText given heading body)
+  pub alone : formals_of s match ≡ []
+  pub same : has_result given ≡ has_type (result_in (entry_of s.tables (record { 0 = virtual })))
+
 pub record Agrees (s : Source) : Type 0 where
   -- nothing is around the program's block
   pub outermost : encloser s.tables 0 ≡ None
@@ -93,6 +107,8 @@ pub record Agrees (s : Source) : Type 0 where
   -- the texts of procedures and classes stand where these are declared
   pub classes : (d : DeclNo) (k : ℕ) → entry_of s.tables d ≡ Some (entry.Class k) → encloser s.tables k ≡ Some (block_of s d)
   pub procedures : (d : DeclNo) (result : Option SimType) (k : ℕ) → entry_of s.tables d ≡ Some (entry.Procedure result k) → ProcedureThere s d result k
+  -- what matches a virtual in a class or in a prefixed block
+  pub matches : (v k match : ℕ) → entry_is is_virtual (entry_of s.tables (record { 0 = v })) ≡ true → has_levels (text s k) ≡ true → match_in_text s v (Some k) ≡ Some (Some match) → MatchThere s v k match
   pub processes : (k : ℕ) → text s k ≡ Some (StandardText standard.Process) → ProcessBrought s k
   -- no block has a standard class for a prefix, or among the levels of it
   pub blocks : (k u : ℕ) (which : StandardClass) → is_prefixed s.tables k ≡ true → LevelOf s.tables k u → text s u ≡ Some (StandardText which) → ⊥

@@ -19,8 +19,9 @@ use Rattle.sim_tree.specs.Syntax as syntax
 use Rattle.sim_code.specs.declared.instr.Instr.TheVariants as i
 use Rattle.sim_code.specs.Code.{CodeOf}
 use Rattle.sim_meaning.specs.Attributes.{connection_at, declared_attribute}
-use Rattle.sim_meaning.specs.Closing.{is_text, result_meant}
+use Rattle.sim_meaning.specs.Closing.{is_text, own_match, result_meant}
 use Rattle.sim_meaning.specs.Pending.{Declared, Key, Result}
+use Rattle.sim_meaning.specs.Virtuals.{text_of_procedure}
 use Rattle.codegen_expr.specs.Sites.{At, HasCell, Inside, Is, Pushes, Site, slot_of}
 use Rattle.codegen_expr.specs.CodeExpr.{ElementAt, ExprAt, ExprsAt, PlaceAt, ReferencePlaceAt}
 
@@ -70,9 +71,14 @@ abbrev pub stored_found : {A : Type 0} → Option A → Expression → Stored �
 stored_found None e other = other
 stored_found (Some a) e other = AtAttribute e
 
+-- the result of a match
+abbrev pub stored_match : (match : Option ℕ) → Stored → Stored
+stored_match None other = other
+stored_match (Some text) other = InCell text Result
+
 -- a variable as a left side
 abbrev pub stored_left : Source → Expression → Stored
-stored_left s (syntax.Named name es) = stored_found (connection_at s name.token.0) (syntax.Named name es) (stored_named s (denoted s name.token.0) es (line_at s name.token.0))
+stored_left s (syntax.Named name es) = stored_found (connection_at s name.token.0) (syntax.Named name es) (stored_match (text_of_procedure s (own_match s (syntax.Named name es))) (stored_named s (denoted s name.token.0) es (line_at s name.token.0)))
 stored_left s (syntax.Dot token a name es) = stored_found (declared_attribute (denoted s name.token.0)) (syntax.Dot token a name es) NotBuilt
 stored_left s e = NotBuilt
 

@@ -1,5 +1,5 @@
 -- Which code stands for a whole program.
-use Rattle.std.specs.Prelude.{◌≡◌, ◌<◌, ◌≤◌, ◌+◌, ⊤, ℕ, zero, suc, Bool, false, pos, List, [], ◌++◌, length, map, slice_get, Option, Some, None}
+use Rattle.std.specs.Prelude.{◌≡◌, ◌<◌, ◌≤◌, ◌+◌, ⊤, ℕ, zero, suc, Bool, false, pos, List, [], ◌∷◌, true, ◌++◌, length, map, slice_get, Option, Some, None}
 use Rattle.sim_scope.specs.declared.types.Formal.{Formal}
 use Rattle.sim_scope.specs.declared.types.FormalKind.{FormalKind}
 use Rattle.sim_scope.specs.declared.types.FormalKind.TheVariants as of
@@ -9,11 +9,15 @@ use Rattle.sim_scope.specs.declared.types.SimType.{SimType}
 use Rattle.sim_scope.specs.declared.types.SimType.TheVariants as t
 use Rattle.sim_scope.specs.declared.types.StandardClass.{StandardClass}
 use Rattle.sim_scope.specs.declared.types.StandardClass.TheVariants as standard
+use Rattle.sim_scope.specs.declared.scopes.Declaration.{Declaration}
+use Rattle.sim_scope.specs.Scopes.{is_virtual}
 use Rattle.sim_scope.specs.Source.{Source, level_of, line_at}
 use Rattle.sim_tree.specs.declared.stmt.TypeName.{TypeName}
 use Rattle.sim_tree.specs.declared.stmt.TypeName.TheVariants as type_name
 use Rattle.sim_tree.specs.Syntax.{Declarations, NoDeclaration, NoStatement, Statement, Statements}
 use Rattle.sim_values.specs.Plain.{Plain, Integer, Truth, Character, Text, Object, MainOf, Nothing}
+use Rattle.sim_code.specs.declared.code.CodeActual.{CodeActual}
+use Rattle.sim_code.specs.declared.code.Match.{Match}
 use Rattle.sim_code.specs.declared.code.BlockKind.{BlockKind}
 use Rattle.sim_code.specs.declared.code.BlockKind.TheVariants as kind
 use Rattle.sim_code.specs.declared.code.CodeFormal.{CodeFormal}
@@ -30,10 +34,11 @@ use Rattle.sim_code.specs.Code.{BlockOf, ClassOf, CodeOf}
 use Rattle.sim_meaning.specs.Constants.{constants_of}
 use Rattle.sim_meaning.specs.Closing.{class_parameters}
 use Rattle.sim_meaning.specs.Entries.{formals_of}
-use Rattle.sim_meaning.specs.Levels.{is_process_text, levels_of, writes_inner}
+use Rattle.sim_meaning.specs.Levels.{has_levels, is_process_text, levels_of, writes_inner}
+use Rattle.sim_meaning.specs.Virtuals.{match_in_text}
 use Rattle.sim_meaning.specs.Pending.{Held, Of, Val}
 use Rattle.sim_meaning.specs.Texts.{BlockText, ClassText, ConnectionText, PrefixedText, ProcedureText, StandardText, Text as TextOf, is_class_free, text}
-use Rattle.codegen_expr.specs.Sites.{At, Is, Site, block_in_front, block_number, blocks_before, cells_in, cells_of_block, class_in, own_end, own_part, prefix_of, room_of_block, types_in}
+use Rattle.codegen_expr.specs.Sites.{At, Is, Site, block_in_front, block_number, blocks_before, cells_in, cells_of_block, class_in, class_number, own_end, own_part, prefix_of, room_of_block, types_in}
 use Rattle.codegen.specs.Agrees.{Agrees}
 use Rattle.codegen.specs.CodeArrays.{ArraysAt}
 use Rattle.codegen.specs.CodeStm.{LevelAt, ProcessAt, StmAt, StmsAt}
@@ -146,6 +151,22 @@ pub record ProcedureTextOf (s : Source) (code : CodeOf) (k : ℕ) (result : Opti
 
 -- ---- classes and prefixed blocks
 
+-- The matches in the class of a text: of each virtual of its levels, in the order of their declarations, the block of the procedure, if there is one.
+abbrev pub match_listed : Source → (virtual : ℕ) → Option (Option ℕ) → List Match → List Match
+match_listed s v (Some (Some match)) xs = record { virtual_number = v; block = block_number s match } ∷ xs
+match_listed s v _ xs = xs
+
+abbrev pub match_of_row : Source → (virtual text : ℕ) → (is_virtual : Bool) → List Match → List Match
+match_of_row s v k false xs = xs
+match_of_row s v k true xs = match_listed s v (match_in_text s v (Some k)) xs
+
+abbrev pub matches_from : Source → (text number : ℕ) → List Declaration → List Match
+matches_from s k v [] = []
+matches_from s k v (row ∷ rows) = match_of_row s v k (is_virtual row.entry) (matches_from s k (suc v) rows)
+
+unfoldable pub matches_of : Source → (text : ℕ) → List Match
+matches_of s k = matches_from s k 0 s.tables.declarations
+
 -- the class of a text's block: it has that of the class in front of it for a prefix, which has a lower number
 pub record ClassIs (s : Source) (code : CodeOf) (k : ℕ) (b : BlockOf) (class : ClassOf) : Type 0 where
   pub numbered : class_numbered code b.class ≡ Some class
@@ -153,7 +174,6 @@ pub record ClassIs (s : Source) (code : CodeOf) (k : ℕ) (b : BlockOf) (class :
   pub prefix : class.prefix ≡ class_in (block_in_front s code k)
   pub lower : class.prefix < b.class
   pub process : class.process ≡ is_process_text s k
-  pub no_matches : class.matches ≡ []
 
 -- The code of a level: its declarations, its statements, and what stands behind `inner`, each where the class says.
 pub record LevelOf (s : Source) (code : CodeOf) (k : ℕ) (written : Bool) (ds : Declarations) (ss : Statements) (b : BlockOf) (class : ClassOf) : Type 0 where
@@ -226,6 +246,13 @@ pub record PrefixedProgramOf (s : Source) (code : CodeOf) (line : ℕ) (ds : Dec
 
 -- ---- programs
 
+-- no actual parameter, and one of which nothing is said
+abbrev pub some_actual : CodeActual
+some_actual = record { code_type = type.Nothing; variable = false; array = type.Nothing; procedure = false; result_type = type.Nothing; formals = 0; class = 0 }
+
+abbrev pub actual_lists : List (List CodeActual)
+actual_lists = [] ∷ (some_actual ∷ []) ∷ []
+
 -- The program's block is the first text, and no class. A class of SIMSET has no declarations and no statements of its own.
 abbrev pub StandardTextOf : Source → CodeOf → (text : ℕ) → StandardClass → BlockOf → Type 0
 StandardTextOf s code k standard.Process b = ProcessTextOf s code k b
@@ -253,6 +280,9 @@ CodeHas s code k x (Some b) = TextCode s code k x b
 pub record Compiled (s : Source) (code : CodeOf) : Type 0 where
   pub agrees : Agrees s
   pub texts : code.texts ≡ constants_of s
+  pub actuals : code.actual_lists ≡ actual_lists
   pub each : (k : ℕ) (x : TextOf) → text s k ≡ Some x → CodeHas s code k x (slice_get code.blocks (block_number s k))
+  -- the class of a text lists its matches
+  pub matches : (k : ℕ) (x : ClassOf) → has_levels (text s k) ≡ true → class_numbered code (class_number s code k) ≡ Some x → x.matches ≡ matches_of s k
   -- and no other blocks
   pub as_many : length code.blocks ≡ blocks_before (length s.tables.blocks) s.tables.blocks

@@ -5,17 +5,18 @@ use Rattle.sim_base.specs.declared.numbering.TokenNo.{TokenNo}
 use Rattle.sim_scope.specs.declared.bound.Bound.{Bound}
 use Rattle.sim_scope.specs.declared.types.FormalKind.{FormalKind}
 use Rattle.sim_scope.specs.declared.types.Mode.{Mode}
+use Rattle.sim_scope.specs.declared.types.SimType.{SimType}
 use Rattle.sim_scope.specs.Scopes.{entry_of}
-use Rattle.sim_scope.specs.Source.{Source, denoted, level_of, line_at, source_of}
+use Rattle.sim_scope.specs.Source.{Source, denoted, level_of, line_at, source_of, type_at}
 use Rattle.sim_tree.specs.declared.expr.Expr.{Expr}
 use Rattle.sim_tree.specs.declared.stmt.Assignment.{Assignment}
 use Rattle.sim_tree.specs.declared.expr.Identifier.{Identifier}
 use Rattle.sim_tree.specs.declared.expr.Selector.{Selector}
 use Rattle.sim_tree.specs.Syntax.{Expression, Expressions, Named, NoMore, expressions}
 use Rattle.sim_tree.specs.SyntaxOf.{selected, selector_syntax, syntax_of}
-use Rattle.sim_meaning.specs.Attributes.{connection_at}
-use Rattle.sim_meaning.specs.Closing.{own_block_denoted, result_meant, unless_connected}
+use Rattle.sim_meaning.specs.Closing.{own_match, result_meant, type_of_left}
 use Rattle.sim_meaning.specs.Pending.{Key, Result}
+use Rattle.sim_meaning.specs.Virtuals.{text_of_procedure}
 use Rattle.codegen_expr.specs.declared.spot.Spot.{Spot}
 use Rattle.codegen_expr.specs.Built.{KeyBuilt, ReferenceBuilt, slot_in}
 use Rattle.codegen_expr.specs.CodeExpr.{ReferencePlaceAt, ResultPlaceAt}
@@ -101,8 +102,22 @@ unfoldable pub FindsOwn : Bound → Spot → (text : ℕ) → Left → Type 0
 FindsOwn b w k r = (e : Expression) (line : ℕ) → IsLeft (source_of b) w e line r (ToResult k line)
 
 -- the procedure whose own result an identifier is, as a left side with so many subscripts
-unfoldable pub FindsOwnNamed : Bound → TokenNo → (subscripts : ℕ) → Option ℕ → Type 0
-FindsOwnNamed b token n r = r ≡ own_if n (unless_connected (connection_at (source_of b) token.0) (own_block_denoted (source_of b) token.0 (denoted (source_of b) token.0)))
+unfoldable pub FindsOwnNamed : Bound → Identifier → (subscripts : ℕ) → Option ℕ → Type 0
+FindsOwnNamed b x n r = r ≡ own_if n (result_meant (source_of b) (Named x NoMore))
+
+-- the match whose result an identifier with so many subscripts is, its text, and its type
+abbrev pub own_match_if : (subscripts : ℕ) → Option DeclNo → Option DeclNo
+own_match_if zero d = d
+own_match_if (suc n) d = None
+
+unfoldable pub FindsMatch : Bound → Identifier → (subscripts : ℕ) → Option DeclNo → Type 0
+FindsMatch b x n r = r ≡ own_match_if n (own_match (source_of b) (Named x NoMore))
+
+unfoldable pub FindsMatchText : Bound → Identifier → (subscripts : ℕ) → Option ℕ → Type 0
+FindsMatchText b x n r = r ≡ text_of_procedure (source_of b) (own_match_if n (own_match (source_of b) (Named x NoMore)))
+
+unfoldable pub FindsType : Bound → Identifier → (subscripts : ℕ) → Option SimType → Type 0
+FindsType b x n r = r ≡ type_of_left (source_of b) (own_match_if n (own_match (source_of b) (Named x NoMore))) (type_at (source_of b) x.token.0)
 
 -- the text that is assigned to
 unfoldable pub FindsText : Bound → Spot → Expr → Left → Type 0

@@ -20,6 +20,7 @@ use Rattle.sim_tree.specs.SyntaxOfProgram.{block_syntax, declaration_syntax, pre
 use Rattle.sim_code.specs.declared.code.BlockKind.{BlockKind}
 use Rattle.sim_code.specs.declared.code.BlockKind.TheVariants as kind
 use Rattle.sim_code.specs.declared.code.CodeType.{CodeType}
+use Rattle.sim_code.specs.declared.code.Match.{Match}
 use Rattle.sim_code.specs.declared.code.CodeType.TheVariants as type
 use Rattle.sim_code.specs.declared.instr.Instr.TheVariants as i
 use Rattle.sim_code.specs.declared.instr.Lined.{Lined}
@@ -84,20 +85,16 @@ pub record Next (s : Source) (w : Written) (k : ℕ) (x : Text) : Type 0 where
   pub block : block_number s k ≡ length w.blocks.items
   pub first : k ≡ 0 → length w.draft.instrs ≡ 0
 
--- the record of a class
-abbrev pub class_record : ClassAt → ClassOf
-class_record c = record { prefix = c.prefix; block = c.block; declarations = c.declarations; statements = c.statements; after_inner = c.after_inner; process = c.process; matches = [] }
-
-abbrev pub record_or_blank : Option ClassAt → ClassOf
-record_or_blank None = record { prefix = 0; block = 0; declarations = 0; statements = 0; after_inner = 0; process = false; matches = [] }
-record_or_blank (Some c) = class_record c
+-- the record of a class, with its matches
+abbrev pub class_record : ClassAt → List Match → ClassOf
+class_record c matches = record { prefix = c.prefix; block = c.block; declarations = c.declarations; statements = c.statements; after_inner = c.after_inner; process = c.process; matches = matches }
 
 -- A code that what is written becomes in the end: it keeps the instructions that are no holes, the blocks and the classes, and its blocks are
 -- as planned.
 pub record Ends (w : Written) (final : CodeOf) : Type 0 where
   pub grows : Grows w.draft.instrs final.instrs
   pub blocks : (j : ℕ) (b : BlockOf) → slice_get w.blocks.items j ≡ Some b → slice_get final.blocks j ≡ Some b
-  pub classes : (j : ℕ) (c : ClassAt) → slice_get w.classes.items j ≡ Some (Some c) → slice_get final.classes j ≡ Some (class_record c)
+  pub classes : (j : ℕ) (c : ClassAt) → slice_get w.classes.items j ≡ Some (Some c) → (matches : List Match) × (slice_get final.classes j ≡ Some (class_record c matches))
   pub classed : (j : ℕ) → planned_in (slice_get final.blocks j) ≡ planned_at w.draft.classes j
 
 -- A text is written. The draft stays whole where the text is built; and if it is whole, then whatever the code is in the end, that of the

@@ -14,6 +14,7 @@ use Rattle.sim_code.specs.declared.instr.Lined.{Lined}
 use Rattle.sim_code.specs.Code.{BlockOf, ClassOf, CodeOf}
 use Rattle.sim_code.specs.Outcome.{Shown, shown}
 use Rattle.sim_code.specs.Rows.{mrun}
+use Rattle.codegen.specs.Compiled.{actual_lists}
 use Rattle.sim_meaning.specs.ClassExamples.{objects_without_end}
 use Rattle.sim_meaning.specs.Examples.{dimensions, endless, factorial_166, factorial_20, factorial_21, fields, for_list, large_array, limits, seen, sub_block, subscript, value_array}
 
@@ -36,7 +37,7 @@ block kind level cells temps entry result_type types formals = record {
 }
 
 abbrev pub code : List BlockOf → List Lined → CodeOf
-code blocks instrs = record { texts = []; blocks = blocks; classes = []; thunks = []; actual_lists = []; instrs = instrs }
+code blocks instrs = record { texts = []; blocks = blocks; classes = []; thunks = []; actual_lists = actual_lists; instrs = instrs }
 
 abbrev pub seen_code : CodeOf → Limits → ℕ → Shown
 seen_code c l n = shown (mrun c l [] n)

@@ -14,6 +14,8 @@ pub mod EmitLists
 pub mod ForElements
 pub mod EmitShared
 pub mod EmitProgram
+pub mod EmitMatches
+pub mod EmitRecords
 pub mod Planning
 pub mod EmitTargets
 pub mod EmitConnections

@@ -9,6 +9,7 @@ ghost use Rattle.codegen_expr.specs.Known.{Known};
 ghost use Rattle.sim_meaning.specs.Pending.{Result};
 ghost use Rattle.codegen.specs.EmitLeft.{FindsDeclared, FindsElement, FindsFormal, FindsLeft, FindsNamed, FindsOwn, FindsOwnNamed, FindsResult, FindsSide, FindsTaken, FindsText, FindsVariable, FindsWhole};
 
+use crate::own_matches::match_text;
 use codegen_expr::{
     Cells, Form, Spot, block_of, connection_at, denoted, form_of, has_result, is_around, is_text,
     slot_of,
@@ -217,7 +218,8 @@ fn find_left<'a>(
     }
 }
 
-/// What an identifier with subscripts, or none, is as a variable: what is seen through a connection is an attribute of an object.
+/// What an identifier with subscripts, or none, is as a variable: what is seen through a connection is an attribute of an object, and a
+/// virtual inside the text of its match is the result of that.
 #[tactic(auto, using(crate::proofs::Found::founds))]
 pub(crate) fn find_named<'a>(
     bound: &Bound,
@@ -231,7 +233,10 @@ pub(crate) fn find_named<'a>(
 {
     match connection_at(bound, cells, name.token) {
         Some(_) => Left::Attribute,
-        None => find_left(bound, cells, spot, name.token, subscripts),
+        None => match match_text(bound, name, subscripts.len()) {
+            Some(text) => find_result(bound, cells, spot, text, subscripts),
+            None => find_left(bound, cells, spot, name.token, subscripts),
+        },
     }
 }
 
@@ -267,7 +272,7 @@ fn find_whole<'a>(bound: &Bound, cells: &Cells, spot: Spot, left: &'a Expr) -> L
 
 /// Whether a token stands in the text of a block.
 #[tactic(auto, unfolding(sim_scope::specs::Calls::is_inside))]
-fn is_inside(scopes: &Scopes, token: TokenNo, block: u32) -> bool
+pub(crate) fn is_inside(scopes: &Scopes, token: TokenNo, block: u32) -> bool
     ensures { result ≡ is_inside_of scopes.now token.0 block }
 {
     match scopes.blocks().get(block as usize) {
@@ -310,18 +315,21 @@ fn own_denoted(bound: &Bound, token: TokenNo, denotation: Option<Denotation>) ->
 pub(crate) fn own_named(
     bound: &Bound,
     cells: &Cells,
-    token: TokenNo,
+    name: &Identifier,
     subscripts: usize,
 ) -> Option<u32>
     requires cells { Known bound.now cells.now }
-    ensures { FindsOwnNamed bound.now token subscripts result }
+    ensures { FindsOwnNamed bound.now name.now subscripts result }
 {
     if subscripts != 0 {
         return None;
     }
-    match connection_at(bound, cells, token) {
+    match connection_at(bound, cells, name.token) {
         Some(_) => None,
-        None => own_denoted(bound, token, denoted(bound, token)),
+        None => match match_text(bound, name, subscripts) {
+            Some(text) => Some(text),
+            None => own_denoted(bound, name.token, denoted(bound, name.token)),
+        },
     }
 }
 
@@ -332,7 +340,7 @@ pub(crate) fn result_meant(bound: &Bound, cells: &Cells, left: &Expr) -> Option<
     ensures { result ≡ result_meant_of (source_of bound.now) (syntax_of left.now) }
 {
     match form_of(left) {
-        Form::Named { name, arguments } => own_named(bound, cells, name.token, arguments.len()),
+        Form::Named { name, arguments } => own_named(bound, cells, name, arguments.len()),
         Form::Taken { .. } => None,
         Form::Closed { .. } => None,
         Form::New => None,

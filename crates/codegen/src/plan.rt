@@ -140,7 +140,7 @@ fn is_planned(tree: TextTree) -> bool
 }
 
 /// Whether a text has a number as a class.
-fn is_class(tree: TextTree) -> bool
+pub(crate) fn is_class(tree: TextTree) -> bool
     ensures { result ≡ has_number tree.entry }
 {
     match tree {

@@ -1,16 +1,21 @@
 //! The compiler.
-ghost use Rattle.std.specs.Prelude.{◌≡◌, IfOk, map};
+ghost use Rattle.std.specs.Prelude.{◌≡◌, ◌≤◌, IfOk, length};
 ghost use Rattle.sim_code.specs.Running.{AllRun};
 ghost use Rattle.sim_scope.specs.Source.{source_of};
 ghost use Rattle.codegen.specs.BuiltProgram.{ProgramBuilt};
 ghost use Rattle.codegen.specs.Compiled.{Compiled};
-ghost use Rattle.codegen.specs.EmitProgram.{record_or_blank};
+ghost use Rattle.codegen_expr.specs.Known.{Known};
+ghost use Rattle.codegen.specs.EmitMatches.{AreVirtuals};
+ghost use Rattle.codegen.specs.EmitRecords.{AreClasses, AreRecords, matches_in_class, record_with};
+ghost use Rattle.program_texts.specs.TextTrees.{AreTexts};
 
+use crate::matches::{actual_lists, matches_of, texts_of_classes, virtuals_of};
 use crate::plan::plan_texts;
 use crate::texts::{ClassAt, Written, emit_texts};
-use codegen_expr::{Draft, Planned};
-use program_texts::texts_of;
-use sim_code::{ClassRecord, Code};
+use codegen_expr::{Cells, Draft, Planned};
+use program_texts::{TextTree, texts_of};
+use sim_base::DeclNo;
+use sim_code::{ClassRecord, Code, Match};
 use sim_scope::Bound;
 use std::alloc::{AllocError, Global};
 use text_tables::{cells_of, constant_texts, declarations_by_token};
@@ -33,9 +38,9 @@ fn no_classes(alloc: Global, count: usize) -> Result<Vec<Option<ClassAt>>, Alloc
     Ok(classes)
 }
 
-/// The record of a class; where none is written it is blank.
-fn class_record(alloc: Global, class: Option<ClassAt>) -> ClassRecord
-    ensures { result ≡ record_or_blank class }
+/// The record of a class with its matches; where none is written it is blank.
+fn class_record(class: Option<ClassAt>, matches: Vec<Match>) -> ClassRecord
+    ensures { result ≡ record_with class matches.items }
 {
     let at = match class {
         Some(at) => at,
@@ -55,19 +60,66 @@ fn class_record(alloc: Global, class: Option<ClassAt>) -> ClassRecord
         statements: at.statements,
         after_inner: at.after_inner,
         process: at.process,
-        matches: Vec::new(alloc),
+        matches,
     }
 }
 
-/// The records of classes.
-fn class_records(alloc: Global, classes: &[Option<ClassAt>]) -> Result<Vec<ClassRecord>, AllocError>
-    ensures { IfOk result (λ v. v.items ≡ map record_or_blank classes.now) }
+/// The matches in the class of a text, if there is one.
+#[tactic(auto, unfolding(crate::specs::EmitMatches::AreMatches))]
+fn matches_in(
+    alloc: Global,
+    bound: &Bound,
+    cells: &Cells,
+    virtuals: &[DeclNo],
+    text: Option<u32>,
+) -> Result<Vec<Match>, AllocError>
+    requires cells { Known bound.now cells.now }
+    requires virtuals { AreVirtuals bound.now virtuals.now }
+    ensures { IfOk result (λ v. v.items ≡ matches_in_class (source_of bound.now) text) }
 {
+    match text {
+        Some(text) => matches_of(alloc, bound, cells, virtuals, text),
+        None => Ok(Vec::new(alloc)),
+    }
+}
+
+/// The records of classes, each with the matches in the class of its text.
+fn class_records(
+    alloc: Global,
+    bound: &Bound,
+    cells: &Cells,
+    classes: &[Option<ClassAt>],
+    texts: &[Option<u32>],
+) -> Result<Vec<ClassRecord>, AllocError>
+    requires cells { Known bound.now cells.now }
+    requires long { length classes.now ≤ length texts.now }
+    ensures { IfOk result (λ v. AreRecords (source_of bound.now) classes.now texts.now v.items) }
+{
+    let virtuals = virtuals_of(alloc, bound)?;
     let mut records = Vec::new(alloc);
-    for class in classes {
-        records.push(class_record(alloc, *class))?;
+    for index in 0..classes.len() {
+        let matches = matches_in(alloc, bound, cells, &virtuals, texts[index])?;
+        records.push(class_record(classes[index], matches))?;
     }
     Ok(records)
+}
+
+/// The records of the classes that are written, each with the matches in the class of its text.
+#[tactic(auto, using(crate::proofs::Recorded::records))]
+fn classes_of(
+    alloc: Global,
+    bound: &Bound,
+    cells: &Cells,
+    written: &Written,
+    trees: &[TextTree],
+) -> Result<Vec<ClassRecord>, AllocError>
+    requires cells { Known bound.now cells.now }
+    requires trees { AreTexts bound.now.program trees.now }
+    ensures { IfOk result (λ v. AreClasses bound.now written.now v.items) }
+{
+    let count = written.classes.len();
+    let texts = texts_of_classes(alloc, bound, cells, &written.draft, trees, count)?;
+    class_records(alloc, bound, cells, &written.classes, &texts)
 }
 
 /// The code of a program that is built. There is none only for want of memory, or for more places than a number of 32 bits counts. The texts
@@ -90,13 +142,14 @@ pub fn compile(alloc: Global, bound: &Bound) -> Result<Code, AllocError>
         classes: no_classes(alloc, count)?,
     };
     emit_texts(alloc, bound, &cells, &declared, &mut written, &trees)?;
-    let classes = class_records(alloc, &written.classes)?;
+    let classes = classes_of(alloc, bound, &cells, &written, &trees)?;
+    let lists = actual_lists(alloc)?;
     Ok(Code {
         texts,
         blocks: written.blocks,
         classes,
         thunks: Vec::new(alloc),
-        actual_lists: Vec::new(alloc),
+        actual_lists: lists,
         instrs: written.draft.into_instrs(),
     })
 }

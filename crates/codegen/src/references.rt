@@ -4,9 +4,10 @@ ghost use Rattle.codegen_expr.specs.Known.{Known};
 ghost use Rattle.codegen.specs.EmitLeft.{WritesNamedReference, WritesReferencePlace, WritesResultPlace};
 
 use crate::left::{own_named, result_meant, result_slot};
+use crate::own_matches::{left_type, named_type};
 use codegen_expr::{
     Cells, Draft, Spot, address_instr, block_number, cell_number, emit_named_place, emit_place,
-    is_around, level_of, qualification, type_at, typed_token,
+    is_around, level_of, qualification,
 };
 use sim_base::Line;
 use sim_scope::Bound;
@@ -57,7 +58,7 @@ pub(crate) fn emit_reference_place(
     requires cells { Known bound.now cells.now }
     ensures { OnOk result (WritesReferencePlace bound.now spot depth draft.old draft.new left.now) }
 {
-    let Some(text) = qualification(bound, cells, type_at(bound, typed_token(left))) else {
+    let Some(text) = qualification(bound, cells, left_type(bound, left)) else {
         draft.give_up();
         return Ok(());
     };
@@ -81,12 +82,12 @@ pub(crate) fn emit_named_reference(
     requires cells { Known bound.now cells.now }
     ensures { OnOk result (WritesNamedReference bound.now spot depth draft.old draft.new name.now) }
 {
-    let Some(text) = qualification(bound, cells, type_at(bound, name.token)) else {
+    let Some(text) = qualification(bound, cells, named_type(bound, name, 0)) else {
         draft.give_up();
         return Ok(());
     };
     let class = draft.class_of(block_number(bound, cells, text));
-    match own_named(bound, cells, name.token, 0) {
+    match own_named(bound, cells, name, 0) {
         Some(own) => emit_result_place(bound, cells, spot, draft, depth, class, own),
         None => emit_named_place(bound, cells, spot, draft, depth, class, name, &[]),
     }

@@ -239,6 +239,10 @@ module _ (b : Bound) (w : Spot) (n : ℕ) where
   unfolding WritesSeenPlace
   place_call a c class token d x block es is ec = subst (Lies a c class token d (expressions (map syntax_of es))) (sym is) (emits_nothing w a c _ _ (λ z. z) ec)
 
+  pub place_virtual : (a c : DraftOf) (class : ℕ) (token : TokenNo) (d : DeclNo) (x : Seen) (es : List Expr) → x ≡ seen.Virtual → c ≡ given_up a → WritesSeenPlace b w n a c class token d x es
+  unfolding WritesSeenPlace
+  place_virtual a c class token d x es is ec = subst (Lies a c class token d (expressions (map syntax_of es))) (sym is) (emits_nothing w a c _ _ (λ z. z) ec)
+
   pub place_nothing : (a c : DraftOf) (class : ℕ) (token : TokenNo) (d : DeclNo) (x : Seen) (es : List Expr) → x ≡ seen.Nothing → c ≡ given_up a → WritesSeenPlace b w n a c class token d x es
   unfolding WritesSeenPlace
   place_nothing a c class token d x es is ec = subst (Lies a c class token d (expressions (map syntax_of es))) (sym is) (emits_nothing w a c _ _ (λ z. z) ec)
@@ -333,4 +337,4 @@ module _ (b : Bound) (w : Spot) (n : ℕ) where
 pub ruleset behind = (alone_performed, alone_no_number, alone_other_number, behind_performed, behind_no_number, behind_no_operand, behind_other_number, image_itself, image_with_operands, image_of_text, image_nothing)
 
 -- where variables lie
-pub ruleset lies = (place_cell, place_no_slot, place_outside, place_variable, place_no_variable, place_element, place_array, place_constant, place_call, place_nothing, place_declared, place_standard, place_undeclared, place_through, place_unconnected)
+pub ruleset lies = (place_cell, place_no_slot, place_outside, place_variable, place_no_variable, place_element, place_array, place_constant, place_call, place_virtual, place_nothing, place_declared, place_standard, place_undeclared, place_through, place_unconnected)

@@ -7,6 +7,7 @@ pub mod Attributes
 pub mod Texts
 pub mod Joins
 pub mod Written
+pub mod Matched
 pub mod Seen
 pub mod OfObjects
 pub mod SetProcedures

@@ -40,11 +40,13 @@ use Rattle.codegen_expr.specs.Drafts.{DraftOf, Emits, class_of, given_up, planne
 use Rattle.codegen_expr.specs.Emit.{Puts, WritesActuals, WritesConstant, WritesLink, WritesLinkTo, WritesList, attribute_seen, formals_of_block, parameter_seen}
 use Rattle.codegen_expr.specs.EmitObjects.{Base, BaseAt, BaseBuilt, OfConnection, PutsBase, SeenOfAt, SeenOfBuilt, SeenPlaceOfAt, SeenPlaceOfBuilt, WritesAttribute, WritesConstantOf, WritesElementOf, WritesFit, WritesGeneration, WritesMember, WritesNew, WritesObjectOf, WritesOf, WritesPlaceBehind, WritesPlaceOf, WritesQua, WritesSeenOf, WritesSeenPlaceOf, WritesThis}
 use Rattle.codegen_expr.specs.EmitSets.{WritesSet, set_procedure}
+use Rattle.codegen_expr.specs.EmitVirtuals.{WritesMatch}
 use Rattle.codegen_expr.specs.Sites.{At, HasCell, Inside, Is, Pushes, Site, block_number, frame_text, slot_of}
 use Rattle.codegen_expr.proofs.Around.{inside}
 use Rattle.codegen_expr.proofs.Pieces.{class_numbered, emits_as, emits_at, emits_classed, emits_nothing, emits_push, emits_temp, emits_then}
 use Rattle.codegen_expr.proofs.Seen.{block_formals, count}
 use Rattle.codegen_expr.proofs.Slots.{slot_found, slot_within}
+use Rattle.codegen_expr.proofs.Matched.{match_called}
 
 abbrev Part : Type 1
 Part = CodeOf → Site → ℕ → ℕ → Type 0
@@ -311,6 +313,12 @@ module _ (b : Bound) (w : Spot) (n : ℕ) where
       (emits_then w _ _ (λ z site p q. ActualsAt s z site (suc n) (line_at s token.0) false es (formals_of_block s block) p q) (λ z site. At z (i.Call (pos (block_number s block)) (pos (operands es))) (line_at s token.0)) c0 c1 c g2
       (emits_at w c1 c (i.Call (pos (block_number s block)) (pos (operands es))) (line_at s token.0) (ec ∙ ap (λ z. with_instr c1 z line2) at ∙ ap (λ z. with_instr c1 (i.Call (pos (block_number s block)) (pos (operands es))) z) el2) (λ z. cc) refl)))))
 
+  pub of_virtual : (a c : DraftOf) (token : TokenNo) (d : DeclNo) (k : Seen) (es : List Expr) → k ≡ seen.Virtual → WritesMatch b a c token d es → WritesSeenOf b w n a c token d k es
+  unfolding WritesSeenOf PutsBase
+  of_virtual a c token d k es is f start y h =
+      subst (Has start c token d y (expressions (map syntax_of es))) (sym is)
+      (match_called b w (BaseBuilt (source_of b) w.text y) (λ final site p q. BaseAt (source_of b) final site n y p q) start a c token d es h f)
+
   pub of_nothing : (a c : DraftOf) (token : TokenNo) (d : DeclNo) (k : Seen) (es : List Expr) → k ≡ seen.Nothing → c ≡ given_up a → WritesSeenOf b w n a c token d k es
   unfolding WritesSeenOf PutsBase
   of_nothing a c token d k es is ec start y h = subst (Has start c token d y (expressions (map syntax_of es))) (sym is) (gives_up _ _ _ _ start a c h (λ t. t) ec)
@@ -405,6 +413,10 @@ module _ (b : Bound) (w : Spot) (n : ℕ) where
   pub lying_call : (a c : DraftOf) (class : ℕ) (token : TokenNo) (d : DeclNo) (k : Seen) (block : ℕ) (es : List Expr) → k ≡ seen.Call block → c ≡ given_up a → WritesSeenPlaceOf b w n a c class token d k es
   unfolding WritesSeenPlaceOf PutsBase
   lying_call a c class token d k block es is ec start y h = subst (LiesIn start c class token d y (expressions (map syntax_of es))) (sym is) (gives_up _ _ _ _ start a c h (λ t. t) ec)
+
+  pub lying_virtual : (a c : DraftOf) (class : ℕ) (token : TokenNo) (d : DeclNo) (k : Seen) (es : List Expr) → k ≡ seen.Virtual → c ≡ given_up a → WritesSeenPlaceOf b w n a c class token d k es
+  unfolding WritesSeenPlaceOf PutsBase
+  lying_virtual a c class token d k es is ec start y h = subst (LiesIn start c class token d y (expressions (map syntax_of es))) (sym is) (gives_up _ _ _ _ start a c h (λ t. t) ec)
 
   pub lying_nothing : (a c : DraftOf) (class : ℕ) (token : TokenNo) (d : DeclNo) (k : Seen) (es : List Expr) → k ≡ seen.Nothing → c ≡ given_up a → WritesSeenPlaceOf b w n a c class token d k es
   unfolding WritesSeenPlaceOf PutsBase
@@ -518,4 +530,4 @@ module _ (b : Bound) (w : Spot) (n : ℕ) where
 
 pub ruleset leaves = (connected_load, connected_no_slot, connected_outside, object_pushed, object_outside, this_connected, this_object, this_nowhere, attribute_found, attribute_no_slot, constant_read, constant_no_slot, member_named, member_unnamed, qua_named, qua_unnamed, fitted)
 
-pub ruleset objects = (element_of, of_variable, of_no_variable, of_constant, of_no_constant, of_array, of_element, of_call, of_nothing, of_declared, of_set, lying_variable, lying_no_variable, lying_element, lying_array, lying_constant, lying_call, lying_nothing, lying_declared, behind_declared, behind_standard, behind_undeclared, generated, new_declared, new_process, new_no_class, new_standard, new_undeclared)
+pub ruleset objects = (element_of, of_variable, of_no_variable, of_constant, of_no_constant, of_array, of_element, of_call, of_virtual, of_nothing, of_declared, of_set, lying_variable, lying_no_variable, lying_element, lying_array, lying_constant, lying_call, lying_virtual, lying_nothing, lying_declared, behind_declared, behind_standard, behind_undeclared, generated, new_declared, new_process, new_no_class, new_standard, new_undeclared)

@@ -36,14 +36,16 @@ use Rattle.codegen_expr.specs.declared.operators.Passed.TheVariants as passed
 use Rattle.codegen_expr.specs.declared.operators.Seen.{Seen}
 use Rattle.codegen_expr.specs.declared.operators.Seen.TheVariants as seen
 use Rattle.codegen_expr.specs.declared.spot.Spot.{Spot}
-use Rattle.codegen_expr.specs.Built.{ActualBuilt, ActualsBuilt, AreBuilt, CallBuilt, ConnectedNameBuilt, ConstantBuilt, DeclaredBuilt, IsBuilt, FormalBuilt, NamedBuilt, OfObjectBuilt, OwnBuilt, OwnNameBuilt, ThisFoundBuilt, ThroughBuilt, is_around}
-use Rattle.codegen_expr.specs.CodeExpr.{ActualAt, ActualsAt, CallAt, ConnectedNameAt, DeclaredAt, ElementAt, ExprAt, ExprsAt, FittingAt, FormalAt, NamedAt, OfObjectAt, OwnAt, OwnNameAt, StandardIs, ThisFoundAt, ThroughAt, gives, operands}
+use Rattle.codegen_expr.specs.Built.{ActualBuilt, ActualsBuilt, AreBuilt, CallBuilt, ConnectedNameBuilt, ConstantBuilt, DeclaredBuilt, IsBuilt, FormalBuilt, NamedBuilt, OfObjectBuilt, OwnBuilt, OwnNameBuilt, StandsIn, ThisFoundBuilt, ThroughBuilt, is_around}
+use Rattle.codegen_expr.specs.CodeExpr.{ActualAt, ActualsAt, CallAt, ConnectedNameAt, DeclaredAt, ElementAt, ExprAt, ExprsAt, FittingAt, FormalAt, NamedAt, OfObjectAt, OwnAt, OwnNameAt, StandardIs, ThisAt, ThisFoundAt, ThroughAt, gives, operands}
 use Rattle.codegen_expr.specs.Drafts.{DraftOf, Emits, given_up, with_instr, with_push}
 use Rattle.codegen_expr.specs.Emit.{OwesActuals, Puts, PutsNamed, PutsOwn, PutsSeen, PutsUnconnected, SeenAt, SeenBuilt, Writes, WritesActual, WritesActuals, WritesCall, WritesCell, WritesConstant, WritesElement, WritesGiving, WritesLink, WritesLinkTo, WritesNamed, WritesOwn, WritesPassed, WritesSeen, WritesStandard, WritesThrough, WritesUnconnected, formals_of_block, passed_of, seen_formal, seen_of}
-use Rattle.codegen_expr.specs.EmitObjects.{OfConnection, PutsBase, WritesFit, WritesOf}
+use Rattle.codegen_expr.specs.EmitObjects.{OfConnection, PutsBase, WritesFit, WritesObjectOf, WritesOf}
+use Rattle.codegen_expr.specs.EmitVirtuals.{WritesMatch}
 use Rattle.codegen_expr.specs.Sites.{At, Inside, Is, Pushes, Site, block_number, class_number}
 use Rattle.codegen_expr.proofs.Around.{inside}
 use Rattle.codegen_expr.proofs.Pieces.{emits_as, emits_at, emits_none, emits_nothing, emits_push, emits_push_at, emits_then}
+use Rattle.codegen_expr.proofs.Matched.{match_called}
 
 abbrev Place : Type 1
 Place = CodeOf → Site → ℕ → ℕ → Type 0
@@ -307,6 +309,14 @@ module _ (b : Bound) (w : Spot) (n : ℕ) where
   unfolding WritesCall
   see_called a c token d x block es is f = subst (λ z. WritesSeen b w n a c token d z es) (sym is) f
 
+  pub see_virtual : (a c0 c : DraftOf) (token : TokenNo) (d : DeclNo) (x : Seen) (k : ℕ) (es : List Expr) → x ≡ seen.Virtual → k ≡ block_of (source_of b) d → WritesObjectOf b w n a c0 k → WritesMatch b c0 c token d es → WritesSeen b w n a c token d x es
+  unfolding WritesSeen PutsSeen WritesObjectOf
+  see_virtual a c0 c token d x k es is ek f g =
+      let s = source_of b in
+      let f' = subst (λ z. Emits w a c0 (StandsIn s w.text z) (λ final site p q. ThisAt s final site n z p q)) ek f in
+      subst (λ z. AsSeen a c token d z (expressions (map syntax_of es))) (sym is)
+      (match_called b w (StandsIn s w.text (block_of s d)) (λ final site p q. ThisAt s final site n (block_of s d) p q) a c0 c token d es f' g)
+
   pub see_nothing : (a c : DraftOf) (token : TokenNo) (d : DeclNo) (x : Seen) (es : List Expr) → x ≡ seen.Nothing → c ≡ given_up a → WritesSeen b w n a c token d x es
   unfolding WritesSeen PutsSeen
   see_nothing a c token d x es is ec = subst (λ z. AsSeen a c token d z (expressions (map syntax_of es))) (sym is) (emits_nothing w a c _ _ (λ z. z) ec)
@@ -416,4 +426,4 @@ module _ (b : Bound) (w : Spot) (n : ℕ) where
 
 pub ruleset links = (to_link, to_no_link, link_declared)
 
-pub ruleset sees = (see_call, see_plain_actual, see_copied_actual, see_text_actual, see_no_actual, see_kept_actual, see_unfitted, see_fitted, see_unlike, see_variable, see_no_variable, see_constant, see_no_constant, see_array, see_element, see_called, see_nothing, see_declared, see_standard, see_undeclared, through_declared, through_standard, through_undeclared, see_through, see_unconnected, see_giving, see_not_giving)
+pub ruleset sees = (see_call, see_plain_actual, see_copied_actual, see_text_actual, see_no_actual, see_kept_actual, see_unfitted, see_fitted, see_unlike, see_variable, see_no_variable, see_constant, see_no_constant, see_array, see_element, see_called, see_virtual, see_nothing, see_declared, see_standard, see_undeclared, through_declared, through_standard, through_undeclared, see_through, see_unconnected, see_giving, see_not_giving)

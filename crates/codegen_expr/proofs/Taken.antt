@@ -207,7 +207,7 @@ module _ (b : Bound) (w : Spot) (n : ℕ) where
       parameter shape.Array es h = h.0
       parameter shape.Procedure es h = absurd h
   object_built d (Some (entry.Class text)) es O P A h = absurd h
-  object_built d (Some (entry.Virtual result own)) es O P A h = absurd h
+  object_built d (Some (entry.Virtual result own)) es O P A h = h
   object_built d (Some (entry.Unspecified written)) es O P A h = absurd h
   object_built d (Some (entry.Attribute name parameter result)) es O P A h = h.0
   object_built d None es O P A h = absurd h

@@ -13,7 +13,7 @@ use Rattle.sim_scope.specs.declared.types.SimType.{SimType}
 use Rattle.sim_scope.specs.declared.types.Mode.TheVariants as mode
 use Rattle.sim_scope.specs.Access.{encloser}
 use Rattle.sim_scope.specs.Scopes.{entry_of}
-use Rattle.sim_scope.specs.Source.{Source, block_of, denoted, found_at, type_at}
+use Rattle.sim_scope.specs.Source.{Source, block_of, denoted, found_at}
 use Rattle.sim_scope.specs.Tables.{Tables}
 use Rattle.sim_tree.specs.Syntax.{Expression, Expressions, Literal, NoMore, Then}
 use Rattle.sim_tree.specs.Syntax as syntax
@@ -23,7 +23,7 @@ use Rattle.sim_values.specs.Plain.{Plain, Integer, Truth, Character, Text}
 use Rattle.sim_code.specs.Simulations.{is_simulation_name}
 use Rattle.sim_code.specs.Running.{name_runs}
 use Rattle.sim_meaning.specs.Attributes.{class_made, cell_of_connection, connection_at, is_connection, own_attribute}
-use Rattle.sim_meaning.specs.Closing.{class_parameters, formals_at, is_attribute, is_variable, result_meant, stream_of, typed_token}
+use Rattle.sim_meaning.specs.Closing.{class_parameters, formals_at, is_attribute, is_variable, left_type, result_meant, stream_of}
 use Rattle.sim_meaning.specs.Constants.{text_constant}
 use Rattle.sim_meaning.specs.Levels.{class_at, qualification}
 use Rattle.sim_meaning.specs.Names.{procedure_named}
@@ -111,6 +111,7 @@ DeclaredBuilt s text d (Some (entry.Constant type)) es Operands Actuals = Consta
 DeclaredBuilt s text d (Some (entry.Array element dimensions)) es Operands Actuals = ArrayBuilt s text d es Operands
 DeclaredBuilt s text d (Some (entry.Formal f)) es Operands Actuals = FormalBuilt s text d f.mode f.kind es Operands
 DeclaredBuilt s text d (Some (entry.Procedure result block)) es Operands Actuals = CallBuilt s text d (Actuals (formals_at s d))
+DeclaredBuilt s text d (Some (entry.Virtual result own)) es Operands Actuals = StandsIn s text (block_of s d)
 DeclaredBuilt s text d _ es Operands Actuals = ⊥
 
 -- a standard name that the machine does, with as many operands as it takes
@@ -166,6 +167,7 @@ OfObjectBuilt s d (Some (entry.Array element dimensions)) es Object Operands Act
 OfObjectBuilt s d (Some (entry.Formal f)) es Object Operands Actuals = ParameterOfBuilt s d f.kind es Object Operands
 OfObjectBuilt s d (Some (entry.Procedure result block)) es Object Operands Actuals = Object × Actuals
 OfObjectBuilt s d (Some (entry.Attribute name parameter result)) es Object Operands Actuals = Object × SetNamed name result (operands es) × Actuals
+OfObjectBuilt s d (Some (entry.Virtual result own)) es Object Operands Actuals = Object
 OfObjectBuilt s d _ es Object Operands Actuals = ⊥
 
 -- where a variable or an element lies that an object has
@@ -343,4 +345,4 @@ PlaceOrResultBuilt s text None Place = Place
 PlaceOrResultBuilt s text (Some home) Place = KeyBuilt s text home Result
 
 abbrev pub ReferenceBuilt : Source → (text : ℕ) → Expression → Type 0
-ReferenceBuilt s text e = ClassBuilt (qualification s (type_at s (typed_token e))) × PlaceOrResultBuilt s text (result_meant s e) (PlaceBuilt s text e)
+ReferenceBuilt s text e = ClassBuilt (qualification s (left_type s e)) × PlaceOrResultBuilt s text (result_meant s e) (PlaceBuilt s text e)

@@ -12,7 +12,7 @@ use Rattle.sim_scope.specs.declared.types.Mode.{Mode}
 use Rattle.sim_scope.specs.declared.types.Mode.TheVariants as mode
 use Rattle.sim_scope.specs.declared.types.SimType.{SimType}
 use Rattle.sim_scope.specs.Scopes.{entry_of}
-use Rattle.sim_scope.specs.Source.{Source, block_of, denoted, found_at, level_of, line_at, type_at}
+use Rattle.sim_scope.specs.Source.{Source, block_of, denoted, found_at, level_of, line_at}
 use Rattle.sim_tree.specs.declared.expr.Membership.{Membership}
 use Rattle.sim_tree.specs.declared.expr.Membership.TheVariants as membership
 use Rattle.sim_tree.specs.declared.expr.Sign.{Sign}
@@ -40,7 +40,7 @@ use Rattle.sim_code.specs.Rows.{text_value}
 use Rattle.sim_code.specs.Simulations.{actual_count, is_simulation_name}
 use Rattle.sim_code.specs.Sets.{is_attribute_name, parameter_count}
 use Rattle.sim_meaning.specs.Attributes.{class_made, cell_of_connection, connection_at, is_connection, own_attribute, parameter_qualification}
-use Rattle.sim_meaning.specs.Closing.{has_type, Joining, Lazily, Negated, Plainly, Sort, class_parameters, formals_at, is_attribute, is_text, is_text_type, is_variable, result_meant, sort_of, stream_of, sysout, typed_token}
+use Rattle.sim_meaning.specs.Closing.{has_type, Joining, Lazily, Negated, Plainly, Sort, class_parameters, formals_at, is_attribute, is_text, is_text_type, is_variable, left_type, result_meant, sort_of, stream_of, sysout}
 use Rattle.sim_meaning.specs.Constants.{constants_of, text_constant}
 use Rattle.sim_meaning.specs.Levels.{class_at, qualification}
 use Rattle.sim_meaning.specs.Names.{procedure_named}
@@ -198,12 +198,33 @@ pub record CallAt (s : Source) (code : CodeOf) (site : Site) (n line : ℕ) (d :
   pub actuals : Actuals x y
   pub call : At code (i.Call (pos (block_number s text)) (pos (operands es))) line y q
 
+-- `this`: the object or prefixed block of a text around
+pub record ThisAt (s : Source) (code : CodeOf) (site : Site) (n text p q : ℕ) : Type 0 where
+  pub push : Pushes code site n (i.This (pos (level_of s text))) p q
+  pub inside : Inside s.tables site.text text
+
+-- A call of what matches a virtual in the class of an object. A match has no parameters, so that of the actual parameters it only matters whether there
+-- are any: the first list of the code has none, and the second one has one.
+abbrev pub list_of : Expressions → ℕ
+list_of NoMore = 0
+list_of (Then e es) = 1
+
+pub record VirtualAt (code : CodeOf) (line virtual : ℕ) (es : Expressions) (Object : ℕ → ℕ → Type 0) (p q : ℕ) : Type 0 where
+  pub x : ℕ
+  pub y : ℕ
+  pub z : ℕ
+  pub object : Object p x
+  pub found : At code (i.Virt (pos virtual)) line x y
+  pub checked : At code (i.Check (pos (list_of es))) line y z
+  pub called : At code (i.CallV (pos 0)) line z q
+
 abbrev pub DeclaredAt : Source → CodeOf → Site → ℕ → (line : ℕ) → DeclNo → Option Entry → Expressions → (Operands : ℕ → ℕ → Type 0) → (Actuals : List Formal → ℕ → ℕ → Type 0) → ℕ → ℕ → Type 0
 DeclaredAt s code site n line d (Some (entry.Variable type)) es Operands Actuals p q = VariableAt s code site n d es p q
 DeclaredAt s code site n line d (Some (entry.Constant type)) es Operands Actuals p q = ConstantAt s code site n (constant_of s d) es p q
 DeclaredAt s code site n line d (Some (entry.Array element dimensions)) es Operands Actuals p q = ArrayAt s code site n line d es Operands p q
 DeclaredAt s code site n line d (Some (entry.Formal f)) es Operands Actuals p q = FormalAt s code site n line d f.mode f.kind es Operands p q
 DeclaredAt s code site n line d (Some (entry.Procedure result text)) es Operands Actuals p q = CallAt s code site n line d text es (Actuals (formals_at s d)) p q
+DeclaredAt s code site n line d (Some (entry.Virtual result own)) es Operands Actuals p q = VirtualAt code line d.0 es (ThisAt s code site n (block_of s d)) p q
 DeclaredAt s code site n line d _ es Operands Actuals p q = ⊥
 
 -- a standard name behind its operands, which are as many as it takes; where it leaves a value there is room for it
@@ -236,6 +257,7 @@ NamedAt s code site n line (Some (denotation.Standard name)) es Operands Inner A
 abbrev pub gives_entry : Option Entry → Bool
 gives_entry (Some (entry.Procedure result text)) = has_type result
 gives_entry (Some (entry.Attribute name parameter result)) = has_type result
+gives_entry (Some (entry.Virtual result own)) = has_type result
 gives_entry _ = true
 
 abbrev pub gives : Source → Option Denotation → Bool
@@ -328,6 +350,7 @@ OfObjectAt s code site n line d (Some (entry.Array element dimensions)) es Objec
 OfObjectAt s code site n line d (Some (entry.Formal f)) es Object Inner Actuals p q = ParameterOfAt s code line d f.kind es Object Inner p q
 OfObjectAt s code site n line d (Some (entry.Procedure result text)) es Object Inner Actuals p q = RemoteCallAt s code line text es Object Actuals p q
 OfObjectAt s code site n line d (Some (entry.Attribute name parameter result)) es Object Inner Actuals p q = SetAt code line name result es Object Actuals p q
+OfObjectAt s code site n line d (Some (entry.Virtual result own)) es Object Inner Actuals p q = VirtualAt code line d.0 es Object p q
 OfObjectAt s code site n line d _ es Object Inner Actuals p q = ⊥
 
 -- where a variable or an element lies that an object has
@@ -373,11 +396,6 @@ ConnectedNameAt s code site n line k (Some (denotation.Declared d)) es Inner Act
 ConnectedNameAt s code site n line k _ es Inner Actuals p q = ⊥
 
 -- ---- classes
-
--- `this`: the object or prefixed block of a text around, or the object of a connection
-pub record ThisAt (s : Source) (code : CodeOf) (site : Site) (n text p q : ℕ) : Type 0 where
-  pub push : Pushes code site n (i.This (pos (level_of s text))) p q
-  pub inside : Inside s.tables site.text text
 
 abbrev pub ThisOfAt : Source → CodeOf → Site → (n text : ℕ) → (is_connection : Bool) → ℕ → ℕ → Type 0
 ThisOfAt s code site n k true p q = ConnectedAt s code site n k p q
@@ -606,4 +624,4 @@ QualifiedPlaceAt s code site n (Some k) e p q = PlaceOrResultAt s code site n (c
 
 -- a variable, an element, an attribute or the result of a procedure
 abbrev pub ReferencePlaceAt : Source → CodeOf → Site → ℕ → Expression → ℕ → ℕ → Type 0
-ReferencePlaceAt s code site n e p q = QualifiedPlaceAt s code site n (qualification s (type_at s (typed_token e))) e p q
+ReferencePlaceAt s code site n e p q = QualifiedPlaceAt s code site n (qualification s (left_type s e)) e p q

@@ -50,7 +50,7 @@ use Rattle.codegen_expr.specs.declared.operators.Sorted.{Sorted}
 use Rattle.codegen_expr.specs.declared.operators.Sorted.TheVariants as sorted
 use Rattle.codegen_expr.specs.declared.spot.Spot.{Spot}
 use Rattle.codegen_expr.specs.Built.{ActualBuilt, ActualsBuilt, AreBuilt, ArrayBuilt, ArrayPlaceBuilt, CallBuilt, CellBuilt, ConnectedNameBuilt, ConstantBuilt, DotBuilt, IsBuilt, NameBuilt, NamedBuilt, NamedPlaceBuilt, OfObjectBuilt, OwnBuilt, OwnNameBuilt, PlaceBuilt, PlainBuilt, StandardBuilt, StandsIn, ThisFoundBuilt, ThroughBuilt, VariableBuilt}
-use Rattle.codegen_expr.specs.CodeExpr.{ActualAt, ActualsAt, ArrayAt, ArrayPlaceAt, CallAt, CellAt, CellPlaceAt, ConnectedNameAt, ConstantAt, DotAt, ElementAt, ExprAt, ExprsAt, FittingAt, GivenAt, IsConstant, NamedAt, NamedPlaceAt, OfObjectAt, OwnAt, OwnNameAt, PlaceAt, Stand, StandardAt, StandardIs, ThisFoundAt, ThroughAt, VariableAt, VariablePlaceAt, join_instrs, operands, two_instr}
+use Rattle.codegen_expr.specs.CodeExpr.{ActualAt, ActualsAt, ArrayAt, ArrayPlaceAt, CallAt, CellAt, CellPlaceAt, ConnectedNameAt, ConstantAt, DotAt, ElementAt, ExprAt, ExprsAt, FittingAt, GivenAt, IsConstant, NamedAt, NamedPlaceAt, OfObjectAt, OwnAt, OwnNameAt, PlaceAt, Stand, StandardAt, StandardIs, ThisAt, ThisFoundAt, ThroughAt, VariableAt, VariablePlaceAt, VirtualAt, join_instrs, operands, two_instr}
 use Rattle.codegen_expr.specs.Drafts.{DraftOf, Emits}
 use Rattle.codegen_expr.specs.Sites.{Inside, Pushes, Site}
 
@@ -92,6 +92,7 @@ seen_of (Some (entry.Constant type)) = seen.Constant
 seen_of (Some (entry.Array element dimensions)) = seen.Array
 seen_of (Some (entry.Formal f)) = seen_formal f.mode f.kind
 seen_of (Some (entry.Procedure result block)) = seen.Call block
+seen_of (Some (entry.Virtual result own)) = seen.Virtual
 seen_of _ = seen.Nothing
 
 abbrev pub SeenBuilt : Source → (text : ℕ) → DeclNo → Seen → Expressions → (Operands : Type 0) → (Actuals : List Formal → Type 0) → Type 0
@@ -99,6 +100,7 @@ SeenBuilt s text d seen.Variable es Operands Actuals = VariableBuilt s text d es
 SeenBuilt s text d seen.Array es Operands Actuals = ArrayBuilt s text d es Operands
 SeenBuilt s text d seen.Constant es Operands Actuals = ConstantBuilt (constant_of s d) es
 SeenBuilt s text d (seen.Call block) es Operands Actuals = CallBuilt s text d (Actuals (formals_of_block s block))
+SeenBuilt s text d seen.Virtual es Operands Actuals = StandsIn s text (block_of s d)
 SeenBuilt s text d seen.Nothing es Operands Actuals = ⊥
 
 abbrev pub SeenAt : Source → CodeOf → Site → ℕ → (line : ℕ) → DeclNo → Seen → Expressions → (Operands : ℕ → ℕ → Type 0) → (Actuals : List Formal → ℕ → ℕ → Type 0) → ℕ → ℕ → Type 0
@@ -106,6 +108,7 @@ SeenAt s code site n line d seen.Variable es Operands Actuals p q = VariableAt s
 SeenAt s code site n line d seen.Array es Operands Actuals p q = ArrayAt s code site n line d es Operands p q
 SeenAt s code site n line d seen.Constant es Operands Actuals p q = ConstantAt s code site n (constant_of s d) es p q
 SeenAt s code site n line d (seen.Call block) es Operands Actuals p q = CallAt s code site n line d block es (Actuals (formals_of_block s block)) p q
+SeenAt s code site n line d seen.Virtual es Operands Actuals p q = VirtualAt code line d.0 es (ThisAt s code site n (block_of s d)) p q
 SeenAt s code site n line d seen.Nothing es Operands Actuals p q = ⊥
 
 -- what an attribute of an object is seen as
@@ -120,6 +123,7 @@ attribute_seen (Some (entry.Constant type)) = seen.Constant
 attribute_seen (Some (entry.Array element dimensions)) = seen.Array
 attribute_seen (Some (entry.Formal f)) = parameter_seen f.kind
 attribute_seen (Some (entry.Procedure result block)) = seen.Call block
+attribute_seen (Some (entry.Virtual result own)) = seen.Virtual
 attribute_seen _ = seen.Nothing
 
 -- how an actual parameter is passed; a class keeps the arrays that it gets by reference

@@ -6,6 +6,7 @@ pub mod Known
 pub mod Emit
 pub mod EmitObjects
 pub mod EmitSets
+pub mod EmitVirtuals
 pub mod EmitSimulations
 pub mod PlaceAlone
 pub mod Forms

@@ -8,8 +8,8 @@ use crate::classes::{connection_at, parameter_qualification};
 use crate::draft::{Draft, deeper};
 use crate::emit::emit_expr;
 use crate::instructions::{call_instr, element_instr, standard_instr};
-use crate::leaves::{emit_cell, emit_connected, emit_constant, emit_fit, emit_link};
-use crate::lookups::{block_number, denoted, formals_of_block, gives, line_at};
+use crate::leaves::{emit_cell, emit_connected, emit_constant, emit_fit, emit_link, emit_object};
+use crate::lookups::{block_number, block_of, denoted, formals_of_block, gives, line_at};
 use crate::objects::emit_of;
 use crate::operands::emit_list;
 use crate::operators::{Passed, Seen, passed_of, seen_of};
@@ -17,6 +17,7 @@ use crate::sets::own_attribute;
 use crate::simulations::emit_own_name;
 use crate::spot::Spot;
 use crate::standard::emit_standard;
+use crate::virtuals::emit_match;
 use sim_base::{DeclNo, Line, TokenNo};
 use sim_code::Instr;
 use sim_scope::{Bound, Denotation, Formal, entry_of};
@@ -231,6 +232,10 @@ fn emit_seen(
                 block,
                 list,
             )
+        }
+        Seen::Virtual => {
+            emit_object(bound, spot, draft, depth, block_of(bound, declaration))?;
+            emit_match(bound, draft, token, declaration, list)
         }
         Seen::Nothing => {
             draft.give_up();

@@ -53,6 +53,13 @@ pub fn call_instr(block: u32, actuals: usize) -> Result<Instr, AllocError>
     })
 }
 
+/// The instruction that finds what matches a virtual in the object in hand.
+pub fn virtual_instr(declaration: u32) -> Instr
+    ensures { result ≡ i.Virt (pos declaration) }
+{
+    Instr::Virt(i64::from(declaration))
+}
+
 /// The instruction that pushes a character.
 pub fn character_instr(value: u8) -> Instr
     ensures is { result ≡ i.Char (pos value) }

@@ -230,7 +230,7 @@ pub fn emit_connected(
 
 /// The object of a text around.
 #[tactic(auto, using(crate::proofs::OfObjects::leaves))]
-fn emit_object(
+pub(crate) fn emit_object(
     bound: &Bound,
     spot: Spot,
     draft: &mut Draft,

@@ -22,6 +22,7 @@ mod simulations;
 mod spot;
 mod standard;
 mod variables;
+mod virtuals;
 
 pub use calls::{emit_actuals, emit_element, emit_named};
 pub use cells::{Cells, ConstantValue};

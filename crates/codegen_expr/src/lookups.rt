@@ -256,12 +256,13 @@ pub fn formals_of_block<'a>(bound: &Bound, cells: &'a Cells, block: u32) -> &'a 
     }
 }
 
-/// Whether what is declared is no procedure without a result, also none of SIMSET.
+/// Whether what is declared is no procedure without a result, also no virtual one and none of SIMSET.
 fn gives_entry(entry: Option<Entry>) -> bool
     ensures { result ≡ gives_entry_of entry }
 {
     match entry {
         Some(Entry::Procedure { result, .. }) => result.is_some(),
+        Some(Entry::Virtual { result, .. }) => result.is_some(),
         Some(Entry::Attribute { result, .. }) => result.is_some(),
         _ => true,
     }

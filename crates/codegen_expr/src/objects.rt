@@ -14,6 +14,7 @@ use crate::operands::emit_list;
 use crate::operators::{Seen, attribute_of};
 use crate::sets::{emit_set, set_procedure};
 use crate::spot::Spot;
+use crate::virtuals::emit_match;
 use sim_base::{DeclNo, Line, TokenNo};
 use sim_code::Instr;
 use sim_scope::{Bound, Denotation, entry_of};
@@ -109,6 +110,7 @@ fn emit_seen_of(
             let number = block_number(bound, cells, block);
             draft.put(call_instr(number, list.len())?, line_at(bound, token))
         }
+        Seen::Virtual => emit_match(bound, draft, token, declaration, list),
         Seen::Nothing => {
             draft.give_up();
             Ok(())
@@ -200,6 +202,10 @@ fn emit_seen_place_of(
             Ok(())
         }
         Seen::Call(_) => {
+            draft.give_up();
+            Ok(())
+        }
+        Seen::Virtual => {
             draft.give_up();
             Ok(())
         }

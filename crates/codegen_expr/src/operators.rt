@@ -85,6 +85,8 @@ pub(crate) enum Seen {
     Array,
     /// A procedure with its text.
     Call(u32),
+    /// A virtual procedure.
+    Virtual,
     /// It is not built.
     Nothing,
 }
@@ -98,6 +100,7 @@ pub(crate) fn seen_of(entry: Option<Entry>) -> Seen
         Some(Entry::Constant(_)) => Seen::Constant,
         Some(Entry::Array { .. }) => Seen::Array,
         Some(Entry::Procedure { block, .. }) => Seen::Call(block),
+        Some(Entry::Virtual { .. }) => Seen::Virtual,
         Some(Entry::Formal(formal)) => match (formal.mode, formal.kind) {
             (Mode::ByName, _) => Seen::Nothing,
             (_, FormalKind::Simple) => Seen::Variable,
@@ -117,6 +120,7 @@ pub(crate) fn attribute_of(entry: Option<Entry>) -> Seen
         Some(Entry::Constant(_)) => Seen::Constant,
         Some(Entry::Array { .. }) => Seen::Array,
         Some(Entry::Procedure { block, .. }) => Seen::Call(block),
+        Some(Entry::Virtual { .. }) => Seen::Virtual,
         Some(Entry::Formal(formal)) => match formal.kind {
             FormalKind::Simple => Seen::Variable,
             FormalKind::Array => Seen::Array,

@@ -72,6 +72,10 @@ fn emit_seen_place(
             draft.give_up();
             Ok(())
         }
+        Seen::Virtual => {
+            draft.give_up();
+            Ok(())
+        }
         Seen::Nothing => {
             draft.give_up();
             Ok(())

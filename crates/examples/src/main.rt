@@ -33,7 +33,7 @@ const MODELS: [(&str, Option<&str>); 15] = [
 ];
 
 // The collections of data/ whose sources are run, in the order in which they are shown.
-const COLLECTIONS: [&str; 12] = [
+const COLLECTIONS: [&str; 13] = [
     "messages.cases",
     "programs.cases",
     "tokens.cases",
@@ -44,6 +44,7 @@ const COLLECTIONS: [&str; 12] = [
     "objects.cases",
     "sets.cases",
     "simulation.cases",
+    "virtuals.cases",
     "manual.cases",
     "models.cases",
 ];

@@ -265,6 +265,8 @@ impl Slot {
     pub fn procedure(block: u32, parent: FrameRef) -> Slot
         requires { parent.stamp < 2 ^ 63 }
         ensures value { value_of result ≡ ProcedureValue block parent.stamp }
+        ensures leads { (frames : List Frame) (m : Frames) → Leads frames m parent → SlotLeads frames m result }
+        ensures no_array { names_array result.kind ≡ false }
         ensures held { cell_value result ≡ Some (value_of result) }
     {
         Slot {

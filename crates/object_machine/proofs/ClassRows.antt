@@ -1,5 +1,5 @@
 -- Classes, and what references refer to.
-use Rattle.std.proofs.Common.{◌≡◌, ℕ, zero, suc, ◌+◌, ◌-◌, ◌<◌, ◌≤◌, List, [], ◌∷◌, ◌++◌, length, sym, subst, refl, ap, ◌∙◌, arith}
+use Rattle.std.proofs.Common.{◌≡◌, ℕ, zero, suc, ◌+◌, ◌-◌, ◌<◌, ◌≤◌, ◌^◌, List, [], ◌∷◌, ◌++◌, length, sym, subst, refl, ap, ◌∙◌, arith}
 use Rattle.std.proofs.lemmas.Option.{slice_get_past}
 use Rattle.std.specs.Prelude.{ℤ, pos, negsuc, Bool, true, false, ◌==◌, ◌||◌, nat_lt, if◌then◌else◌, Option, Some, None, slice_get}
 use Rattle.std.specs.List.{list_any}
@@ -22,7 +22,7 @@ use Rattle.frame_arena.specs.Slots.{count_of, value_by, value_of}
 use Rattle.object_machine.specs.declared.classes.Reference.{Reference}
 use Rattle.object_machine.specs.declared.classes.Reference.TheVariants as reference
 use Rattle.object_machine.specs.Arrayed.{is_unqualified}
-use Rattle.object_machine.specs.Classing.{IsNoReference, ReferenceLeads, Refers, admits, class_in_place, tested, tests, unclassed}
+use Rattle.object_machine.specs.Classing.{FitsSlot, IsNoReference, ReferenceLeads, Refers, admits, class_in_place, tested, tests, unclassed}
 use Rattle.object_machine.proofs.Scalars.{off}
 
 -- ---- the class that an operand names
@@ -313,6 +313,9 @@ plain_is (ThunkValue t j) p e = absurd (cc)
 
 pub object_leads : (frames : List Frame) (m : Frames) (r : Reference) (f : FrameRef) → r ≡ reference.Object f → ReferenceLeads r frames m → Leads frames m f
 object_leads frames m r f e h = subst (λ q. ReferenceLeads q frames m) e h
+
+pub object_fits : (r : Reference) (f : FrameRef) → r ≡ reference.Object f → FitsSlot r → f.stamp < 2 ^ 63
+object_fits r f e h = subst (λ q. FitsSlot q) e h
 
 -- a reference that stays
 pub object_kept : (K : List Value → Run Machine) (r : Reference) (f : FrameRef) (v : Value) (rest : List Value) → Refers r (plain v) → r ≡ reference.Object f → K (Of (Object f.stamp) ∷ rest) ≡ K (v ∷ rest)

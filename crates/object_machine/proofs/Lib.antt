@@ -64,3 +64,4 @@ pub mod Prepared
 pub mod PrefixRows
 pub mod Pushed
 pub mod Held
+pub mod VirtualRows

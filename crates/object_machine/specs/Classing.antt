@@ -1,5 +1,5 @@
 -- Classes of references, as the rows find them.
-use Rattle.std.specs.Prelude.{◌≡◌, ℕ, zero, suc, ℤ, Bool, true, false, Option, Some, None, List}
+use Rattle.std.specs.Prelude.{◌≡◌, ◌<◌, ◌^◌, ℕ, zero, suc, ℤ, Bool, true, false, Option, Some, None, List}
 use Rattle.sim_values.specs.Plain.{MainOf, Plain, Nothing, Object}
 use Rattle.sim_code.specs.Code.{CodeOf}
 use Rattle.sim_code.specs.Classes.{is_in, is_of, may_stand as may_stand_of}
@@ -39,6 +39,12 @@ abbrev pub ReferenceLeads : Reference → List Frame → Frames → Type 0
 ReferenceLeads (reference.Object f) frames m = Leads frames m f
 ReferenceLeads (reference.Main f) frames m = Leads frames m f
 ReferenceLeads _ frames m = Unit {0}
+
+-- its number is one that a slot can have
+abbrev pub FitsSlot : Reference → Type 0
+FitsSlot (reference.Object f) = f.stamp < 2 ^ 63
+FitsSlot (reference.Main f) = f.stamp < 2 ^ 63
+FitsSlot _ = Unit {0}
 
 -- `is` where the class is to be the same, else `in`
 abbrev pub tests : Bool → CodeOf → Frames → (class : ℕ) → Plain → Option Bool

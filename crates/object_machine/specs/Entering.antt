@@ -23,7 +23,7 @@ use Rattle.object_machine.specs.Standing.{AtWork, Leaves, Outside, Stores, activ
 -- the number of a block that is there, of the wanted kind, and whose entry is an instruction; or there is no such block
 abbrev pub IsBlock : Option ℕ → CodeOf → BlockKind → ℤ → Type 0
 IsBlock None code kind z = (o : World) (go : ℕ → BlockOf → Lined → Run Machine) → block_at code kind z o go ≡ no_rule o
-IsBlock (Some k) code kind z = (b : BlockOf) (x : Lined) → slice_get code.blocks k ≡ Some b → slice_get code.instrs b.entry ≡ Some x → (o : World) (go : ℕ → BlockOf → Lined → Run Machine) → block_at code kind z o go ≡ go k b x
+IsBlock (Some k) code kind z = (b : BlockOf) → slice_get code.blocks k ≡ Some b → (o : World) (go : ℕ → BlockOf → Run Machine) → block_at code kind z o (λ k b x. go k b) ≡ go k b
 
 -- the world after a tick and so many words
 abbrev pub paid : World → ℕ → World

@@ -23,6 +23,7 @@ pub mod Calling
 pub mod Taking
 pub mod Classing
 pub mod Levelling
+pub mod Matching
 pub mod Parameters
 pub mod Generating
 pub mod Preparing

@@ -1,7 +1,7 @@
 //! The blocks that are entered.
-ghost use Rattle.std.specs.Prelude.{◌≡◌, ◌<◌, ℕ, ℤ, List, IfSome, length};
+ghost use Rattle.std.specs.Prelude.{◌≡◌, ◌<◌, ℕ, ℤ, List, IfSome, Some, length};
 ghost use Rattle.sim_code.specs.Code.{CodeOf};
-ghost use Rattle.sim_code.specs.Machine.{Machine, same_kind as same_kind_of};
+ghost use Rattle.sim_code.specs.Machine.{Machine, number as number_of, same_kind as same_kind_of};
 ghost use Rattle.object_machine.specs.Entering.{IsBlock};
 
 use crate::constants::index;
@@ -29,6 +29,8 @@ pub fn block_of(
     kind: BlockKind,
     operand: i64,
 ) -> Option<usize>
+    ensures number { IfSome result (λ k. Some k ≡ number_of operand) }
+    ensures within { IfSome result (λ k. k < length blocks.now) }
     ensures row { (code : CodeOf) (z : ℤ) → code.blocks ≡ blocks.now → code.instrs ≡ instrs.now → z ≡ operand → IsBlock result code kind z }
 {
     let Some(number) = index(operand) else {

@@ -15,7 +15,7 @@ ghost use Rattle.object_machine.specs.declared.openings.Beginning.{Beginning};
 ghost use Rattle.object_machine.specs.Standing.{AllAtWork, AllFit, AtWork, Leaves, Obeys, Outside, activation_at, below_of};
 ghost use Rattle.sim_values.specs.declared.value.FrameRef.{FrameRef as Reference};
 ghost use Rattle.sim_code.specs.Arrays.{handed_over};
-ghost use Rattle.sim_code.specs.Rows.{entering_procedure};
+ghost use Rattle.sim_code.specs.Rows.{entering_frame, entering_procedure};
 
 use crate::blocks::block_of;
 use crate::cells::held;
@@ -277,6 +277,55 @@ fn pass(
     cover(top, below, next)
 }
 
+/// Enters the block of a procedure with actual parameters. It answers want of memory where the frames on the chain would have to be kept, since
+/// the block is not class-free and has a formal by name, an array by reference or a procedure.
+pub fn enter_called(
+    alloc: Global,
+    limits: &Limits,
+    storage: &mut Storage,
+    top: &mut Activation,
+    below: &mut Vec<Activation>,
+    number: u32,
+    block: &BlockRecord,
+    actuals: Actuals,
+) -> Flow
+    requires short { top.old.registers.pc + 1 < 2 ^ 64 }
+    requires fits { top.old.registers.depth ≤ length top.old.stack.items }
+    requires others { AllFit below.old.items }
+    requires within { actuals.at + actuals.count ≤ length top.old.stack.items }
+    requires under { actuals.under ≤ length top.old.stack.items }
+    ensures fits { top.new.registers.depth ≤ length top.new.stack.items }
+    ensures others { AllFit below.new.items }
+    ensures texts { storage.new.texts ≡ storage.old.texts }
+    ensures image { storage.new.image ≡ storage.old.image }
+    ensures row { (line : ℕ) (now : Outside) → ((cells : List Slot) (m : Frames) → Holds storage.old.frames.items cells m → AllLead storage.old.frames.items m top.old.stack.items → Leads storage.old.frames.items m actuals.parent) →
+        Obeys result limits.now line (λ o m a b. entering_frame limits.now o m a b line number block.now actuals.parent.stamp (values_from top.old.stack.items actuals.at actuals.count) (values_of actuals.under top.old.stack.items)) storage.old storage.new top.old.registers top.new.registers top.old.stack.items top.new.stack.items below.old.items below.new.items now now }
+{
+    let first = first_formal(block.result_type);
+    if !is_filled(block.types.len(), first, actuals.count) {
+        return Flow::NoRule;
+    }
+    if !keeps_none(block.class_free, &block.formals) {
+        return Flow::Memory;
+    }
+    let flow = pay(limits, storage, words_instance(block.cells, false));
+    match flow {
+        Flow::On => {}
+        _ => return flow,
+    }
+    match open(
+        alloc,
+        storage,
+        number,
+        block,
+        as_frame(block),
+        Some(actuals.parent),
+    ) {
+        Ok(next) => pass(storage, top, below, next, &block.formals, first, actuals),
+        Err(_) => Flow::Memory,
+    }
+}
+
 /// Calls a procedure. It answers want of memory where the frames on the chain would have to be kept, since its block is not class-free
 /// and has a formal by name, an array by reference or a procedure.
 pub fn call(
@@ -307,36 +356,17 @@ pub fn call(
     let Some(number) = block_of(blocks, instrs, BlockKind::Procedure, block_operand) else {
         return Flow::NoRule;
     };
-    let Some(block) = blocks.get(number) else {
-        return Flow::Memory;
-    };
-    let Some(_entry) = instrs.get(block.entry as usize) else {
-        return Flow::Memory;
-    };
-    let first = first_formal(block.result_type);
-    if !is_filled(block.types.len(), first, actuals.count) {
-        return Flow::NoRule;
-    }
-    if !keeps_none(block.class_free, &block.formals) {
-        return Flow::Memory;
-    }
-    let flow = pay(limits, storage, words_instance(block.cells, false));
-    match flow {
-        Flow::On => {}
-        _ => return flow,
-    }
     let Ok(short) = u32::try_from(number) else {
         return Flow::Memory;
     };
-    match open(
+    enter_called(
         alloc,
+        limits,
         storage,
+        top,
+        below,
         short,
-        block,
-        as_frame(block),
-        Some(actuals.parent),
-    ) {
-        Ok(next) => pass(storage, top, below, next, &block.formals, first, actuals),
-        Err(_) => Flow::Memory,
-    }
+        &blocks[number],
+        actuals,
+    )
 }

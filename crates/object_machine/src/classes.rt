@@ -1,5 +1,5 @@
 //! Classes of the code, and of which classes objects are.
-ghost use Rattle.std.specs.Prelude.{◌≡◌, ◌==◌, ◌||◌, List};
+ghost use Rattle.std.specs.Prelude.{◌≡◌, ◌<◌, ◌^◌, ◌==◌, ◌||◌, List};
 ghost use Rattle.sim_code.specs.Classes.{class_named as class_named_of, class_of as class_of_frame, in_class as in_class_of, is_among, levels, main_in_class as main_in_class_of, may_stand as may_stand_of, process_at as process_at_of};
 ghost use Rattle.sim_code.specs.Code.{CodeOf};
 ghost use Rattle.sim_code.specs.Machine.{Frames, plain};
@@ -7,7 +7,7 @@ ghost use Rattle.frame_arena.specs.declared.frames.Frame.{Frame as FrameOf};
 ghost use Rattle.frame_arena.specs.declared.slot.Slot.{Slot as SlotOf};
 ghost use Rattle.frame_arena.specs.Frames.{Holds, Leads, SlotLeads};
 ghost use Rattle.frame_arena.specs.Slots.{count_of, value_of};
-ghost use Rattle.object_machine.specs.Classing.{Qualifies, ReferenceLeads, Refers, tested, tests};
+ghost use Rattle.object_machine.specs.Classing.{FitsSlot, Qualifies, ReferenceLeads, Refers, tested, tests};
 
 use crate::cells::unqualified;
 use crate::constants::index;
@@ -176,10 +176,11 @@ pub fn main_in_class(
     is_level(classes, class, wanted)
 }
 
-// The number in a reference.
+/// The number in a reference.
 #[inline(always)]
-fn stamp_of(slot: Slot) -> u64
-    ensures { result ≡ count_of slot.«data» }
+pub fn stamp_of(slot: Slot) -> u64
+    ensures is { result ≡ count_of slot.«data» }
+    ensures short { result < 2 ^ 63 }
 {
     if slot.data < 0 { 0 } else { slot.data as u64 }
 }
@@ -188,6 +189,7 @@ fn stamp_of(slot: Slot) -> u64
 #[inline(always)]
 pub fn reference_in(slot: Slot) -> Reference
     ensures is { Refers result (plain (value_of slot)) }
+    ensures fits { FitsSlot result }
     ensures leads { (frames : List FrameOf) (m : Frames) → SlotLeads frames m slot → ReferenceLeads result frames m }
 {
     let stamp = stamp_of(slot);

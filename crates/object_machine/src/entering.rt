@@ -63,12 +63,7 @@ pub fn enter(
     let Some(number) = block_of(blocks, instrs, BlockKind::SubBlock, operand) else {
         return Flow::NoRule;
     };
-    let Some(block) = blocks.get(number) else {
-        return Flow::Memory;
-    };
-    let Some(_entry) = instrs.get(block.entry as usize) else {
-        return Flow::Memory;
-    };
+    let block = &blocks[number];
     let flow = pay(limits, storage, words_instance(block.cells, false));
     match flow {
         Flow::On => {}

@@ -51,5 +51,6 @@ mod steps;
 mod stretching;
 mod texts;
 mod transfers;
+mod virtuals;
 
 pub use running::run;

@@ -24,6 +24,7 @@ use crate::operands::{
 };
 use crate::pairs::{relate, relation_of_texts};
 use crate::texts::{image_address, notext};
+use crate::virtuals::find_match;
 use frame_arena::Slot;
 use frame_arena::frames::Span;
 use sim_base::Limits;
@@ -188,10 +189,8 @@ pub fn obey_other(
         Instr::In(class) => test_class(&storage.frames, blocks, classes, false, stack, regs, class),
         Instr::Qua(class) => qua(&storage.frames, blocks, classes, stack, regs, class),
         Instr::ProcVal(_) => no_rule(),
-        Instr::Virt(_) => no_rule(),
-        Instr::Check(_) => no_rule(),
+        Instr::Virt(number) => { find_match(&storage.frames, blocks, classes, stack, regs, number) }
         Instr::Param { .. } => no_rule(),
-        Instr::CallV(_) => no_rule(),
         Instr::Thunk(_) => no_rule(),
         Instr::NameVal { .. } => no_rule(),
         Instr::NameAddr { .. } => no_rule(),

@@ -52,6 +52,7 @@ pub fn run<I: Source, O: Sink>(
                 &code.instrs,
                 &code.texts,
                 &code.classes,
+                &code.actual_lists,
                 limits,
                 &mut storage,
                 input,

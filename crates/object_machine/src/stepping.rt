@@ -24,8 +24,9 @@ use crate::scheduling::schedule;
 use crate::stages::{inner, next_declarations};
 use crate::texts::constant;
 use crate::transfers::{attach, detach, resume};
+use crate::virtuals::{call_value, check_actuals};
 use sim_base::{ByteString, Limits};
-use sim_code::{BlockRecord, ClassRecord, Instr, Lined};
+use sim_code::{ActualList, BlockRecord, ClassRecord, Instr, Lined};
 use sim_ports::{Sink, Source};
 use std::alloc::Global;
 
@@ -52,6 +53,7 @@ pub fn step<I: Source, O: Sink>(
     instrs: &[Lined],
     constants: &[ByteString],
     classes: &[ClassRecord],
+    lists: &[ActualList],
     limits: &Limits,
     storage: &mut Storage,
     input: &mut I,
@@ -72,7 +74,7 @@ pub fn step<I: Source, O: Sink>(
     ensures read { InputEnds (I.faults input.old) (I.faults input.new) result }
     ensures takes { (s : List ℕ) → I.left input.old ≡ Some s → (code : CodeOf) (line : ℕ) →
         StepTakes limits.now (λ o m a b. row code limits.now o m a b line instr) storage.old top.old.registers top.old.stack.items below.old.items (outside (O.written out.old) s) input.old input.new }
-    ensures row { Onward (I.left input.old) (I.left input.new) (λ s t. Still result (O.written out.old) (O.written out.new) × ((code : CodeOf) (line : ℕ) → code.blocks ≡ blocks.now → code.instrs ≡ instrs.now → code.texts ≡ constants.now → code.classes ≡ classes.now →
+    ensures row { Onward (I.left input.old) (I.left input.new) (λ s t. Still result (O.written out.old) (O.written out.new) × ((code : CodeOf) (line : ℕ) → code.blocks ≡ blocks.now → code.instrs ≡ instrs.now → code.texts ≡ constants.now → code.classes ≡ classes.now → code.actual_lists ≡ lists.now →
         Obeys result limits.now line (λ o m a b. row code limits.now o m a b line instr) storage.old storage.new top.old.registers top.new.registers top.old.stack.items top.new.stack.items below.old.items below.new.items (outside (O.written out.old) s) (outside (O.written out.new) t))) }
 {
     match instr {
@@ -111,6 +113,14 @@ pub fn step<I: Source, O: Sink>(
             let flow = call(
                 alloc, blocks, instrs, limits, storage, top, below, block, values,
             );
+            without_ports(flow)
+        }
+        Instr::Check(list) => {
+            let flow = check_actuals(blocks, lists, &top.stack, &mut top.registers, list);
+            without_ports(flow)
+        }
+        Instr::CallV(values) => {
+            let flow = call_value(alloc, blocks, instrs, limits, storage, top, below, values);
             without_ports(flow)
         }
         Instr::Leave => {

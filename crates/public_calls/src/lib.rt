@@ -9,6 +9,8 @@ mod ample_memory;
 #[cfg(test)]
 mod limited_runs;
 #[cfg(test)]
+mod matches;
+#[cfg(test)]
 mod nesting;
 #[cfg(test)]
 mod top_call;

@@ -6,7 +6,7 @@ use Rattle.sim_base.specs.declared.numbering.TokenNo.{TokenNo}
 use Rattle.sim_tree.specs.declared.expr.Identifier.{Identifier}
 use Rattle.sim_tree.specs.declared.stmt.TypeName.{TypeName}
 use Rattle.sim_tree.specs.declared.stmt.Variable.{Variable}
-use Rattle.sim_tree.specs.Order.{InOrder}
+use Rattle.sim_agree.specs.Order.{InOrder}
 use Rattle.sim_tree.specs.Syntax.{Arrayed, Arrays, Declarations, DeclareClass, DeclareProcedure, NoDeclaration, Variables, With}
 use Rattle.sim_scope.specs.declared.scopes.Declaration.{Declaration}
 use Rattle.sim_scope.specs.declared.types.Entry.{Entry}
@@ -16,7 +16,7 @@ use Rattle.sim_scope.specs.Building.{Declares, Mark, typed_or_none}
 use Rattle.sim_scope.specs.Standard.{parameter_of, result_of}
 use Rattle.sim_scope.specs.Declare.{declared_by, result_named, type_named}
 use Rattle.sim_scope.specs.Runs.{each}
-use Rattle.sim_scope.specs.Scopes.{entry_of}
+use Rattle.sim_scope.specs.Scopes.{entry_of, is_virtual}
 use Rattle.sim_scope.specs.Source.{Source}
 use Rattle.sim_meaning.specs.Entries.{numbers_of}
 use Rattle.sim_meaning.specs.Texts.{Text, declared_at, text}
@@ -26,7 +26,7 @@ use Rattle.sim_agree.specs.Plain.{Plain}
 use Rattle.sim_agree.specs.TablesOf.{TablesOf}
 use Rattle.sim_agree.proofs.Clean.{OwedAt, RowFor}
 use Rattle.sim_agree.proofs.Constants.{has_split, only}
-use Rattle.sim_agree.proofs.Fine.{Alike, RowIn, attribute_row, class_row, formal_row, own_row, procedure_row, simulation_row}
+use Rattle.sim_agree.proofs.Fine.{Alike, RowIn, attribute_row, class_row, formal_row, own_row, procedure_row, simulation_row, virtual_row}
 use Rattle.sim_agree.proofs.Groups.{Has, OwnEntry, declared_in_text, here, own_array, own_marks, own_segment, own_variable, there}
 use Rattle.sim_agree.proofs.Steps.{Parametric}
 use Rattle.sim_agree.proofs.Tables as t
@@ -71,12 +71,32 @@ own_no_attribute (entry.Formal f) name given result o a = o
 own_no_attribute (entry.Unspecified w) name given result o a = o
 own_no_attribute (entry.Attribute other taken given_back) name given result o a = o
 
+own_no_procedure : (e f : Entry) (result : Option SimType) (k : ℕ) → OwnEntry e → Alike e f → Alike (entry.Procedure result k) f → ⊥
+own_no_procedure (entry.Variable ty) (entry.Procedure r n) result k o a p = a
+own_no_procedure (entry.Constant ty) (entry.Procedure r n) result k o a p = a
+own_no_procedure (entry.Array ty m) (entry.Procedure r n) result k o a p = a
+own_no_procedure (entry.Procedure q m) f result k o a p = o
+own_no_procedure (entry.Class m) f result k o a p = o
+own_no_procedure (entry.Virtual q m) f result k o a p = o
+own_no_procedure (entry.Formal g) f result k o a p = o
+own_no_procedure (entry.Unspecified w) f result k o a p = o
+own_no_procedure (entry.Attribute name given q) f result k o a p = o
+own_no_procedure e (entry.Variable ty) result k o a p = p
+own_no_procedure e (entry.Constant ty) result k o a p = p
+own_no_procedure e (entry.Array ty n) result k o a p = p
+own_no_procedure e (entry.Class n) result k o a p = p
+own_no_procedure e (entry.Virtual r n) result k o a p = p
+own_no_procedure e (entry.Formal g) result k o a p = p
+own_no_procedure e (entry.Unspecified w) result k o a p = p
+own_no_procedure e (entry.Attribute name given r) result k o a p = p
+
 -- what is declared in a text, and is neither a procedure nor a class, is listed and is no attribute
 listed_own : (bs : List BlockOf) (ts : List Text) (x : Text) (d : ℕ) (row : Declaration) (e : Entry) → OwnEntry e → Alike e row.entry → RowIn bs ts x d row → row.listed ≡ true
 listed_own bs ts x d row e o a (own_row y p) = p.listed
-listed_own bs ts x d row e o a (procedure_row y p) = p.listed
+listed_own bs ts x d row e o a (procedure_row y p) = absurd (own_no_procedure e row.entry (result_named p.result) p.number o a p.entry)
 listed_own bs ts x d row e o a (class_row y p) = absurd (own_no_class e p.number o (subst (Alike e) p.entry a))
 listed_own bs ts x d row e o a (formal_row y p l) = l
+listed_own bs ts x d row e o a (virtual_row y p l) = l
 listed_own bs ts x d row e o a (attribute_row y p) = p.listed
 listed_own bs ts x d row e o a (simulation_row y p) = absurd (own_no_attribute e p.name (typed_or_none (Some p.first) (parameter_of p.name)) (typed_or_none (Some p.first) (result_of p.name)) o (subst (Alike e) p.entry a))
 
@@ -229,6 +249,7 @@ module _ (s : Source) (of : TablesOf s) (plain : Plain s.program) (order : InOrd
         go row e f y z (procedure_row u p) = absurd (subst (Alike (entry.Procedure (result_named p.result) p.number)) f p.entry)
         go row e f y z (class_row u p) = absurd (let g : entry.Class p.number ≡ entry.Array ty n = sym p.entry ∙ f in cc)
         go row e f y z (formal_row u p l) = absurd (subst Parametric f p)
+        go row e f y z (virtual_row u p l) = absurd (let g : false ≡ true = sym (ap is_virtual f) ∙ p in cc)
         go row e f y z (attribute_row u p) = absurd (let g : entry.Attribute p.name (typed_or_none (Some p.first) (parameter_of p.name)) (typed_or_none (Some p.first) (result_of p.name)) ≡ entry.Array ty n = sym p.entry ∙ f in cc)
         go row e f y z (simulation_row u p) = absurd (let g : entry.Attribute p.name (typed_or_none (Some p.first) (parameter_of p.name)) (typed_or_none (Some p.first) (result_of p.name)) ≡ entry.Array ty n = sym p.entry ∙ f in cc)
         go row e f y z (own_row u p) =

@@ -29,7 +29,7 @@ use Rattle.sim_agree.proofs.Fine.{Agree, Fine, Headed, InGroup, KindIs, Rising, 
 use Rattle.sim_agree.proofs.Groups.{Declaring, Open, Prefixing, item}
 use Rattle.sim_agree.proofs.StandardPrefixes.{InFront, IsBrought, Spells, brought_text, brought_texts, text_brought}
 use Rattle.sim_agree.proofs.Steps.{Even, fixed}
-use Rattle.sim_agree.proofs.Unprefixed.{Extras, Named, NoVirtuals, Unprefixed, brings_of, brought_of, extras_in, is_prefixable, no_extras, spelt_as, spelt_before}
+use Rattle.sim_agree.proofs.Unprefixed.{Extras, Known, MatchOf, Named, Unprefixed, brings_of, brought_of, extras_in, is_prefixable, no_extras, spelt_as, spelt_before}
 
 some_same : {A : Type 0} (a b : A) → Some a ≡ Some b → a ≡ b
 some_same a b e = cc
@@ -117,20 +117,23 @@ module _ (p : StandardPrefix) (front : Identifier) (spelt : Spells p front) (b :
       go None e = none
       go (Some row) e = some row (row_added n (length b.tables.declarations) token r.level p i row e)
 
-  virtuals : NoVirtuals b.tables.declarations → NoVirtuals (with_standard p b n token (prefixed_by front r)).tables.declarations
-  virtuals old d row is = go (row_part d row is)
+  -- none of what is brought is a virtual
+  still_known : Known b.tables.declarations → Known (with_standard p b n token (prefixed_by front r)).tables.declarations
+  still_known old v row result d is en = go (row_part v row is)
     where
-      go : ((d < length b.tables.declarations) × (slice_get b.tables.declarations d ≡ Some row)) ⊎ ((i : ℕ) × (d ≡ length b.tables.declarations + i) × Added p n (length b.tables.declarations) token r.level i row) → is_virtual row.entry ≡ false
-      go (inl q) = old d row q.1
-      go (inr (i, same, a_class c)) = ap is_virtual c.entry
-      go (inr (i, same, an_attribute c)) = ap is_virtual c.entry
-      go (inr (i, same, an_own c)) = ap is_virtual c.entry
+      other : is_virtual row.entry ≡ false → MatchOf (with_standard p b n token (prefixed_by front r)).tables.declarations row d
+      other plain = absurd (let z : true ≡ false = sym (ap is_virtual en) ∙ plain in cc)
 
-  -- no prefix is wrong, no standard prefix is known yet, and nothing is virtual
+      go : ((v < length b.tables.declarations) × (slice_get b.tables.declarations v ≡ Some row)) ⊎ ((i : ℕ) × (v ≡ length b.tables.declarations + i) × Added p n (length b.tables.declarations) token r.level i row) → MatchOf (with_standard p b n token (prefixed_by front r)).tables.declarations row d
+      go (inl q) = let m = old v row result d q.1 en in record { row = m.row; at = old_row d.0 m.row m.at; name = m.name; block = m.block; procedure = m.procedure }
+      go (inr (i, same, a_class c)) = other (ap is_virtual c.entry)
+      go (inr (i, same, an_attribute c)) = other (ap is_virtual c.entry)
+      go (inr (i, same, an_own c)) = other (ap is_virtual c.entry)
+
+  -- no prefix is wrong, and no standard prefix is known yet
   pub standard_bare : is_prefixable r.kind ≡ true → Unprefixed b.tables → Unprefixed (with_standard p b n token (prefixed_by front r)).tables
   standard_bare able w = record {
     blocks = all_blocks (λ k. extras_in (slice_get (with_standard p b n token (prefixed_by front r)).tables.blocks k) ≡ no_extras) (λ k lt. old_same extras_in same k lt ∙ w.blocks k) (λ i. of_rows (λ o. extras_in o ≡ no_extras) i refl (λ row k. k.extras));
-    virtuals = virtuals w.virtuals;
   }
     where
       without : Extras → Extras
@@ -380,6 +383,7 @@ module _ (p : StandardPrefix) (front : Identifier) (spelt : Spells p front) (b :
       based = all_blocks (λ k. base_in (slice_get (with_standard p b n token (prefixed_by front r)).tables.blocks k) ≡ own_base (slice_get (with_standard p b n token (prefixed_by front r)).tables.blocks k)) (λ k lt. old_same base_in refl k lt ∙ f.based k ∙ sym (old_same own_base refl k lt))
           (λ i. of_rows (λ o. base_in o ≡ own_base o) i refl (λ row k. k.base ∙ sym (based_row i row k)));
       bare = standard_bare able f.bare;
+      known = still_known f.known;
       standards = standards;
       headed = all_blocks (λ k. (c : StandardPrefix) → spelt_before (slice_get (with_standard p b n token (prefixed_by front r)).tables.blocks k) ≡ Some c → Headed c (with_standard p b n token (prefixed_by front r)).tables.blocks (ts ++ brought_texts p) k) headed_old headed_new;
       textless = all_blocks (λ k. first_or_none (slice_get (with_standard p b n token (prefixed_by front r)).tables.blocks k) ≡ 0) (λ k lt. old_same first_or_none refl k lt ∙ f.textless k) (λ i. of_rows (λ o. first_or_none o ≡ 0) i refl (λ row k. ap (λ z. standard_first z row.first) k.kind ∙ k.begins));

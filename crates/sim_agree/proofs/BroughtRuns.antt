@@ -14,7 +14,7 @@ use Rattle.sim_scope.specs.Tables.{BlockOf}
 use Rattle.sim_scope.proofs.Kept.{more_here, set_here}
 use Rattle.sim_agree.proofs.Brought.{set_twice}
 use Rattle.sim_agree.proofs.BroughtRows.{added_declarations, added_rows, bringing, standard_added, with_standard}
-use Rattle.sim_agree.proofs.Fine.{fresh}
+use Rattle.sim_agree.proofs.FineBlocks.{fresh}
 use Rattle.sim_agree.proofs.Groups.{whole_prefix}
 use Rattle.sim_agree.proofs.StandardPrefixes.{classes_of}
 

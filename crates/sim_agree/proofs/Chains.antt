@@ -9,7 +9,7 @@ use Rattle.std.proofs.lemmas.Option.{slice_get_within}
 use Rattle.sim_base.specs.declared.numbering.DeclNo.{DeclNo}
 use Rattle.sim_base.specs.declared.rule.Rule.{Rule}
 use Rattle.sim_base.specs.declared.rule.Rule.TheVariants as r
-use Rattle.sim_tree.specs.Order.{InOrder}
+use Rattle.sim_agree.specs.Order.{InOrder}
 use Rattle.sim_scope.specs.declared.found.Fault.{Fault}
 use Rattle.sim_scope.specs.declared.scopes.Declaration.{Declaration}
 use Rattle.sim_scope.specs.declared.types.Entry.TheVariants as entry
@@ -275,6 +275,43 @@ module _ (s : Source) (of : TablesOf s) (plain : Plain s.program) (order : InOrd
       ∙ ap (λ n. some_level_of (prefixed (declared_by s.program).tables) n (λ c. nat_eq c k) b) sizes
       ∙ ap (holds (λ c. some_level_of (prefixed (declared_by s.program).tables) (length (prefixed (declared_by s.program).tables).blocks) (λ d. nat_eq d k) c)) (sym (sym (t.own_base_of s of plain order k other) ∙ e))
       ∙ free k
+
+  -- a level of what is no connection is none
+  level_solid : (n b k : ℕ) → is_connection (text s b) ≡ false → some_level_of s.tables n (λ c. nat_eq c k) b ≡ true → is_connection (text s k) ≡ false
+  unfolding some_level_of
+  level_solid zero b k other e = absurd (cc)
+  level_solid (suc n) b k other e = go (nat_eq b k) refl (base s.tables b) refl e (λ c solid f. level_solid n c k solid f)
+    where
+      go : (z : Bool) → nat_eq b k ≡ z → (o : Option ℕ) → base s.tables b ≡ o → (z || holds (λ c. some_level_of s.tables n (λ d. nat_eq d k) c) o) ≡ true
+          → ((c : ℕ) → is_connection (text s c) ≡ false → some_level_of s.tables n (λ d. nat_eq d k) c ≡ true → is_connection (text s k) ≡ false) → is_connection (text s k) ≡ false
+      go true is o up f rest = let same : b ≡ k = grind (arith, nat_tests) in subst (λ z. is_connection (text s z) ≡ false) same other
+      go false is None up f rest = absurd (cc)
+      go false is (Some c) up f rest = rest c (no_class_connection (text s c) (t.connects s of plain order b c up)) f
+
+  own_apart : (k : ℕ) → is_in_own_chain s.tables k ≡ false
+  unfolding has_level is_in_own_chain
+  own_apart k = go (base s.tables k) refl
+    where
+      apart_from : (b : ℕ) → base s.tables k ≡ Some b → (c : Bool) → is_connection (text s k) ≡ c → (z : Bool) → some_level_of s.tables (length s.tables.blocks) (λ d. nat_eq d k) b ≡ z → some_level_of s.tables (length s.tables.blocks) (λ d. nat_eq d k) b ≡ false
+      apart_from b up c is false e = e
+      apart_from b up false is true e = not_own k b is up
+      apart_from b up true is true e = absurd (let f : true ≡ false = sym is ∙ level_solid (length s.tables.blocks) b k (no_class_connection (text s b) (t.connects s of plain order k b up)) e in cc)
+
+      go : (o : Option ℕ) → base s.tables k ≡ o → holds (λ b. some_level_of s.tables (length s.tables.blocks) (λ d. nat_eq d k) b) o ≡ false
+      go None up = refl
+      go (Some b) up = apart_from b up (is_connection (text s k)) refl (some_level_of s.tables (length s.tables.blocks) (λ d. nat_eq d k) b) refl
+
+  next_within : (k b : ℕ) → base s.tables k ≡ Some b → b < length s.tables.blocks
+  unfolding text
+  next_within k b e = go (slice_get (program_texts s.program.prefix s.program.block) b) refl (t.connects s of plain order k b e)
+    where
+      go : (o : Option Text) → slice_get (program_texts s.program.prefix s.program.block) b ≡ o → is_class o ≡ true → b < length s.tables.blocks
+      go None at f = absurd (cc)
+      go (Some x) at f = subst (λ n. b < n) (sym (t.as_many s of plain order)) (slice_get_within (program_texts s.program.prefix s.program.block) b x at)
+
+  -- so the levels of all blocks come to an end, also those of connections
+  pub all_end : (k : ℕ) → Ends s.tables (length s.tables.blocks) k
+  all_end k = chain_ends s.tables next_within own_apart some_length.0 (sizes ∙ some_length.1) k
 
   -- the declared tables have a connection where the text is one
   connection_is : (k : ℕ) → is_kind is_connection_kind (declared_by s.program).tables k ≡ is_connection (text s k)

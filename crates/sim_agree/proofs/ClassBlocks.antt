@@ -4,14 +4,14 @@ use Rattle.std.specs.Prelude.{◌||◌, position, slice_get}
 use Rattle.std.specs.Str.{bytes_eq}
 use Rattle.std.specs.Option.{option_or}
 use Rattle.sim_base.specs.declared.numbering.DeclNo.{DeclNo}
-use Rattle.sim_tree.specs.Order.{InOrder}
+use Rattle.sim_agree.specs.Order.{InOrder}
 use Rattle.sim_scope.specs.declared.scopes.Declaration.{Declaration}
 use Rattle.sim_scope.specs.declared.scopes.Denotation.TheVariants as denotation
 use Rattle.sim_scope.specs.declared.types.Entry.TheVariants as entry
 use Rattle.sim_scope.specs.declared.types.StandardPrefix.{StandardPrefix}
 use Rattle.sim_scope.specs.Access.{block_at}
 use Rattle.sim_scope.specs.Levels.{base, holds_class, holds_class_in, is_standard, standard_in}
-use Rattle.sim_scope.specs.Scopes.{beyond, binding, brought_by, brought_in, declaration_from, declared_in, entry_of, level_shows, lookup, numbered, outward, searched, seen, shown, shown_of}
+use Rattle.sim_scope.specs.Scopes.{beyond, binding, brought_by, brought_in, declaration_from, declared_in, entry_is, entry_of, is_virtual, level_shows, lookup, numbered, outward, searched, seen, shown, shown_of}
 use Rattle.sim_scope.specs.Source.{Source, block_of, block_of_row}
 use Rattle.sim_scope.specs.Tables.{BlockOf, Tables}
 use Rattle.sim_meaning.specs.Entries.{numbers_in, numbers_of}
@@ -117,6 +117,5 @@ module _ (s : Source) (of : TablesOf s) (plain : Plain s.program) (order : InOrd
 
   pub found_class_held : (token : ℕ) (name : List ℕ) (d : DeclNo) (k : ℕ) → binding s.tables token name ≡ Some (denotation.Declared d) → entry_of s.tables d ≡ Some (entry.Class k) → holds_class s.tables (block_of s d) ≡ true
   found_class_held token name d k binds is =
-      let u = t.shows s of plain order in
-      let l = from_level s.tables (Some token) name d (block_at s.tables token) (declared_is s.tables u.virtuals token name d binds) in
+      let l = from_level s.tables (Some token) name d (block_at s.tables token) (declared_is s.tables token name d (ap (entry_is is_virtual) is) binds) in
       level_holds (Some token) l.0 name d k l.1 is

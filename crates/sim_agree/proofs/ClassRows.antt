@@ -12,8 +12,9 @@ use Rattle.sim_scope.specs.Access.{around}
 use Rattle.sim_scope.specs.Building.{attribute_entry}
 use Rattle.sim_scope.specs.Declare.{result_named}
 use Rattle.sim_scope.specs.Tables.{BlockOf}
+use Rattle.sim_scope.specs.Scopes.{is_virtual}
 use Rattle.sim_meaning.specs.Texts.{BlockText, ClassText, ConnectionText, PrefixedText, ProcedureText, StandardText, Text}
-use Rattle.sim_agree.proofs.Fine.{Alike, KindIs, RowIn, attribute_row, class_row, formal_row, own_row, procedure_row, simulation_row}
+use Rattle.sim_agree.proofs.Fine.{Alike, KindIs, RowIn, attribute_row, class_row, formal_row, own_row, procedure_row, simulation_row, virtual_row}
 use Rattle.sim_agree.proofs.Groups.{OwnEntry, PlainKind, Declaring}
 use Rattle.sim_agree.proofs.Steps.{Parametric}
 use Rattle.sim_meaning.specs.Levels.{has_levels, is_class}
@@ -40,6 +41,7 @@ class_entry x bs ts d row n e (own_row y p) = absurd (own_no_class p.entry n p.f
 class_entry x bs ts d row n e (procedure_row y p) = absurd (subst (Alike (entry.Procedure (result_named p.result) p.number)) e p.entry)
 class_entry x bs ts d row n e (class_row y p) = ap (λ m. is_class (slice_get ts m)) (sym (same_number p.number n (sym p.entry ∙ e))) ∙ ap is_class p.text ∙ p.is
 class_entry x bs ts d row n e (formal_row y p l) = absurd (subst Parametric e p)
+class_entry x bs ts d row n e (virtual_row y p l) = absurd (let f : false ≡ true = sym (ap is_virtual e) ∙ p in cc)
 class_entry x bs ts d row n e (attribute_row y p) = absurd (let f : attribute_entry (Some p.first) p.name ≡ entry.Class n = sym p.entry ∙ e in cc)
 class_entry x bs ts d row n e (simulation_row y p) = absurd (let f : attribute_entry (Some p.first) p.name ≡ entry.Class n = sym p.entry ∙ e in cc)
 
@@ -49,6 +51,7 @@ class_stands x bs ts d row n e (own_row y p) = absurd (own_no_class p.entry n p.
 class_stands x bs ts d row n e (procedure_row y p) = absurd (subst (Alike (entry.Procedure (result_named p.result) p.number)) e p.entry)
 class_stands x bs ts d row n e (class_row y p) = (y, subst (λ z. around (slice_get bs z) ≡ Some row.block) (same_number p.number n (sym p.entry ∙ e)) p.around)
 class_stands x bs ts d row n e (formal_row y p l) = absurd (subst Parametric e p)
+class_stands x bs ts d row n e (virtual_row y p l) = absurd (let f : false ≡ true = sym (ap is_virtual e) ∙ p in cc)
 class_stands x bs ts d row n e (attribute_row y p) = absurd (let f : attribute_entry (Some p.first) p.name ≡ entry.Class n = sym p.entry ∙ e in cc)
 class_stands x bs ts d row n e (simulation_row y p) = absurd (let f : attribute_entry (Some p.first) p.name ≡ entry.Class n = sym p.entry ∙ e in cc)
 

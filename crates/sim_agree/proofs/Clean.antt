@@ -21,7 +21,7 @@ use Rattle.sim_scope.specs.declared.types.Mode.{Mode}
 use Rattle.sim_scope.specs.declared.types.Mode.TheVariants as mode
 use Rattle.sim_scope.specs.declared.types.SimType.{SimType}
 use Rattle.sim_scope.specs.declared.types.WrittenMode.{WrittenMode}
-use Rattle.sim_scope.specs.Building.{BuildingOf, Declares, Headed, Mark, Qualifies, broken, broken_if, changed, changed_row, declared, declared_again, declared_at, declared_inside, declared_new, declared_twice, default_mode, entered, formal, headed as headed_of, holding_class, in_class, inner, inner_at, inner_in, is_procedure, marked, matched, mode_allowed, moded as moded_of, moded_as, qualified, row_of as new_row, specified as specified_of, specified_as, token_in, unspecified_in, with_entry, with_mode, with_name, prefixed_by, guards, guards_at}
+use Rattle.sim_scope.specs.Building.{BuildingOf, Declares, Headed, Mark, Qualifies, broken, broken_if, changed, changed_row, declared, declared_again, declared_at, declared_inside, declared_new, declared_twice, default_mode, entered, formal, headed as headed_of, holding_class, in_class, inner, inner_at, inner_in, is_procedure, marked, matched, mode_allowed, moded as moded_of, moded_as, qualified, row_of as new_row, specified as specified_of, specified_as, token_in, unspecified_in, with_entry, with_mode, with_name, prefixed_by, guards, guards_at, row_matching, is_match}
 use Rattle.sim_scope.specs.Found.{fault, lesser, precedes}
 use Rattle.sim_scope.specs.Runs.{run}
 use Rattle.sim_scope.specs.Access.{around}
@@ -33,7 +33,8 @@ use Rattle.sim_sound.specs.Held.{Among}
 use Rattle.sim_meaning.specs.Texts.{Text}
 use Rattle.sim_agree.proofs.Calm.{Calm, Span, span}
 use Rattle.sim_agree.proofs.Groups.{ArrayWritten, Has, NoHeaded, OfReferences, Open, OwnEntry, Quals, declared_in_text, item, own_marks, qualifies, unqualified}
-use Rattle.sim_agree.proofs.Steps.{AllEven, Becomes, Changed, IsParameter, Listed, Nothing, Step, Unmatched, last_cases, among_at}
+use Rattle.sim_agree.proofs.Steps.{Becomes, Changed, IsParameter, Listed, Nothing, RowIs, Step, among_at}
+use Rattle.sim_agree.proofs.Marks.{last_cases, matching_length}
 use Rattle.sim_agree.proofs.Fine.{Fine, Stack, same_around, step_fine}
 
 -- ---- no rule is broken
@@ -55,19 +56,36 @@ some_same a b e = cc
 
 -- the new row is there
 abbrev pub Made : BuildingOf → Identifier → Entry → (block : ℕ) → BuildingOf → Type 0
-Made b x e n c = slice_get c.tables.declarations (length b.tables.declarations) ≡ Some (new_row x e n true)
+Made b x e n c = (listed : Bool) × (slice_get c.tables.declarations (length b.tables.declarations) ≡ Some (new_row x e n listed))
 
-declared_row : (b : BuildingOf) (x : Identifier) (e : Entry) (n : ℕ) (o : Option BlockOf) (row : BlockOf) → Unmatched b.tables e → o ≡ Some row → (declared_at b x e n o).least ≡ None → (b.least ≡ None) × Made b x e n (declared_at b x e n o)
-declared_row b x e n None row alone is clean = absurd (cc)
-declared_row b x e n (Some found) row alone is clean = go (list_any (bytes_eq x.name) found.names) clean
+declared_row : (b : BuildingOf) (x : Identifier) (e : Entry) (n : ℕ) (o : Option BlockOf) (row : BlockOf) → o ≡ Some row → (declared_at b x e n o).least ≡ None → (b.least ≡ None) × Made b x e n (declared_at b x e n o)
+declared_row b x e n None row is clean = absurd (cc)
+declared_row b x e n (Some found) row is clean = go (list_any (bytes_eq x.name) found.names) clean
   where
-    again : (o : Option DeclNo) → (declared_again b x e n o).least ≡ None → ⊥
-    again None q = never_none b.least (fault x.token.0 r.DeclaredTwice) q
-    again (Some d) q = subst (λ c. (if c then matched b x e n d else declared_twice b x (Some d)).least ≡ None → ⊥) (sym (alone.1 d)) (λ p. never_none b.least (fault x.token.0 r.DeclaredTwice) p) q
+    next : DeclNo
+    next = record { 0 = length b.tables.declarations }
+
+    knowing : DeclNo → List Declaration
+    knowing d = row_matching (slice_get b.tables.declarations d.0) next b.tables.declarations d.0
+
+    behind : DeclNo → BuildingOf
+    behind d = record b { tables = record b.tables { declarations = knowing d ++ new_row x e n false ∷ [] }; own = b.own + 1; latest = Some (record { 0 = length (knowing d) }) }
+
+    known : (d : DeclNo) (c : Bool) → (broken_if c (behind d) x.token.0 r.TooManyDeclarations).least ≡ None → (b.least ≡ None) × Made b x e n (broken_if c (behind d) x.token.0 r.TooManyDeclarations)
+    known d true clean = absurd (never_none b.least (fault x.token.0 r.TooManyDeclarations) clean)
+    known d false clean = (clean, (false, ap (slice_get (knowing d ++ new_row x e n false ∷ [])) (sym (matching_length (slice_get b.tables.declarations d.0) next b.tables.declarations d.0)) ∙ more_here (knowing d) (new_row x e n false)))
+
+    either : (d : DeclNo) (c : Bool) → (if c then matched b x e n d else declared_twice b x (Some d)).least ≡ None → (b.least ≡ None) × Made b x e n (if c then matched b x e n d else declared_twice b x (Some d))
+    either d true clean = known d (nat_eq b.own 65535) clean
+    either d false clean = absurd (never_none b.least (fault x.token.0 r.DeclaredTwice) clean)
+
+    again : (o : Option DeclNo) → (declared_again b x e n o).least ≡ None → (b.least ≡ None) × Made b x e n (declared_again b x e n o)
+    again None clean = absurd (never_none b.least (fault x.token.0 r.DeclaredTwice) clean)
+    again (Some d) clean = either d (is_match e (entry_of b.tables d)) clean
 
     go : (c : Bool) → (if c then declared_again b x e n (declared_in (Some found) x.name) else declared_new b x e n found).least ≡ None
         → (b.least ≡ None) × Made b x e n (if c then declared_again b x e n (declared_in (Some found) x.name) else declared_new b x e n found)
-    go true clean = absurd (again (declared_in (Some found) x.name) clean)
+    go true clean = again (declared_in (Some found) x.name) clean
     go false clean = new (nat_eq b.own 65535) clean
       where
         after : BuildingOf
@@ -82,12 +100,12 @@ declared_row b x e n (Some found) row alone is clean = go (list_any (bytes_eq x.
 
         new : (c : Bool) → (broken_if c after x.token.0 r.TooManyDeclarations).least ≡ None → (b.least ≡ None) × Made b x e n (broken_if c after x.token.0 r.TooManyDeclarations)
         new true clean = absurd (never_none b.least (fault x.token.0 r.TooManyDeclarations) clean)
-        new false clean = (clean, more_here b.tables.declarations (new_row x e n true))
+        new false clean = (clean, (true, more_here b.tables.declarations (new_row x e n true)))
 
-pub declared_clean : (b : BuildingOf) (x : Identifier) (e : Entry) (n : ℕ) (row : BlockOf) → Unmatched b.tables e → b.current ≡ Some n → slice_get b.tables.blocks n ≡ Some row → (declared b x e).least ≡ None → (b.least ≡ None) × Made b x e n (declared b x e)
-declared_clean b x e n row alone cur at clean =
+pub declared_clean : (b : BuildingOf) (x : Identifier) (e : Entry) (n : ℕ) (row : BlockOf) → b.current ≡ Some n → slice_get b.tables.blocks n ≡ Some row → (declared b x e).least ≡ None → (b.least ≡ None) × Made b x e n (declared b x e)
+declared_clean b x e n row cur at clean =
     subst (λ o. (b.least ≡ None) × Made b x e n (declared_inside b x e o)) (sym cur)
-    (declared_row b x e n (slice_get b.tables.blocks n) row alone at (subst (λ o. (declared_inside b x e o).least ≡ None) cur clean))
+    (declared_row b x e n (slice_get b.tables.blocks n) row at (subst (λ o. (declared_inside b x e o).least ≡ None) cur clean))
 
 -- ---- what changes no blocks
 
@@ -158,24 +176,28 @@ pub inner_quiet : (b : BuildingOf) (token : ℕ) (o : Option ℕ) → Quiet b (i
 inner_quiet b token None = (refl, λ q. q)
 inner_quiet b token (Some n) = inner_found b token n (slice_get b.tables.blocks n)
 
-declared_within : (b : BuildingOf) (x : Identifier) (e : Entry) (n : ℕ) (o : Option BlockOf) → Unmatched b.tables e → (declared_at b x e n o).tables.qualifications ≡ b.tables.qualifications
-declared_within b x e n None alone = refl
-declared_within b x e n (Some found) alone = go (list_any (bytes_eq x.name) found.names)
+declared_within : (b : BuildingOf) (x : Identifier) (e : Entry) (n : ℕ) (o : Option BlockOf) → (declared_at b x e n o).tables.qualifications ≡ b.tables.qualifications
+declared_within b x e n None = refl
+declared_within b x e n (Some found) = go (list_any (bytes_eq x.name) found.names)
   where
     if_same : (a : Bool) (c : BuildingOf) → (broken_if a c x.token.0 r.TooManyDeclarations).tables.qualifications ≡ c.tables.qualifications
     if_same true c = refl
     if_same false c = refl
 
+    either : (d : DeclNo) (c : Bool) → (if c then matched b x e n d else declared_twice b x (Some d)).tables.qualifications ≡ b.tables.qualifications
+    either d true = if_same (nat_eq b.own 65535) _
+    either d false = refl
+
     again : (o : Option DeclNo) → (declared_again b x e n o).tables.qualifications ≡ b.tables.qualifications
     again None = refl
-    again (Some d) = subst (λ c. (if c then matched b x e n d else declared_twice b x (Some d)).tables.qualifications ≡ b.tables.qualifications) (sym (alone.1 d)) refl
+    again (Some d) = either d (is_match e (entry_of b.tables d))
 
     go : (c : Bool) → (if c then declared_again b x e n (declared_in (Some found) x.name) else declared_new b x e n found).tables.qualifications ≡ b.tables.qualifications
     go true = again (declared_in (Some found) x.name)
     go false = if_same (nat_eq b.own 65535) _
 
-pub declared_refs : (b : BuildingOf) (x : Identifier) (e : Entry) (n : ℕ) → Unmatched b.tables e → b.current ≡ Some n → (declared b x e).tables.qualifications ≡ b.tables.qualifications
-declared_refs b x e n alone cur = subst (λ o. (declared_inside b x e o).tables.qualifications ≡ b.tables.qualifications) (sym cur) (declared_within b x e n (slice_get b.tables.blocks n) alone)
+pub declared_refs : (b : BuildingOf) (x : Identifier) (e : Entry) (n : ℕ) → b.current ≡ Some n → (declared b x e).tables.qualifications ≡ b.tables.qualifications
+declared_refs b x e n cur = subst (λ o. (declared_inside b x e o).tables.qualifications ≡ b.tables.qualifications) (sym cur) (declared_within b x e n (slice_get b.tables.blocks n))
 
 -- a block that has a class
 pub holding_same : (b : BuildingOf) (o : Option ℕ) → ((changed b holding_class o).least ≡ b.least) × ((changed b holding_class o).tables.qualifications ≡ b.tables.qualifications) × ((changed b holding_class o).tables.declarations ≡ b.tables.declarations)
@@ -328,19 +350,23 @@ pub record Clean (b : BuildingOf) (ts : List Text) (os : List Open) : Type 0 whe
 
 pub param_stays : (old new : Entry) → Becomes old new → IsParameter old → IsParameter new
 param_stays old new (inl e) p = subst IsParameter (sym e) p
-param_stays old new (inr q) p = q.3
+param_stays old new (inr (inl q)) p = q.3
+param_stays old new (inr (inr q)) p = absurd (subst IsParameter q.2 p)
 
 pub param_was : (old new : Entry) → Becomes old new → IsParameter new → IsParameter old
 param_was old new (inl e) p = subst IsParameter e p
-param_was old new (inr q) p = subst IsParameter (sym q.1) tt
+param_was old new (inr (inl q)) p = subst IsParameter (sym q.1) tt
+param_was old new (inr (inr q)) p = absurd (subst IsParameter q.3 p)
 
 refs_stay : (old new : Entry) → Becomes old new → OfReferences old → OfReferences new
 refs_stay old new (inl e) p = subst OfReferences (sym e) p
-refs_stay old new (inr q) p = absurd (subst OfReferences q.1 p)
+refs_stay old new (inr (inl q)) p = absurd (subst OfReferences q.1 p)
+refs_stay old new (inr (inr q)) p = subst OfReferences (sym q.3) (subst OfReferences q.2 p)
 
 array_was : (old new : Entry) (ty : SimType) (n : ℕ) → Becomes old new → new ≡ entry.Array ty n → old ≡ entry.Array ty n
 array_was old new ty n (inl e) is = sym e ∙ is
-array_was old new ty n (inr q) is = absurd (subst IsParameter is q.3)
+array_was old new ty n (inr (inl q)) is = absurd (subst IsParameter is q.3)
+array_was old new ty n (inr (inr q)) is = absurd (let e : entry.Virtual q.0 (Some q.1) ≡ entry.Array ty n = sym q.3 ∙ is in cc)
 
 -- ---- steps
 
@@ -374,7 +400,8 @@ module _ (b c : BuildingOf) (New : ℕ → Declaration → Type 0) (s : Step b c
     where
       same : (new : Declaration) → Becomes f.row.entry new.entry → new.entry ≡ e
       same new (inl q) = q ∙ f.entry
-      same new (inr q) = absurd (subst OwnEntry (sym f.entry ∙ q.1) f.own)
+      same new (inr (inl q)) = absurd (subst OwnEntry (sym f.entry ∙ q.1) f.own)
+      same new (inr (inr q)) = absurd (subst OwnEntry (sym f.entry ∙ q.2) f.own)
 
   owed_stays : (os : List Open) → Stack b.tables.blocks ts b.current os → (n : ℕ) (m : Mark) → OwedAt b.tables.blocks b.current os n m → OwedAt c.tables.blocks c.current os n m
   owed_stays os k n m q = subst (λ z. OwedAt c.tables.blocks z os n m) (sym s.current) (owed_kept b.tables.blocks c.tables.blocks ts keeps os b.current n m k q)
@@ -395,7 +422,8 @@ module _ (b c : BuildingOf) (New : ℕ → Declaration → Type 0) (s : Step b c
 
       go : Becomes old.entry row.entry → (y : Identifier) × (y.name ≡ row.name) × OwedAt c.tables.blocks c.current os row.block (Headed y) × (row.listed ≡ true)
       go (inl e) = found w (sym e ∙ is)
-      go (inr q) = found q.0 q.1
+      go (inr (inl q)) = found q.0 q.1
+      go (inr (inr q)) = absurd (let e : entry.Virtual q.0 (Some q.1) ≡ entry.Unspecified w = sym q.3 ∙ is in cc)
 
   pub references_stay : c.tables.qualifications ≡ b.tables.qualifications → (os : List Open) → Clean b ts os → (q : ℕ) (x : Qualification) → slice_get c.tables.qualifications q ≡ Some x → (row : Declaration) × (slice_get c.tables.declarations x.declaration.0 ≡ Some row) × OfReferences row.entry
   references_stay same os f q x at =
@@ -419,7 +447,7 @@ module _ (b c : BuildingOf) (New : ℕ → Declaration → Type 0) (s : Step b c
       → (old : Declaration) × (slice_get b.tables.declarations d.0 ≡ Some old) × Changed old row
   old_row os f new k d row a at = go (s.rows d.0 row at)
     where
-      go : ((old : Declaration) × (slice_get b.tables.declarations d.0 ≡ Some old) × Changed old row) ⊎ (New d.0 row × Among (record { 0 = d.0 }) (numbers_in (slice_get c.tables.blocks row.block)) × (AllEven b.tables.blocks → declared_in (slice_get c.tables.blocks row.block) row.name ≡ Some (record { 0 = d.0 })))
+      go : RowIs b c New d.0 row
           → (old : Declaration) × (slice_get b.tables.declarations d.0 ≡ Some old) × Changed old row
       go (inl q) = q
       go (inr q) =
@@ -469,7 +497,7 @@ module _ (b c : BuildingOf) (New : ℕ → Declaration → Type 0) (s : Step b c
               let lt : n < old.formals = q.back n d w.0 p w.1 (param_was w.0.entry r.entry w.2.entry param) in omega (arith, same)
           back n d r t param (inr p) = absurd (none (s.rows d.0 r t))
             where
-              none : ((prior : Declaration) × (slice_get b.tables.declarations d.0 ≡ Some prior) × Changed prior r) ⊎ (New d.0 r × Among (record { 0 = d.0 }) (numbers_in (slice_get c.tables.blocks r.block)) × (AllEven b.tables.blocks → declared_in (slice_get c.tables.blocks r.block) r.name ≡ Some (record { 0 = d.0 }))) → ⊥
+              none : RowIs b c New d.0 r → ⊥
               none (inl u) = let e : length b.tables.declarations ≡ d.0 = ap (λ (z : DeclNo). z.0) p.1 in let lt : d.0 < length b.tables.declarations = slice_get_within b.tables.declarations d.0 u.0 u.1 in omega arith
               none (inr u) = other d.0 r u.0 param
 
@@ -480,7 +508,7 @@ module _ (b c : BuildingOf) (New : ℕ → Declaration → Type 0) (s : Step b c
       was : OwedAt b.tables.blocks b.current os n (Headed y)
       was = owed_was os k n (Headed y) q
 
-      go : ((old : Declaration) × (slice_get b.tables.declarations d ≡ Some old) × Changed old row) ⊎ (New d row × Among (record { 0 = d }) (numbers_in (slice_get c.tables.blocks row.block)) × (AllEven b.tables.blocks → declared_in (slice_get c.tables.blocks row.block) row.name ≡ Some (record { 0 = d }))) → IsParameter row.entry
+      go : RowIs b c New d row → IsParameter row.entry
       go (inl p) = param_stays p.0.entry row.entry p.2.entry (g.early n y was d p.0 p.1 (sym p.2.block ∙ is) (sym p.2.listed ∙ l))
       go (inr p) = newly d row p.0 y (subst (λ z. OwedAt b.tables.blocks b.current os z (Headed y)) (sym is) was)
 
@@ -497,7 +525,7 @@ step_clean b c New s ts os f new other past spans same g = record {
   origins = origins_stay b c New s ts same os g;
 }
   where
-    heads : (d : ℕ) (row : Declaration) (w : Option WrittenMode) → row.entry ≡ entry.Unspecified w → ((old : Declaration) × (slice_get b.tables.declarations d ≡ Some old) × Changed old row) ⊎ (New d row × Among (record { 0 = d }) (numbers_in (slice_get c.tables.blocks row.block)) × (AllEven b.tables.blocks → declared_in (slice_get c.tables.blocks row.block) row.name ≡ Some (record { 0 = d })))
+    heads : (d : ℕ) (row : Declaration) (w : Option WrittenMode) → row.entry ≡ entry.Unspecified w → RowIs b c New d row
         → (y : Identifier) × (y.name ≡ row.name) × OwedAt c.tables.blocks c.current os row.block (Headed y) × (row.listed ≡ true)
     heads d row w is (inl q) = heads_stay b c New s ts os f.stack g d row q.0 w q.1 q.2 is
     heads d row w is (inr q) = absurd (other d row q.0 (subst IsParameter (sym is) tt))

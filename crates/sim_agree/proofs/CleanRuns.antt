@@ -28,10 +28,12 @@ use Rattle.sim_meaning.specs.Entries.{numbers_in}
 use Rattle.sim_sound.specs.Held.{Among}
 use Rattle.sim_meaning.specs.Texts.{BlockText, ClassText, ConnectionText, ProcedureText, Text, PrefixedText}
 use Rattle.sim_agree.proofs.Calm.{class_calm, declared_calm, inner_calm, moded_calm, specified_calm, prefix_calm, guards_calm}
-use Rattle.sim_agree.proofs.Groups.{AreReferences, Grouped, Has, NoBreaks, NoHeaded, OfReferences, Open, Quals, block, breaks_rule, closes, connects, declared_in_text, declares, declares_class, headed, here, inner_mark, item, moded, nothing, own_marks, parameter, procedure, qualifies, specified, there, unqualified, prefixes, guarded, prefixed_block, standard_block, standard_class, whole_prefix}
-use Rattle.sim_agree.proofs.Steps.{Declared, IsParameter, Nothing, Step, Unmatched, class_step, class_unmatched, declared_latest, declared_step, headed_step, inner_step, last_cases, met, moded_step, own_unmatched, parameter_step, procedure_unmatched, quals_step, rule_step, specified_met, unspecified_unmatched, prefix_step, guards_step}
-use Rattle.sim_agree.proofs.Fine.{Agree, Fine, KindIs, Stack, With, begun_keeps, closed_agrees, fresh, same_around, step_fine}
-use Rattle.sim_agree.proofs.FineRuns.{Owes, block_agrees, class_agrees, declares_agrees, owes_heading, owes_none, parameter_agrees, procedure_agrees, quiet_agrees, run_both, standard_run_agree, step_agrees, prefix_kind}
+use Rattle.sim_agree.proofs.Groups.{AreReferences, Grouped, Has, NoBreaks, NoHeaded, OfReferences, Open, Quals, block, breaks_rule, closes, connects, declared_in_text, declares, declares_class, headed, here, inner_mark, item, moded, nothing, own_marks, parameter, procedure, qualifies, specified, specifies_virtual, there, unqualified, prefixes, guarded, prefixed_block, standard_block, standard_class, whole_prefix}
+use Rattle.sim_agree.proofs.Steps.{IsParameter, Nothing, Step}
+use Rattle.sim_agree.proofs.Marks.{Declared, class_step, declared_latest, declared_step, headed_step, inner_step, last_cases, met, moded_step, own_unmatched, parameter_step, procedure_unmatched, quals_step, rule_step, specified_met, prefix_step, guards_step, virtual_unmatched}
+use Rattle.sim_agree.proofs.Fine.{Agree, Fine, KindIs, Stack, With, begun_keeps, same_around, step_fine}
+use Rattle.sim_agree.proofs.FineBlocks.{closed_agrees, fresh}
+use Rattle.sim_agree.proofs.FineRuns.{Owes, block_agrees, class_agrees, declares_agrees, owes_heading, owes_none, parameter_agrees, procedure_agrees, quiet_agrees, run_both, standard_run_agree, step_agrees, prefix_kind, virtual_agrees}
 use Rattle.sim_agree.proofs.Owned.{Owned, closed_owned, opened_owned, owned_step}
 use Rattle.sim_agree.proofs.Covered.{Covered, closed_covers, covered_stays, declared_alone, declared_covered, holding_refs, inner_covers, moded_covers, opened_least, opened_same, specified_covered, prefix_covers, guards_covers}
 use Rattle.sim_agree.proofs.Clean.{Clean, Counts, Made, Origin, OwedAt, RowFor, SpecifiedRow, WrittenFor, declared_clean, declared_refs, headed_clean, holding_same, if_clean, inner_quiet, moded_quiet, never_none, out, owed_kept, quals_clean, quals_least, quiet_clean, some_same, specified_at, specified_latest, specified_quiet, prefix_quiet, guards_quiet}
@@ -40,7 +42,7 @@ use Rattle.sim_agree.proofs.BroughtClean as brought
 use Rattle.sim_agree.proofs.BroughtRows.{marks_are}
 use Rattle.sim_agree.proofs.BroughtRuns.{FreshTop, brought_is, opened_top}
 use Rattle.sim_agree.proofs.StandardPrefixes.{InFront, Spells, brought_texts}
-use Rattle.sim_agree.proofs.CleanSteps.{counted_same, declares_clean, headed_step_clean, named_clean, parameter_clean}
+use Rattle.sim_agree.proofs.CleanSteps.{counted_same, declares_clean, headed_step_clean, named_clean, parameter_clean, virtual_clean}
 
 -- ---- a block begins
 
@@ -247,10 +249,10 @@ procedure_clean : (b : BuildingOf) (text first : ℕ) (x : Text) (owed inner qua
     → (b.least ≡ None) × (Clean b ts (item x owed ∷ os) → Clean (opened (run marked (declared b h.name (entry.Procedure (result_named result) (length b.tables.blocks))) quals) kind.Procedure text first) (ts ++ ProcedureText result h a ∷ []) (item (ProcedureText result h a) inner ∷ item x owed ∷ os))
 procedure_clean b text first x owed inner quals result h a ts os row free q begins f at clean =
     let p = opened_clean c kind.Procedure text first ts (ProcedureText result h a) inner (item x owed ∷ os) begins fine clean in
-    let d = declared_clean b h.name e n row alone f.stack.1 at (sym (quals_least c0 (AreReferences (result_named result)) quals q) ∙ p.0) in (
+    let d = declared_clean b h.name e n row f.stack.1 at (sym (quals_least c0 (AreReferences (result_named result)) quals q) ∙ p.0) in (
       d.0,
       λ g. p.1 (quals_clean c0 (AreReferences (result_named result)) quals ts (item x owed ∷ os) q (last d.1) (origin d.1)
-          (named_clean b c0 h.name e n ts x owed os s (declared_calm b h.name e).spans (declared_refs b h.name e n alone f.stack.1) (λ i. i) free f.stack.1 f g)),
+          (named_clean b c0 h.name e n ts x owed os s (declared_calm b h.name e).spans (declared_refs b h.name e n f.stack.1) (λ i. i) free f.stack.1 f g)),
     )
   where
     n : ℕ
@@ -265,23 +267,20 @@ procedure_clean b text first x owed inner quals result h a ts os row free q begi
     c : BuildingOf
     c = run marked c0 quals
 
-    alone : Unmatched b.tables (entry.Procedure (result_named result) (length b.tables.blocks))
-    alone = procedure_unmatched b.tables (result_named result) (length b.tables.blocks) f.bare.virtuals
-
     s : Step b c0 (Declared (length b.tables.declarations) h.name e n)
-    s = declared_step b h.name e n alone f.stack.1
+    s = declared_step b h.name e n (procedure_unmatched (result_named result) (length b.tables.blocks)) f.stack.1
 
     fine : Fine c ts (item x owed ∷ os)
     fine = step_fine b c (Declared (length b.tables.declarations) h.name e n) (quals_step b c0 (Declared (length b.tables.declarations) h.name e n) (AreReferences (result_named result)) quals q s) ts (item x owed ∷ os) f
 
     last : Made b h.name e n c0 → AreReferences (result_named result) → (d : DeclNo) × (c0.latest ≡ Some d) × (found : Declaration) × (slice_get c0.tables.declarations d.0 ≡ Some found) × OfReferences found.entry
-    last m refs = (record { 0 = length b.tables.declarations }, declared_latest b h.name e n (new_row h.name e n true) alone f.stack.1 m, new_row h.name e n true, m, refs)
+    last m refs = (record { 0 = length b.tables.declarations }, declared_latest b h.name e n (new_row h.name e n m.0) f.stack.1 m.1, new_row h.name e n m.0, m.1, refs)
 
     -- a procedure is no array
     origin : Made b h.name e n c0 → Origin c0 quals ts
     origin m class are v is found ty i known array =
-        let same : record { 0 = length b.tables.declarations } ≡ v = some_same (record { 0 = length b.tables.declarations }) v (sym (declared_latest b h.name e n (new_row h.name e n true) alone f.stack.1 m) ∙ is) in
-        let one : new_row h.name e n true ≡ found = some_same (new_row h.name e n true) found (sym m ∙ subst (λ (z : DeclNo). slice_get c0.tables.declarations z.0 ≡ Some found) (sym same) known) in
+        let same : record { 0 = length b.tables.declarations } ≡ v = some_same (record { 0 = length b.tables.declarations }) v (sym (declared_latest b h.name e n (new_row h.name e n m.0) f.stack.1 m.1) ∙ is) in
+        let one : new_row h.name e n m.0 ≡ found = some_same (new_row h.name e n m.0) found (sym m.1 ∙ subst (λ (z : DeclNo). slice_get c0.tables.declarations z.0 ≡ Some found) (sym same) known) in
         absurd (let other : entry.Procedure (result_named result) (length b.tables.blocks) ≡ entry.Array ty i = ap (λ (z : Declaration). z.entry) one ∙ array in cc)
 
 class_clean : (b : BuildingOf) (text first : ℕ) (x : Text) (owed inner : List Mark) (prefix : Option Identifier) (h : Heading) (ds : Declarations) (ss : Statements) (ts : List Text) (os : List Open) (row : BlockOf) → NoHeaded owed
@@ -290,8 +289,8 @@ class_clean : (b : BuildingOf) (text first : ℕ) (x : Text) (owed inner : List 
     → (b.least ≡ None) × (Clean b ts (item x owed ∷ os) → Clean (opened (changed (declared b h.name (entry.Class (length b.tables.blocks))) holding_class b.current) kind.Class text first) (ts ++ ClassText prefix h ds ss ∷ []) (item (ClassText prefix h ds ss) inner ∷ item x owed ∷ os))
 class_clean b text first x owed inner prefix h ds ss ts os row free begins f at clean =
     let p = opened_clean c kind.Class text first ts (ClassText prefix h ds ss) inner (item x owed ∷ os) begins fine clean in
-    let d = declared_clean b h.name e n row alone f.stack.1 at (sym held.0 ∙ p.0) in
-    (d.0, λ g. p.1 (named_clean b c h.name e n ts x owed os s (class_calm b h.name e b.current).spans (held.1 ∙ declared_refs b h.name e n alone f.stack.1) (λ i. i) free f.stack.1 f g))
+    let d = declared_clean b h.name e n row f.stack.1 at (sym held.0 ∙ p.0) in
+    (d.0, λ g. p.1 (named_clean b c h.name e n ts x owed os s (class_calm b h.name e b.current).spans (held.1 ∙ declared_refs b h.name e n f.stack.1) (λ i. i) free f.stack.1 f g))
   where
     n : ℕ
     n = f.stack.0
@@ -307,9 +306,6 @@ class_clean b text first x owed inner prefix h ds ss ts os row free begins f at 
 
     held : (c.least ≡ c0.least) × (c.tables.qualifications ≡ c0.tables.qualifications) × (c.tables.declarations ≡ c0.tables.declarations)
     held = holding_same c0 b.current
-
-    alone : Unmatched b.tables (entry.Class (length b.tables.blocks))
-    alone = class_unmatched b.tables (length b.tables.blocks)
 
     s : Step b c (Declared (length b.tables.declarations) h.name e n)
     s = class_step b h.name (length b.tables.blocks) n f.stack.1
@@ -425,10 +421,10 @@ run_clean b ts (procedure {os = os} {ms = ms} {xs = xs} text first x owed quals 
       (λ f. subst (λ k. Clean k (ts ++ (z ∷ xs)) []) (sym parts) (subst (λ z. Clean (run marked c ms) z []) (append_assoc ts (z ∷ []) xs) (later.1 (p.1 f)))),
       quals_unbroken (AreReferences (result_named result)) quals (Opens kind.Procedure text first ∷ ms) q later.2,
       (λ v. subst Covered (sym parts) (later.3 (covered_stays (run marked c0 quals) c (opened_same (run marked c0 quals) kind.Procedure text first)
-          (declared_covered b h.name (entry.Procedure (result_named result) (length b.tables.blocks)) a.fine.stack.0 row.0 (procedure_unmatched b.tables (result_named result) (length b.tables.blocks) a.fine.bare.virtuals) a.fine.stack.1 row.1
+          (declared_covered b h.name (entry.Procedure (result_named result) (length b.tables.blocks)) a.fine.stack.0 row.0 a.fine.stack.1 row.1
           (sym (quals_least c0 (AreReferences (result_named result)) quals q) ∙ opened_least (run marked c0 quals) kind.Procedure text first later.0) quals q v)))),
       λ v. subst (λ k. Owned k (ts ++ (z ∷ xs))) (sym parts) (subst (Owned (run marked c ms)) (append_assoc ts (z ∷ []) xs)
-          (later.4 (procedure_owned b text first quals result h body ts row.0 q (procedure_unmatched b.tables (result_named result) (length b.tables.blocks) a.fine.bare.virtuals) a.fine.stack.0 a.fine.stack.1 row.1 a.fine.size later.0 v))),
+          (later.4 (procedure_owned b text first quals result h body ts row.0 q a.fine.stack.0 a.fine.stack.1 row.1 a.fine.size later.0 v))),
     )
 run_clean b ts (declares_class {os = os} {ms = ms} {xs = xs} text first x owed prefix h ds ss d n g) w a clean =
     let z : Text = ClassText prefix h ds ss in
@@ -442,7 +438,7 @@ run_clean b ts (declares_class {os = os} {ms = ms} {xs = xs} text first x owed p
       (λ f. subst (λ z. Clean (run marked c ms) z []) (append_assoc ts (z ∷ []) xs) (later.1 (p.1 f))),
       later.2,
       (λ v. later.3 (covered_stays (changed c0 holding_class b.current) c (opened_same (changed c0 holding_class b.current) kind.Class text first) (covered_stays c0 (changed c0 holding_class b.current) (holding_refs c0 b.current)
-          (declared_alone b h.name (entry.Class (length b.tables.blocks)) a.fine.stack.0 row.0 (class_unmatched b.tables (length b.tables.blocks)) a.fine.stack.1 row.1
+          (declared_alone b h.name (entry.Class (length b.tables.blocks)) a.fine.stack.0 row.0 a.fine.stack.1 row.1
           (sym (holding_same c0 b.current).0 ∙ opened_least (changed c0 holding_class b.current) kind.Class text first later.0) (λ z. z) v)))),
       λ v. subst (Owned (run marked c ms)) (append_assoc ts (z ∷ []) xs)
           (later.4 (class_owned b text first prefix h ds ss ts row.0 a.fine.stack.0 a.fine.stack.1 row.1 a.fine.size later.0 v)),
@@ -467,7 +463,7 @@ run_clean b ts (standard_class {os = os} {ms = ms} {xs = xs} p text first x owed
       standard_unbroken p first y ms later.2,
       (λ v. subst Covered (sym parts) (later.3 (standard_covered p c top first y z inner (ts ++ z ∷ []) (item x owed ∷ os) e e begun
           (covered_stays c1 c (opened_same c1 kind.Class text first) (covered_stays c0 c1 (holding_refs c0 b.current)
-          (declared_alone b h.name (entry.Class (length b.tables.blocks)) a.fine.stack.0 row.0 (class_unmatched b.tables (length b.tables.blocks)) a.fine.stack.1 row.1
+          (declared_alone b h.name (entry.Class (length b.tables.blocks)) a.fine.stack.0 row.0 a.fine.stack.1 row.1
           (sym (holding_same c0 b.current).0 ∙ opened_least c1 kind.Class text first c_clean) (λ z. z) v)))))),
       λ v. subst (λ j. Owned j (ts ++ (z ∷ (brought_texts p ++ xs)))) (sym parts) (subst (Owned (run marked k ms)) all
           (later.4 (standard_owned p c top first y z inner (ts ++ z ∷ []) (item x owed ∷ os) e e begun (class_owned b text first (Some y) h ds ss ts row.0 a.fine.stack.0 a.fine.stack.1 row.1 a.fine.size c_clean v)))),
@@ -481,9 +477,23 @@ run_clean b ts (declares {os = os} {ms = ms} {xs = xs} x owed quals y e d n own 
       p.0,
       (λ f. subst (λ k. Clean k (ts ++ xs) []) (sym parts) (later.1 (p.1 f))),
       quals_unbroken (OfReferences e) quals ms q later.2,
-      (λ v. subst Covered (sym parts) (later.3 (declared_covered b y e a.fine.stack.0 row.0 (own_unmatched b.tables e own) a.fine.stack.1 row.1 (sym (quals_least (declared b y e) (OfReferences e) quals q) ∙ later.0) quals q v))),
+      (λ v. subst Covered (sym parts) (later.3 (declared_covered b y e a.fine.stack.0 row.0 a.fine.stack.1 row.1 (sym (quals_least (declared b y e) (OfReferences e) quals q) ∙ later.0) quals q v))),
       λ v. subst (λ k. Owned k (ts ++ xs)) (sym parts) (later.4 (owned_step b c (Declared (length b.tables.declarations) y e a.fine.stack.0) ts
-          (quals_step b (declared b y e) (Declared (length b.tables.declarations) y e a.fine.stack.0) (OfReferences e) quals q (declared_step b y e a.fine.stack.0 (own_unmatched b.tables e own) a.fine.stack.1)) v)),
+          (quals_step b (declared b y e) (Declared (length b.tables.declarations) y e a.fine.stack.0) (OfReferences e) quals q (declared_step b y e a.fine.stack.0 (own_unmatched e own) a.fine.stack.1)) v)),
+    )
+run_clean b ts (specifies_virtual {os = os} {ms = ms} {xs = xs} x owed quals y result d n q g) w a clean =
+    let row = row_of b ts _ a.fine a.fine.stack.0 x a.fine.stack.2 in
+    let e : Entry = entry.Virtual (result_named result) None in
+    let c : BuildingOf = run marked (declared b y e) quals in
+    let parts : run marked (declared b y e) (quals ++ ms) ≡ run marked c ms = run_both (declared b y e) quals ms in
+    let later = run_clean c ts g w (virtual_agrees b x owed quals y (result_named result) ts os d q a) (ap (λ (k : BuildingOf). k.least) (sym parts) ∙ clean) in
+    let p = virtual_clean b x owed quals y (result_named result) ts os row.0 n q a.fine row.1 later.0 in (
+      p.0,
+      (λ f. subst (λ k. Clean k (ts ++ xs) []) (sym parts) (later.1 (p.1 f))),
+      quals_unbroken (AreReferences (result_named result)) quals ms q later.2,
+      (λ v. subst Covered (sym parts) (later.3 (declared_covered b y e a.fine.stack.0 row.0 a.fine.stack.1 row.1 (sym (quals_least (declared b y e) (AreReferences (result_named result)) quals q) ∙ later.0) quals q v))),
+      λ v. subst (λ k. Owned k (ts ++ xs)) (sym parts) (later.4 (owned_step b c (Declared (length b.tables.declarations) y e a.fine.stack.0) ts
+          (quals_step b (declared b y e) (Declared (length b.tables.declarations) y e a.fine.stack.0) (AreReferences (result_named result)) quals q (declared_step b y e a.fine.stack.0 (virtual_unmatched (result_named result)) a.fine.stack.1)) v)),
     )
 run_clean b ts (parameter {os = os} x owed y d has g) w a clean =
     let row = row_of b ts _ a.fine a.fine.stack.0 x a.fine.stack.2 in
@@ -496,7 +506,7 @@ run_clean b ts (parameter {os = os} x owed y d has g) w a clean =
       (λ f. later.1 (q.1 f)),
       later.2,
       (λ v. later.3 (covered_stays d (parameter_of b y) ((λ m found at refs. ap (λ z. slice_get z m) (sym same.1) ∙ at), same.2)
-          (declared_alone b y (entry.Unspecified None) a.fine.stack.0 row.0 (unspecified_unmatched b.tables None) a.fine.stack.1 row.1 (sym same.0 ∙ later.0) (λ z. z) v))),
+          (declared_alone b y (entry.Unspecified None) a.fine.stack.0 row.0 a.fine.stack.1 row.1 (sym same.0 ∙ later.0) (λ z. z) v))),
       λ v. later.4 (owned_step b (parameter_of b y) (Declared (length b.tables.declarations) y (entry.Unspecified None) a.fine.stack.0) ts (parameter_step b y a.fine.stack.0 a.fine.stack.1) v),
     )
 run_clean {os = os} b ts (moded y g) w a clean =

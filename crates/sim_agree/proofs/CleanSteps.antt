@@ -8,6 +8,7 @@ use Rattle.sim_tree.specs.declared.expr.Identifier.{Identifier}
 use Rattle.sim_scope.specs.declared.scopes.Declaration.{Declaration}
 use Rattle.sim_scope.specs.declared.types.Entry.{Entry}
 use Rattle.sim_scope.specs.declared.types.Entry.TheVariants as entry
+use Rattle.sim_scope.specs.declared.types.SimType.{SimType}
 use Rattle.sim_scope.specs.declared.types.WrittenMode.{WrittenMode}
 use Rattle.sim_scope.specs.Building.{BuildingOf, Declares, Headed, Mark, counted, counted_in, declared, found_in, headed as headed_of, marked, parameter as parameter_of, row_of as new_row, unspecified_at, unspecified_in}
 use Rattle.sim_scope.specs.Runs.{run}
@@ -18,8 +19,9 @@ use Rattle.sim_meaning.specs.Entries.{numbers_in}
 use Rattle.sim_sound.specs.Held.{Among}
 use Rattle.sim_meaning.specs.Texts.{Text}
 use Rattle.sim_agree.proofs.Calm.{declared_calm, headed_calm, span}
-use Rattle.sim_agree.proofs.Groups.{ArrayWritten, Has, NoHeaded, OfReferences, Open, OwnEntry, Quals, declared_in_text, has_cases, item, there, Written}
-use Rattle.sim_agree.proofs.Steps.{AllEven, Becomes, Changed, Declared, IsParameter, Nothing, Step, Unmatched, declared_latest, declared_step, headed_step, own_unmatched, parameter_step, unspecified_unmatched, among_at}
+use Rattle.sim_agree.proofs.Groups.{AreReferences, ArrayWritten, Has, NoHeaded, OfReferences, Open, OwnEntry, Quals, declared_in_text, has_cases, item, there, Written}
+use Rattle.sim_agree.proofs.Steps.{Becomes, IsParameter, Nothing, RowIs, Step, shown, among_at}
+use Rattle.sim_agree.proofs.Marks.{Declared, declared_latest, declared_step, headed_step, own_unmatched, parameter_step, unspecified_unmatched, virtual_unmatched}
 use Rattle.sim_agree.proofs.Fine.{Fine}
 use Rattle.sim_agree.proofs.Clean.{Clean, Counts, Made, Origin, OwedAt, RowFor, WrittenFor, complete_stays, declared_clean, declared_refs, early_stays, headed_clean, heading_past, heads_stay, old_row, origins_stay, param_stays, param_was, quals_clean, quals_least, quiet_clean, references_stay, some_same, step_clean}
 
@@ -93,32 +95,29 @@ no_headed_under y e owed free z h = go (has_cases h)
 pub declares_clean : (b : BuildingOf) (x : Text) (owed quals : List Mark) (y : Identifier) (e : Entry) (ts : List Text) (os : List Open) (row : BlockOf) → NoHeaded owed → OwnEntry e → Quals (OfReferences e) quals → Written e y quals (declared_in_text x) → (f : Fine b ts (item x (Declares y e ∷ owed) ∷ os)) → slice_get b.tables.blocks f.stack.0 ≡ Some row
     → (run marked (declared b y e) quals).least ≡ None → (b.least ≡ None) × (Clean b ts (item x (Declares y e ∷ owed) ∷ os) → Clean (run marked (declared b y e) quals) ts (item x owed ∷ os))
 declares_clean b x owed quals y e ts os row free own q written f at clean =
-    let d = declared_clean b y e f.stack.0 row alone f.stack.1 at (sym (quals_least c (OfReferences e) quals q) ∙ clean) in (
+    let d = declared_clean b y e f.stack.0 row f.stack.1 at (sym (quals_least c (OfReferences e) quals q) ∙ clean) in (
       d.0,
       λ g. quals_clean c (OfReferences e) quals ts (item x owed ∷ os) q (last d.1) (origin d.1)
           (pop_declares c ts x y e owed os f.stack.0 (s.current ∙ f.stack.1) (made d.1)
-          (named_clean b c y e f.stack.0 ts x (Declares y e ∷ owed) os s (declared_calm b y e).spans (declared_refs b y e f.stack.0 alone f.stack.1) (own_other e own) (no_headed_under y e owed free) f.stack.1 f g)),
+          (named_clean b c y e f.stack.0 ts x (Declares y e ∷ owed) os s (declared_calm b y e).spans (declared_refs b y e f.stack.0 f.stack.1) (own_other e own) (no_headed_under y e owed free) f.stack.1 f g)),
     )
   where
     c : BuildingOf
     c = declared b y e
 
-    alone : Unmatched b.tables e
-    alone = own_unmatched b.tables e own
-
     s : Step b (declared b y e) (Declared (length b.tables.declarations) y e f.stack.0)
-    s = declared_step b y e f.stack.0 (own_unmatched b.tables e own) f.stack.1
+    s = declared_step b y e f.stack.0 (own_unmatched e own) f.stack.1
 
     made : Made b y e f.stack.0 (declared b y e) → RowFor (declared b y e) f.stack.0 y e
-    made m = record { number = length b.tables.declarations; row = new_row y e f.stack.0 true; at = m; name = refl; token = refl; block = refl; entry = refl; own = own }
+    made m = record { number = length b.tables.declarations; row = new_row y e f.stack.0 m.0; at = m.1; name = refl; token = refl; block = refl; entry = refl; own = own }
 
     last : Made b y e f.stack.0 (declared b y e) → OfReferences e → (d : DeclNo) × ((declared b y e).latest ≡ Some d) × (found : Declaration) × (slice_get (declared b y e).tables.declarations d.0 ≡ Some found) × OfReferences found.entry
-    last m refs = (record { 0 = length b.tables.declarations }, declared_latest b y e f.stack.0 (new_row y e f.stack.0 true) (own_unmatched b.tables e own) f.stack.1 m, new_row y e f.stack.0 true, m, refs)
+    last m refs = (record { 0 = length b.tables.declarations }, declared_latest b y e f.stack.0 (new_row y e f.stack.0 m.0) f.stack.1 m.1, new_row y e f.stack.0 m.0, m.1, refs)
 
     origin : Made b y e f.stack.0 (declared b y e) → Origin (declared b y e) quals ts
     origin m class are d is found ty n known array =
-        let same : record { 0 = length b.tables.declarations } ≡ d = some_same (record { 0 = length b.tables.declarations }) d (sym (declared_latest b y e f.stack.0 (new_row y e f.stack.0 true) (own_unmatched b.tables e own) f.stack.1 m) ∙ is) in
-        let one : new_row y e f.stack.0 true ≡ found = some_same (new_row y e f.stack.0 true) found (sym m ∙ subst (λ (z : DeclNo). slice_get (declared b y e).tables.declarations z.0 ≡ Some found) (sym same) known) in
+        let same : record { 0 = length b.tables.declarations } ≡ d = some_same (record { 0 = length b.tables.declarations }) d (sym (declared_latest b y e f.stack.0 (new_row y e f.stack.0 m.0) f.stack.1 m.1) ∙ is) in
+        let one : new_row y e f.stack.0 m.0 ≡ found = some_same (new_row y e f.stack.0 m.0) found (sym m.1 ∙ subst (λ (z : DeclNo). slice_get (declared b y e).tables.declarations z.0 ≡ Some found) (sym same) known) in
         subst (λ z. WrittenFor ts z class) one (record {
           text = x;
           at = f.stack.2;
@@ -126,6 +125,35 @@ declares_clean b x owed quals y e ts os row free own q written f at clean =
           token = refl;
           written = subst (λ z. ArrayWritten y z (declared_in_text x)) are (subst (λ z. Written z y quals (declared_in_text x)) (ap (λ (z : Declaration). z.entry) one ∙ array) written);
         })
+
+-- a virtual of a class
+pub virtual_clean : (b : BuildingOf) (x : Text) (owed quals : List Mark) (y : Identifier) (result : Option SimType) (ts : List Text) (os : List Open) (row : BlockOf) → NoHeaded owed → Quals (AreReferences result) quals → (f : Fine b ts (item x owed ∷ os)) → slice_get b.tables.blocks f.stack.0 ≡ Some row
+    → (run marked (declared b y (entry.Virtual result None)) quals).least ≡ None → (b.least ≡ None) × (Clean b ts (item x owed ∷ os) → Clean (run marked (declared b y (entry.Virtual result None)) quals) ts (item x owed ∷ os))
+virtual_clean b x owed quals y result ts os row free q f at clean =
+    let d = declared_clean b y (entry.Virtual result None) f.stack.0 row f.stack.1 at (sym (quals_least (declared b y (entry.Virtual result None)) (AreReferences result) quals q) ∙ clean) in (
+      d.0,
+      λ g. quals_clean c (AreReferences result) quals ts (item x owed ∷ os) q (last d.1) (origin d.1)
+          (named_clean b c y e f.stack.0 ts x owed os s (declared_calm b y e).spans (declared_refs b y e f.stack.0 f.stack.1) (λ i. i) free f.stack.1 f g),
+    )
+  where
+    e : Entry
+    e = entry.Virtual result None
+
+    c : BuildingOf
+    c = declared b y (entry.Virtual result None)
+
+    s : Step b (declared b y (entry.Virtual result None)) (Declared (length b.tables.declarations) y (entry.Virtual result None) f.stack.0)
+    s = declared_step b y (entry.Virtual result None) f.stack.0 (virtual_unmatched result) f.stack.1
+
+    last : Made b y (entry.Virtual result None) f.stack.0 (declared b y (entry.Virtual result None)) → AreReferences result → (d : DeclNo) × ((declared b y (entry.Virtual result None)).latest ≡ Some d) × (found : Declaration) × (slice_get (declared b y (entry.Virtual result None)).tables.declarations d.0 ≡ Some found) × OfReferences found.entry
+    last m refs = (record { 0 = length b.tables.declarations }, declared_latest b y e f.stack.0 (new_row y e f.stack.0 m.0) f.stack.1 m.1, new_row y e f.stack.0 m.0, m.1, refs)
+
+    -- a virtual is no array
+    origin : Made b y (entry.Virtual result None) f.stack.0 (declared b y (entry.Virtual result None)) → Origin (declared b y (entry.Virtual result None)) quals ts
+    origin m class are d is found ty n known array =
+        let same : record { 0 = length b.tables.declarations } ≡ d = some_same (record { 0 = length b.tables.declarations }) d (sym (declared_latest b y e f.stack.0 (new_row y e f.stack.0 m.0) f.stack.1 m.1) ∙ is) in
+        let one : new_row y e f.stack.0 m.0 ≡ found = some_same (new_row y e f.stack.0 m.0) found (sym m.1 ∙ subst (λ (z : DeclNo). slice_get c.tables.declarations z.0 ≡ Some found) (sym same) known) in
+        absurd (let other : entry.Virtual result None ≡ entry.Array ty n = ap (λ (z : Declaration). z.entry) one ∙ array in cc)
 
 -- ---- parameters
 
@@ -149,7 +177,7 @@ counted_here d n row is = go (slice_get d.tables.blocks n) refl is
 pub parameter_clean : (b : BuildingOf) (x : Text) (owed : List Mark) (y : Identifier) (ts : List Text) (os : List Open) (row : BlockOf) → Has (Headed y) owed → (f : Fine b ts (item x owed ∷ os)) → Fine (parameter_of b y) ts (item x owed ∷ os) → slice_get b.tables.blocks f.stack.0 ≡ Some row
     → (parameter_of b y).least ≡ None → (b.least ≡ None) × (Clean b ts (item x owed ∷ os) → Clean (parameter_of b y) ts (item x owed ∷ os))
 parameter_clean b x owed y ts os row has f fc at clean =
-    let q = declared_clean b y (entry.Unspecified None) n row (unspecified_unmatched b.tables None) f.stack.1 at (sym (counted_same d d.current).0 ∙ clean) in (q.0, after)
+    let q = declared_clean b y (entry.Unspecified None) n row f.stack.1 at (sym (counted_same d d.current).0 ∙ clean) in (q.0, after)
   where
     n : ℕ
     n = f.stack.0
@@ -170,10 +198,10 @@ parameter_clean b x owed y ts os row has f fc at clean =
     s = parameter_step b y n f.stack.1
 
     kept : c.tables.qualifications ≡ b.tables.qualifications
-    kept = (counted_same d d.current).2 ∙ declared_refs b y (entry.Unspecified None) n (unspecified_unmatched b.tables None) f.stack.1
+    kept = (counted_same d d.current).2 ∙ declared_refs b y (entry.Unspecified None) n f.stack.1
 
     now : d.current ≡ Some n
-    now = (declared_step b y (entry.Unspecified None) n (unspecified_unmatched b.tables None) f.stack.1).current ∙ f.stack.1
+    now = (declared_step b y (entry.Unspecified None) n (unspecified_unmatched None) f.stack.1).current ∙ f.stack.1
 
     after : Clean b ts (item x owed ∷ os) → Clean (parameter_of b y) ts (item x owed ∷ os)
     after g = record {
@@ -186,10 +214,10 @@ parameter_clean b x owed y ts os row has f fc at clean =
     }
       where
         heads : (e : ℕ) (found : Declaration) (w : Option WrittenMode) → found.entry ≡ entry.Unspecified w
-            → ((old : Declaration) × (slice_get b.tables.declarations e ≡ Some old) × Changed old found) ⊎ (Declared (length b.tables.declarations) y (entry.Unspecified None) n e found × Among (record { 0 = e }) (numbers_in (slice_get c.tables.blocks found.block)) × (AllEven b.tables.blocks → declared_in (slice_get c.tables.blocks found.block) found.name ≡ Some (record { 0 = e })))
+            → RowIs b c New e found
             → (z : Identifier) × (z.name ≡ found.name) × OwedAt c.tables.blocks c.current stack found.block (Headed z) × (found.listed ≡ true)
         heads e found w is (inl q) = heads_stay b c New s ts stack f.stack g e found q.0 w q.1 q.2 is
-        heads e found w is (inr q) = (y, sym q.0.1.0, inl (s.current ∙ f.stack.1 ∙ ap Some (sym q.0.1.2), has), q.0.1.4)
+        heads e found w is (inr q) = (y, sym q.0.1.0, inl (s.current ∙ f.stack.1 ∙ ap Some (sym q.0.1.2), has), shown (entry.Unspecified None) found.listed refl q.0.1.4)
 
         early : (m : ℕ) (z : Identifier) → OwedAt c.tables.blocks c.current stack m (Headed z) → (e : ℕ) (found : Declaration) → slice_get c.tables.declarations e ≡ Some found → found.block ≡ m → found.listed ≡ true → IsParameter found.entry
         early = early_stays b c New s ts stack fc.stack (λ e found p z q. subst IsParameter (sym p.1.3) tt) g
@@ -279,7 +307,7 @@ headed_step_clean b x owed y ts os g clean =
             same_name : Headed z ≡ Headed y → z ≡ y
             same_name e = cc
 
-            old : (row : Declaration) → ((prior : Declaration) × (slice_get b.tables.declarations d ≡ Some prior) × Changed prior row) ⊎ (Nothing d row × Among (record { 0 = d }) (numbers_in (slice_get c.tables.blocks row.block)) × (AllEven b.tables.blocks → declared_in (slice_get c.tables.blocks row.block) row.name ≡ Some (record { 0 = d })))
+            old : (row : Declaration) → RowIs b c Nothing d row
                 → row.entry ≡ entry.Unspecified w → row.name ≡ y.name → b.current ≡ Some row.block → row.listed ≡ true → ⊥
             old row (inr p) is named cur l = p.0
             old row (inl p) is named cur l =
@@ -289,7 +317,8 @@ headed_step_clean b x owed y ts os g clean =
               where
                 unspec : Becomes p.0.entry row.entry → (v : Option WrittenMode) × (p.0.entry ≡ entry.Unspecified v)
                 unspec (inl e) = (w, sym e ∙ is)
-                unspec (inr e) = (e.0, e.1)
+                unspec (inr (inl e)) = (e.0, e.1)
+                unspec (inr (inr e)) = absurd (let v : entry.Virtual e.0 (Some e.1) ≡ entry.Unspecified w = sym e.3 ∙ is in cc)
 
             go : (Headed z ≡ Headed y) ⊎ Has (Headed z) owed → (v : Identifier) × (v.name ≡ row.name) × OwedAt c.tables.blocks c.current next row.block (Headed v) × (row.listed ≡ true)
             go (inr p) = (z, name, inl (q.0, p), l)

@@ -276,7 +276,7 @@ class_was n (entry.Constant ty) new (inr f) g = absurd (let h : entry.Constant (
 class_was n (entry.Array ty m) new (inr f) g = absurd (let h : entry.Array (t.Ref f.1.0) m ≡ entry.Class n = sym f.1.1 ∙ g in cc)
 class_was n (entry.Procedure result m) new (inr f) g = absurd (let h : entry.Procedure (type_to f.1.0 result) m ≡ entry.Class n = sym f.1.1 ∙ g in cc)
 class_was n (entry.Class m) new (inr f) g = absurd f.0
-class_was n (entry.Virtual result m) new (inr f) g = absurd f.0
+class_was n (entry.Virtual result m) new (inr f) g = absurd (let h : entry.Virtual (type_to f.1.0 result) m ≡ entry.Class n = sym f.1.1 ∙ g in cc)
 class_was n (entry.Formal x) new (inr f) g = absurd (let h : entry.Formal (record x { ty = type_to f.1.0 x.ty }) ≡ entry.Class n = sym f.1.1 ∙ g in cc)
 class_was n (entry.Unspecified w) new (inr f) g = absurd f.0
 class_was n (entry.Attribute name given result) new (inr f) g = absurd f.0

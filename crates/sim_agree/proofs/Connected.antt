@@ -6,7 +6,7 @@ use Rattle.std.proofs.lemmas.List.{length-set}
 use Rattle.std.proofs.lemmas.Option.{slice_get_within}
 use Rattle.sim_base.specs.declared.numbering.DeclNo.{DeclNo}
 use Rattle.sim_tree.specs.declared.expr.Identifier.{Identifier}
-use Rattle.sim_tree.specs.Order.{InOrder}
+use Rattle.sim_agree.specs.Order.{InOrder}
 use Rattle.sim_tree.specs.Syntax.{Expression}
 use Rattle.sim_scope.specs.declared.outcome.Extent.TheVariants.{Statement}
 use Rattle.sim_scope.specs.declared.outcome.Side.{Side}
@@ -50,7 +50,6 @@ use Rattle.sim_agree.proofs.Settled as b
 use Rattle.sim_agree.proofs.Settled.{Alike, Settled}
 use Rattle.sim_agree.proofs.SettledJudged as j
 use Rattle.sim_agree.proofs.Tables as t
-use Rattle.sim_agree.proofs.Unprefixed.{NoVirtuals}
 use Rattle.sim_agree.proofs.ClassRows.{no_class_connection}
 
 -- ---- steps change nothing but what a connection connects
@@ -209,8 +208,13 @@ module _ (s : Source) (of : TablesOf s) (plain : Plain s.program) (order : InOrd
     settled : (k : ℕ) → Apart s.tables.places k es → Settled c.tables s.tables k
     settled k apart = sym (ap (λ (z : Tables). slice_get z.blocks k) is ∙ run_apart es c k (subst (λ z. Apart z k es) grown.places apart))
 
-    bare : NoVirtuals c.tables.declarations
-    bare = let u = t.shows s of plain order in λ d row at. u.virtuals d row (ap (λ (ds : List Declaration). slice_get ds d) grown.declarations ∙ at)
+    -- nothing stands in a connection
+    stands_solid : (d : DeclNo) (row : Declaration) → slice_get c.tables.declarations d.0 ≡ Some row → is_connection (text s row.block) ≡ false
+    stands_solid d row at = go (is_connection (text s row.block)) refl
+      where
+        go : (z : Bool) → is_connection (text s row.block) ≡ z → is_connection (text s row.block) ≡ false
+        go false e = e
+        go true e = absurd (t.nothing_stands_in_connections s of plain order row.block e d (row, ap (λ (ds : List Declaration). slice_get ds d.0) grown.declarations ∙ at, refl))
 
     -- what is numbered below the later connections is as it will be
     alike : (l m : ℕ) → AllOpened es (declared_by s.program).tables.blocks → LooksTo s l es m → Alike c.tables s.tables (λ k. k < l)
@@ -227,8 +231,7 @@ module _ (s : Source) (of : TablesOf s) (plain : Plain s.program) (order : InOrd
       levels = λ k n e f. (let q = t.connects s of plain order k n (sym (ap base_in e) ∙ f) in settled n (body_apart n (no_class_connection (text s n) q) es opened));
       bodies = λ d k e. settled k (body_apart k (body_text d k (ap (λ (ds : List Declaration). block_in (entry_in (slice_get ds d.0))) grown.declarations ∙ e)) es opened);
       standards = λ k. sym (grown.standards k);
-      first = bare;
-      last = (let u = t.shows s of plain order in u.virtuals);
+      stand = λ d row at. settled row.block (body_apart row.block (stands_solid d row at) es opened);
     }
 
     class_type_same : (l m : ℕ) → AllOpened es (declared_by s.program).tables.blocks → LooksTo s l es m → (x : Option SimType) → class_of_type c.tables x ≡ class_of_type s.tables x

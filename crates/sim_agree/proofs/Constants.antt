@@ -9,7 +9,7 @@ use Rattle.sim_tree.specs.declared.stmt.Constant.{Constant}
 use Rattle.sim_tree.specs.declared.stmt.TypeName.{TypeName}
 use Rattle.sim_tree.specs.declared.stmt.Variable.{Variable}
 use Rattle.sim_tree.specs.Syntax.{Arrayed, Arrays, Declaration as Declared, Declarations, DeclareClass, DeclareProcedure, NoDeclaration, Variables, With}
-use Rattle.sim_tree.specs.Order.{InOrder}
+use Rattle.sim_agree.specs.Order.{InOrder}
 use Rattle.sim_scope.specs.declared.scopes.Declaration.{Declaration}
 use Rattle.sim_scope.specs.declared.types.Entry.{Entry}
 use Rattle.sim_scope.specs.declared.types.Entry.TheVariants as entry
@@ -18,7 +18,7 @@ use Rattle.sim_scope.specs.Building.{Declares, Mark, typed_or_none}
 use Rattle.sim_scope.specs.Standard.{parameter_of, result_of}
 use Rattle.sim_scope.specs.Declare.{result_named, type_named}
 use Rattle.sim_scope.specs.Runs.{each}
-use Rattle.sim_scope.specs.Scopes.{entry_of}
+use Rattle.sim_scope.specs.Scopes.{entry_of, is_virtual}
 use Rattle.sim_scope.specs.Source.{Source}
 use Rattle.sim_values.specs.Plain.{Plain as Value}
 use Rattle.sim_meaning.specs.Texts.{BlockText, ClassText, ConnectionText, PrefixedText, ProcedureText, StandardText, Text, among_declarations, among_variables, constant_in, constant_of, constant_value, kind_of_type, row_constant, text, value_in}
@@ -27,7 +27,7 @@ use Rattle.sim_agree.specs.Plain.{Plain}
 use Rattle.sim_agree.specs.TablesOf.{TablesOf}
 use Rattle.sim_agree.proofs.Groups.{Has, OwnEntry, here, own_array, own_marks, own_segment, own_variable, there}
 use Rattle.sim_agree.proofs.Steps.{Parametric}
-use Rattle.sim_agree.proofs.Fine.{Alike, Own, RowIn, attribute_row, class_row, formal_row, own_row, procedure_row, simulation_row}
+use Rattle.sim_agree.proofs.Fine.{Alike, Own, RowIn, attribute_row, class_row, formal_row, own_row, procedure_row, simulation_row, virtual_row}
 use Rattle.sim_agree.proofs.Tables as t
 use Rattle.sim_agree.proofs.Tables.{Bs, Ts}
 use Rattle.sim_agree.proofs.TextOrder.{Between, between_le, between_split, own_tokens, segment_tokens, text_in_order, variable_tokens}
@@ -235,5 +235,6 @@ constant_at s of plain order d ty e =
     go row at same x there_ (procedure_row y p) = absurd (subst (Alike (entry.Procedure (result_named p.result) p.number)) same p.entry)
     go row at same x there_ (class_row y p) = absurd (let z : entry.Class p.number ≡ entry.Constant ty = sym p.entry ∙ same in cc)
     go row at same x there_ (formal_row y p l) = absurd (subst Parametric same p)
+    go row at same x there_ (virtual_row y p l) = absurd (let z : false ≡ true = sym (ap is_virtual same) ∙ p in cc)
     go row at same x there_ (attribute_row y p) = absurd (let z : entry.Attribute p.name (typed_or_none (Some p.first) (parameter_of p.name)) (typed_or_none (Some p.first) (result_of p.name)) ≡ entry.Constant ty = sym p.entry ∙ same in cc)
     go row at same x there_ (simulation_row y p) = absurd (let z : entry.Attribute p.name (typed_or_none (Some p.first) (parameter_of p.name)) (typed_or_none (Some p.first) (result_of p.name)) ≡ entry.Constant ty = sym p.entry ∙ same in cc)

@@ -1,5 +1,5 @@
 -- Each declaration of references has a qualification: what each mark does to that.
-use Rattle.std.proofs.Common.{◌≡◌, ◌+◌, ℕ, zero, suc, Bool, true, false, List, [], ◌∷◌, ◌++◌, length, Option, Some, None, refl, sym, ap, ◌∙◌, subst, arith, if◌then◌else◌}
+use Rattle.std.proofs.Common.{◌≡◌, ℕ, zero, suc, Bool, true, false, List, [], ◌∷◌, ◌++◌, length, Option, Some, None, refl, sym, ap, ◌∙◌, subst, arith, if◌then◌else◌}
 use Rattle.std.specs.Prelude.{◌&&◌, nat_eq, nat_lt, not, slice_get, slice_set}
 use Rattle.std.specs.List.{list_any}
 use Rattle.std.specs.Str.{bytes_eq}
@@ -18,15 +18,14 @@ use Rattle.sim_scope.specs.declared.types.FormalKind.{FormalKind}
 use Rattle.sim_scope.specs.declared.types.Mode.TheVariants as mode
 use Rattle.sim_scope.specs.declared.types.SimType.{SimType}
 use Rattle.sim_scope.specs.declared.types.WrittenMode.{WrittenMode}
-use Rattle.sim_scope.specs.Building.{BuildingOf, Mark, block_around, broken_if, changed, closed, closed_at, declared, declared_again, declared_at, declared_inside, declared_new, declared_twice, entered, holding_class, in_class, inner, inner_at, inner_in, is_procedure, level_in, marked, matched, mode_allowed, moded as moded_of, moded_as, most_levels, opened, qualified, row_of as new_row, specified as specified_of, specified_as, token_in, unspecified_in, with_mode, with_name, changed_row, prefixed_by, guards, guards_at}
-use Rattle.sim_scope.specs.Found.{fault}
+use Rattle.sim_scope.specs.Building.{BuildingOf, Mark, block_around, broken_if, changed, closed, closed_at, declared, declared_again, declared_at, declared_inside, declared_new, declared_twice, entered, holding_class, in_class, inner, inner_at, inner_in, is_match, is_procedure, level_in, marked, matched, matching, mode_allowed, moded as moded_of, moded_as, most_levels, opened, qualified, row_matching, row_of as new_row, specified as specified_of, specified_as, token_in, unspecified_in, with_mode, changed_row, prefixed_by, guards, guards_at}
 use Rattle.sim_scope.specs.Runs.{run}
 use Rattle.sim_scope.specs.Scopes.{declared_in, entry_of}
 use Rattle.sim_scope.specs.Tables.{BlockOf}
 use Rattle.sim_scope.proofs.Kept.{more_here, more_other, set_here, set_other}
-use Rattle.sim_agree.proofs.Clean.{SpecifiedRow, declared_refs, holding_same, if_clean, never_none, specified_quiet}
+use Rattle.sim_agree.proofs.Clean.{Made, SpecifiedRow, declared_clean, declared_refs, holding_same, if_clean, specified_quiet}
 use Rattle.sim_agree.proofs.Groups.{AreReferences, OfReferences, Quals, qualifies, unqualified}
-use Rattle.sim_agree.proofs.Steps.{Unmatched, declared_latest}
+use Rattle.sim_agree.proofs.Marks.{declared_latest, matching_length}
 
 abbrev pub HasQualification : List Qualification → ℕ → Type 0
 HasQualification qs d = (i : ℕ) × (x : Qualification) × (slice_get qs i ≡ Some x) × (x.declaration.0 ≡ d)
@@ -136,43 +135,77 @@ closed_covers b end o v = covered_stays b (closed b end o) (closed_same b end o)
 
 -- ---- what is declared
 
-declared_list_at : (b : BuildingOf) (x : Identifier) (e : Entry) (n : ℕ) (o : Option BlockOf) (row : BlockOf) → Unmatched b.tables e → o ≡ Some row → (declared_at b x e n o).least ≡ None → (declared_at b x e n o).tables.declarations ≡ b.tables.declarations ++ new_row x e n true ∷ []
-declared_list_at b x e n None row alone is clean = absurd (cc)
-declared_list_at b x e n (Some found) row alone is clean = go (list_any (bytes_eq x.name) found.names) clean
+matching_refs : (e : Entry) (d : DeclNo) → OfReferences (matching e d) → OfReferences e
+matching_refs (entry.Variable ty) d refs = refs
+matching_refs (entry.Constant ty) d refs = refs
+matching_refs (entry.Array ty n) d refs = refs
+matching_refs (entry.Procedure result k) d refs = refs
+matching_refs (entry.Class k) d refs = refs
+matching_refs (entry.Virtual result own) d refs = refs
+matching_refs (entry.Formal f) d refs = refs
+matching_refs (entry.Unspecified w) d refs = refs
+matching_refs (entry.Attribute name given result) d refs = refs
+
+-- a virtual that knows its match is of the same references
+knowing_refs : (ds : List Declaration) (v next : DeclNo) (o : Option Declaration) → slice_get ds v.0 ≡ o → (m : ℕ) (row : Declaration) → slice_get (row_matching o next ds v.0) m ≡ Some row → OfReferences row.entry → (old : Declaration) × (slice_get ds m ≡ Some old) × OfReferences old.entry
+knowing_refs ds v next None at m row is refs = (row, is, refs)
+knowing_refs ds v next (Some known) at m row is refs = go (nat_eq v.0 m) refl
   where
-    again : (o : Option DeclNo) → (declared_again b x e n o).least ≡ None → ⊥
-    again None q = never_none b.least (fault x.token.0 r.DeclaredTwice) q
-    again (Some d) q = subst (λ c. (if c then matched b x e n d else declared_twice b x (Some d)).least ≡ None → ⊥) (sym (alone.1 d)) (λ p. never_none b.least (fault x.token.0 r.DeclaredTwice) p) q
+    new : Declaration
+    new = record known { entry = matching known.entry next }
 
-    go : (c : Bool) → (if c then declared_again b x e n (declared_in (Some found) x.name) else declared_new b x e n found).least ≡ None
-        → (if c then declared_again b x e n (declared_in (Some found) x.name) else declared_new b x e n found).tables.declarations ≡ b.tables.declarations ++ new_row x e n true ∷ []
-    go true clean = absurd (again (declared_in (Some found) x.name) clean)
-    go false clean = new (nat_eq b.own 65535) clean
-      where
-        after : BuildingOf
-        after = record b {
-          tables = record b.tables {
-            blocks = slice_set b.tables.blocks n (with_name found x.name (record { 0 = length b.tables.declarations }));
-            declarations = b.tables.declarations ++ new_row x e n true ∷ [];
-          };
-          own = b.own + 1;
-          latest = Some (record { 0 = length b.tables.declarations });
-        }
+    go : (c : Bool) → nat_eq v.0 m ≡ c → (old : Declaration) × (slice_get ds m ≡ Some old) × OfReferences old.entry
+    go true z =
+        let same : v.0 ≡ m = grind (arith, nat_tests) in
+        let one : new ≡ row = some_same new row (sym (set_here ds v.0 known new at) ∙ subst (λ k. slice_get (slice_set ds v.0 new) k ≡ Some row) (sym same) is) in
+        (known, subst (λ k. slice_get ds k ≡ Some known) same at, matching_refs known.entry next (subst (λ (w : Declaration). OfReferences w.entry) (sym one) refs))
+    go false z = (row, sym (set_other ds v.0 m new z) ∙ is, refs)
 
-        new : (c : Bool) → (broken_if c after x.token.0 r.TooManyDeclarations).least ≡ None → (broken_if c after x.token.0 r.TooManyDeclarations).tables.declarations ≡ b.tables.declarations ++ new_row x e n true ∷ []
-        new true clean = absurd (never_none b.least (fault x.token.0 r.TooManyDeclarations) clean)
-        new false clean = refl
+-- what is of references was there before, but for the last one
+declared_others_at : (b : BuildingOf) (x : Identifier) (e : Entry) (n : ℕ) (o : Option BlockOf) (m : ℕ) (row : Declaration) → nat_eq m (length b.tables.declarations) ≡ false → slice_get (declared_at b x e n o).tables.declarations m ≡ Some row → OfReferences row.entry
+    → (old : Declaration) × (slice_get b.tables.declarations m ≡ Some old) × OfReferences old.entry
+declared_others_at b x e n None m row other at refs = (row, at, refs)
+declared_others_at b x e n (Some found) m row other at refs = go (list_any (bytes_eq x.name) found.names) at
+  where
+    Was : Type 0
+    Was = (old : Declaration) × (slice_get b.tables.declarations m ≡ Some old) × OfReferences old.entry
 
-declared_list : (b : BuildingOf) (x : Identifier) (e : Entry) (n : ℕ) (row : BlockOf) → Unmatched b.tables e → b.current ≡ Some n → slice_get b.tables.blocks n ≡ Some row → (declared b x e).least ≡ None → (declared b x e).tables.declarations ≡ b.tables.declarations ++ new_row x e n true ∷ []
-declared_list b x e n row alone cur at clean =
-    subst (λ o. (declared_inside b x e o).tables.declarations ≡ b.tables.declarations ++ new_row x e n true ∷ []) (sym cur)
-    (declared_list_at b x e n (slice_get b.tables.blocks n) row alone at (subst (λ o. (declared_inside b x e o).least ≡ None) cur clean))
+    next : DeclNo
+    next = record { 0 = length b.tables.declarations }
+
+    knowing : DeclNo → List Declaration
+    knowing d = row_matching (slice_get b.tables.declarations d.0) next b.tables.declarations d.0
+
+    if_there : (a : Bool) (c : BuildingOf) (token : ℕ) (rule : Rule) → slice_get (broken_if a c token rule).tables.declarations m ≡ Some row → slice_get c.tables.declarations m ≡ Some row
+    if_there true c token rule h = h
+    if_there false c token rule h = h
+
+    known : (d : DeclNo) → slice_get (knowing d ++ new_row x e n false ∷ []) m ≡ Some row → Was
+    known d h =
+        let long : length (knowing d) ≡ length b.tables.declarations = matching_length (slice_get b.tables.declarations d.0) next b.tables.declarations d.0 in
+        knowing_refs b.tables.declarations d next (slice_get b.tables.declarations d.0) refl m row (sym (more_other (knowing d) (new_row x e n false) m (ap (nat_eq m) long ∙ other)) ∙ h) refs
+
+    either : (d : DeclNo) (c : Bool) → slice_get (if c then matched b x e n d else declared_twice b x (Some d)).tables.declarations m ≡ Some row → Was
+    either d true h = known d (if_there (nat_eq b.own 65535) _ x.token.0 r.TooManyDeclarations h)
+    either d false h = (row, h, refs)
+
+    again : (o : Option DeclNo) → slice_get (declared_again b x e n o).tables.declarations m ≡ Some row → Was
+    again None h = (row, h, refs)
+    again (Some d) h = either d (is_match e (entry_of b.tables d)) h
+
+    go : (c : Bool) → slice_get (if c then declared_again b x e n (declared_in (Some found) x.name) else declared_new b x e n found).tables.declarations m ≡ Some row → Was
+    go true h = again (declared_in (Some found) x.name) h
+    go false h = (row, sym (more_other b.tables.declarations (new_row x e n true) m other) ∙ if_there (nat_eq b.own 65535) _ x.token.0 r.TooManyDeclarations h, refs)
+
+declared_others : (b : BuildingOf) (x : Identifier) (e : Entry) (n : ℕ) → b.current ≡ Some n → (m : ℕ) (row : Declaration) → nat_eq m (length b.tables.declarations) ≡ false → slice_get (declared b x e).tables.declarations m ≡ Some row → OfReferences row.entry
+    → (old : Declaration) × (slice_get b.tables.declarations m ≡ Some old) × OfReferences old.entry
+declared_others b x e n cur m row other at refs = declared_others_at b x e n (slice_get b.tables.blocks n) m row other (subst (λ o. slice_get (declared_inside b x e o).tables.declarations m ≡ Some row) cur at) refs
 
 -- one declaration is new or newly specified, and the class of its references stands behind it
-module _ (b c : BuildingOf) (d : ℕ) (R : Type 0) (latest : R → c.latest ≡ Some (record { 0 = d })) (others : (m : ℕ) → nat_eq d m ≡ false → slice_get c.tables.declarations m ≡ slice_get b.tables.declarations m)
+module _ (b c : BuildingOf) (d : ℕ) (R : Type 0) (latest : R → c.latest ≡ Some (record { 0 = d })) (others : (m : ℕ) (row : Declaration) → nat_eq d m ≡ false → slice_get c.tables.declarations m ≡ Some row → OfReferences row.entry → (old : Declaration) × (slice_get b.tables.declarations m ≡ Some old) × OfReferences old.entry)
     (own : (row : Declaration) → slice_get c.tables.declarations d ≡ Some row → OfReferences row.entry → R) (same : c.tables.qualifications ≡ b.tables.qualifications) (v : Covered b) where
   old_one : (m : ℕ) (row : Declaration) → nat_eq d m ≡ false → slice_get c.tables.declarations m ≡ Some row → OfReferences row.entry → HasQualification c.tables.qualifications m
-  old_one m row other at refs = let q = v m row (sym (others m other) ∙ at) refs in (q.0, q.1, ap (λ z. slice_get z q.0) same ∙ q.2, q.3)
+  old_one m row other at refs = let o = others m row other at refs in let q = v m o.0 o.1 o.2 in (q.0, q.1, ap (λ z. slice_get z q.0) same ∙ q.2, q.3)
 
   more_at : (xs ys : List Qualification) (i : ℕ) (x : Qualification) → slice_get xs i ≡ Some x → slice_get (xs ++ ys) i ≡ Some x
   more_at [] ys i x is = absurd (cc)
@@ -195,24 +228,21 @@ module _ (b c : BuildingOf) (d : ℕ) (R : Type 0) (latest : R → c.latest ≡ 
       go m row at refs true e = let here : d ≡ m = grind (arith, nat_tests) in (length c.tables.qualifications, new, more_here c.tables.qualifications new, here)
       go m row at refs false e = let o = old_one m row e at refs in (o.0, o.1, more_at c.tables.qualifications (new ∷ []) o.0 o.1 o.2, o.3)
 
-pub declared_covered : (b : BuildingOf) (x : Identifier) (e : Entry) (n : ℕ) (row : BlockOf) → Unmatched b.tables e → b.current ≡ Some n → slice_get b.tables.blocks n ≡ Some row → (declared b x e).least ≡ None → (quals : List Mark) → Quals (OfReferences e) quals → Covered b → Covered (run marked (declared b x e) quals)
-declared_covered b x e n row alone cur at clean quals q v =
+pub declared_covered : (b : BuildingOf) (x : Identifier) (e : Entry) (n : ℕ) (row : BlockOf) → b.current ≡ Some n → slice_get b.tables.blocks n ≡ Some row → (declared b x e).least ≡ None → (quals : List Mark) → Quals (OfReferences e) quals → Covered b → Covered (run marked (declared b x e) quals)
+declared_covered b x e n row cur at clean quals q v =
     named_covered b (declared b x e) (length b.tables.declarations) (OfReferences e)
-    (λ refs. declared_latest b x e n (new_row x e n true) alone cur made)
-    (λ m other. ap (λ z. slice_get z m) rows ∙ more_other b.tables.declarations (new_row x e n true) m (let P : nat_eq m (length b.tables.declarations) ≡ false = grind (arith, nat_tests) in P))
-    (λ found there refs. (let one : new_row x e n true ≡ found = some_same (new_row x e n true) found (sym made ∙ there) in subst (λ (w : Declaration). OfReferences w.entry) (sym one) refs))
-    (declared_refs b x e n alone cur) v quals q
+    (λ refs. declared_latest b x e n (new_row x e n made.0) cur made.1)
+    (λ m found other there refs. declared_others b x e n cur m found (let P : nat_eq m (length b.tables.declarations) ≡ false = grind (arith, nat_tests) in P) there refs)
+    (λ found there refs. (let one : new_row x e n made.0 ≡ found = some_same (new_row x e n made.0) found (sym made.1 ∙ there) in subst (λ (w : Declaration). OfReferences w.entry) (sym one) refs))
+    (declared_refs b x e n cur) v quals q
   where
-    rows : (declared b x e).tables.declarations ≡ b.tables.declarations ++ new_row x e n true ∷ []
-    rows = declared_list b x e n row alone cur at clean
-
-    made : slice_get (declared b x e).tables.declarations (length b.tables.declarations) ≡ Some (new_row x e n true)
-    made = ap (λ z. slice_get z (length b.tables.declarations)) rows ∙ more_here b.tables.declarations (new_row x e n true)
+    made : Made b x e n (declared b x e)
+    made = (declared_clean b x e n row cur at clean).1
 
 -- what is no reference needs no class
-pub declared_alone : (b : BuildingOf) (x : Identifier) (e : Entry) (n : ℕ) (row : BlockOf) → Unmatched b.tables e → b.current ≡ Some n → slice_get b.tables.blocks n ≡ Some row → (declared b x e).least ≡ None → (OfReferences e → ⊥) → Covered b → Covered (declared b x e)
+pub declared_alone : (b : BuildingOf) (x : Identifier) (e : Entry) (n : ℕ) (row : BlockOf) → b.current ≡ Some n → slice_get b.tables.blocks n ≡ Some row → (declared b x e).least ≡ None → (OfReferences e → ⊥) → Covered b → Covered (declared b x e)
 unfolding run
-declared_alone b x e n row alone cur at clean free v = declared_covered b x e n row alone cur at clean [] (unqualified free) v
+declared_alone b x e n row cur at clean free v = declared_covered b x e n row cur at clean [] (unqualified free) v
 
 -- ---- what is specified
 
@@ -236,6 +266,6 @@ pub specified_covered : (b : BuildingOf) (token : TokenNo) (k : FormalKind) (ty 
     → (quals : List Mark) → Quals (AreReferences ty) quals → Covered b → Covered (run marked (specified_of b token k ty o) quals)
 specified_covered b token k ty o d is latest s quals q v =
     named_covered b (specified_of b token k ty o) d.0 (AreReferences ty) (λ refs. latest)
-    (λ m other. subst (λ z. slice_get (specified_of b token k ty z).tables.declarations m ≡ slice_get b.tables.declarations m) (sym is) (specified_others b token k ty d (unspecified_in (entry_of b.tables d)) m other))
+    (λ m row other at refs. (row, sym (subst (λ z. slice_get (specified_of b token k ty z).tables.declarations m ≡ slice_get b.tables.declarations m) (sym is) (specified_others b token k ty d (unspecified_in (entry_of b.tables d)) m other)) ∙ at, refs))
     (λ row there refs. (let one : s.row ≡ row = some_same s.row row (sym s.at ∙ there) in subst OfReferences (ap (λ (w : Declaration). w.entry) (sym one) ∙ s.entry) refs))
     (specified_quiet b token k ty o).0 v quals q

@@ -7,7 +7,8 @@ use Rattle.std.proofs.lemmas.Bool.Decides.{nat_tests}
 use Rattle.sim_base.specs.declared.rule.Rule.{Rule}
 use Rattle.sim_base.specs.declared.rule.Rule.TheVariants as r
 use Rattle.sim_tree.specs.declared.expr.Identifier.{Identifier}
-use Rattle.sim_tree.specs.Order.{Ascends, InOrder, Spot}
+use Rattle.sim_tree.specs.Order.{Ascends, Spot}
+use Rattle.sim_agree.specs.Order.{InOrder}
 use Rattle.sim_tree.specs.Syntax.{Program}
 use Rattle.sim_scope.specs.declared.types.BlockKind.{BlockKind}
 use Rattle.sim_scope.specs.declared.types.BlockKind.TheVariants as kind
@@ -30,7 +31,7 @@ use Rattle.sim_agree.proofs.StandardPrefixes.{Spells}
 use Rattle.sim_scope.specs.declared.types.StandardPrefix.{StandardPrefix}
 use Rattle.sim_agree.proofs.Laid.{Frame, Held, Laid, block, breaks_rule, closes, connects, declares, declares_class, headed, inner_mark, leaves, moded, nothing, parameter, passes, procedure, program, program_laid, specified, uses, Prefs, prefixed, unprefixed, guarded, prefixed_block, standard_block, standard_class}
 use Rattle.sim_agree.proofs.Spots.{reached}
-use Rattle.sim_agree.proofs.Steps.{met}
+use Rattle.sim_agree.proofs.Marks.{met}
 
 -- the first token of a block, the token behind it, and the block around it
 abbrev placed_span : Option Span → Option (ℕ × ℕ × Option ℕ)
@@ -565,7 +566,7 @@ run_deep b from (nothing e) a d = (from, d)
 run_deep b from (uses x u i g) a d = run_deep b (i + 1) g a.1 (later_deep b from (i + 1) (let le : from ≤ i = a.0 in omega arith) d)
 run_deep b from (passes i g) a d = run_deep b (i + 1) g a.1 (later_deep b from (i + 1) (let le : from ≤ i = a.0 in omega arith) d)
 run_deep b from (leaves i g) a d = run_deep b i g a.1 (later_deep b from i a.0 d)
-run_deep b from (declares {ms = ms} quals x e own q g) a d =
+run_deep b from (declares {ms = ms} quals x e may q g) a d =
     let c : BuildingOf = run marked (declared b x e) quals in
     subst (λ z. (to : ℕ) × Deep z to) (sym (run_both (declared b x e) quals ms))
     (run_deep c (x.token.0 + 1) g a.1 (later_deep c from (x.token.0 + 1) (let le : from ≤ x.token.0 = a.0 in omega arith)

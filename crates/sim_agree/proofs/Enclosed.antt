@@ -1,7 +1,7 @@
 -- A connection stands in a text.
 use Rattle.std.proofs.Common.{◌≡◌, ℕ, zero, suc, true, false, List, [], ◌∷◌, ◌++◌, Option, Some, None, refl, sym, ap, ◌∙◌}
 use Rattle.std.specs.Prelude.{map, slice_get}
-use Rattle.sim_tree.specs.Order.{InOrder}
+use Rattle.sim_agree.specs.Order.{InOrder}
 use Rattle.sim_tree.specs.Syntax.{Also, Arms, Arrays, Begin, Block, Declaration, Declarations, DeclareClass, DeclareProcedure, NoArm, NoDeclaration, NoStatement, Statement, Statements, Variables, When, With, Expressions, Prefix}
 use Rattle.sim_tree.specs.Syntax as syntax
 use Rattle.sim_scope.specs.declared.types.StandardClass.{StandardClass}

@@ -1,35 +1,35 @@
 -- What an identifier denotes in an allowed plain program, and in which block it is found.
-use Rattle.std.proofs.Common.{◌≡◌, ◌<◌, ◌⊎◌, inl, inr, ℕ, zero, suc, Bool, true, false, List, length, Option, Some, None, refl, sym, ap, ◌∙◌, subst, arith, if◌then◌else◌}
+use Rattle.std.proofs.Common.{◌≡◌, ◌<◌, ℕ, zero, suc, Bool, true, false, List, length, Option, Some, None, refl, sym, ap, ◌∙◌, subst, if◌then◌else◌}
 use Rattle.std.specs.Prelude.{◌||◌, nat_eq, slice_get}
 use Rattle.std.specs.Option.{option_or}
-use Rattle.std.proofs.lemmas.Bool.Decides.{nat_tests}
 use Rattle.std.proofs.lemmas.Option.{slice_get_within}
 use Rattle.sim_base.specs.declared.numbering.DeclNo.{DeclNo}
-use Rattle.sim_tree.specs.Order.{InOrder}
+use Rattle.sim_agree.specs.Order.{InOrder}
+use Rattle.sim_scope.specs.declared.scopes.Declaration.{Declaration}
 use Rattle.sim_scope.specs.declared.scopes.Denotation.TheVariants as denotation
 use Rattle.sim_scope.specs.declared.standard.StandardName.{StandardName}
 use Rattle.sim_scope.specs.declared.types.Entry.{Entry}
 use Rattle.sim_scope.specs.Access.{block_at, encloser}
 use Rattle.sim_scope.specs.Along.{first_along, from_next}
 use Rattle.sim_scope.specs.Calls.{attribute_in, detach_or_none}
-use Rattle.sim_scope.specs.Levels.{base, has_level, holds, level_beyond, some_level_of}
-use Rattle.sim_scope.specs.Scopes.{beyond, binding, declaration_from, declared_or_standard, ends_search, entry_of, found_in, if_found, is_shown, outward, represented, searched, shown, shown_of}
+use Rattle.sim_scope.specs.Levels.{has_level, level_beyond, some_level_of}
+use Rattle.sim_scope.specs.Scopes.{beyond, binding, declaration_from, declared_or_standard, ends_search, entry_of, found_in, if_found, is_shown, outward, represented, searched, shown}
 use Rattle.sim_scope.specs.Source.{Source, block_of}
 use Rattle.sim_meaning.specs.Attributes.{is_connection}
 use Rattle.sim_meaning.specs.Texts.{text}
-use Rattle.sim_sound.specs.Held.{Around, further, itself}
+use Rattle.sim_sound.specs.Held as held
+use Rattle.sim_sound.specs.Held.{Around, further}
 use Rattle.sim_agree.specs.Facts.{Found, FoundThrough}
 use Rattle.sim_agree.specs.Plain.{Plain}
 use Rattle.sim_agree.specs.TablesOf.{TablesOf}
 use Rattle.sim_agree.proofs.Tables as t
-use Rattle.sim_agree.proofs.Prefixing.{Reaches, shown_reaches}
-use Rattle.sim_agree.proofs.Unprefixed.{Shown, Showing, StandsIn, declared_is, shown_next, stands_for_itself}
+use Rattle.sim_agree.proofs.Chains as chains
+use Rattle.sim_agree.proofs.Prefixing as reach
+use Rattle.sim_agree.proofs.Prefixing.{Reaches, shown_reaches, through}
+use Rattle.sim_agree.proofs.Unprefixed.{FoundIn, Showing, Stands, StandsIn, behind, denoted_by, here, itself, lookup_stands, matches, stands}
 
 some_same : {A : Type 0} (a b : A) → Some a ≡ Some b → a ≡ b
 some_same a b e = cc
-
-same_number : (k : ℕ) → nat_eq k k ≡ true
-same_number k = grind (arith, nat_tests)
 
 in_range : {A : Type 0} (xs : List A) (n : ℕ) (o : Option A) → slice_get xs n ≡ o → (x : A) → o ≡ Some x → n < length xs
 in_range xs n o at x e = slice_get_within xs n x (at ∙ e)
@@ -42,69 +42,58 @@ module _ (s : Source) (of : TablesOf s) (plain : Plain s.program) (order : InOrd
   block_stands : (k : ℕ) (d : DeclNo) → StandsIn s.tables k d → block_of s d ≡ k
   block_stands k d q = t.block_is s of plain order d q.0 q.1 ∙ q.2
 
-  -- what is shown is declared at a level
-  shown_level : (n : ℕ) (from : Option ℕ) (k : ℕ) (name : List ℕ) (d : DeclNo) → shown_of s.tables n from k name ≡ Some d → some_level_of s.tables n (λ b. nat_eq b (block_of s d)) k ≡ true
-  unfolding some_level_of shown_of
-  shown_level zero from k name d e = absurd (cc)
-  shown_level (suc n) from k name d e = go (shown_next s.tables bare n from k name d e) (λ c f. shown_level n from c name d f)
-    where
-      or_true : (x y : Bool) → y ≡ true → (x || y) ≡ true
-      or_true true y e = refl
-      or_true false y e = e
+  reaches_both : {k l b : ℕ} → Reaches s.tables k l → Reaches s.tables l b → Reaches s.tables k b
+  reaches_both reach.itself r = r
+  reaches_both (through e q) r = through e (reaches_both q r)
 
-      go : Shown s.tables k d ⊎ ((c : ℕ) × (base s.tables k ≡ Some c) × (shown_of s.tables n from c name ≡ Some d)) → ((c : ℕ) → shown_of s.tables n from c name ≡ Some d → some_level_of s.tables n (λ b. nat_eq b (block_of s d)) c ≡ true)
-          → (nat_eq k (block_of s d) || holds (λ b. some_level_of s.tables n (λ b. nat_eq b (block_of s d)) b) (base s.tables k)) ≡ true
-      go (inl l) rest =
-          let own : block_of s d ≡ k = block_stands k d l.0 in
-          ap (λ z. z || holds (λ b. some_level_of s.tables n (λ b. nat_eq b (block_of s d)) b) (base s.tables k)) (ap (nat_eq k) own ∙ same_number k)
-      go (inr q) rest = or_true (nat_eq k (block_of s d)) _ (ap (holds (λ b. some_level_of s.tables n (λ b. nat_eq b (block_of s d)) b)) q.1 ∙ rest q.0 q.2)
+  -- a virtual that is found stands in one of the levels
+  found_stands : {name : List ℕ} {v : DeclNo} (n k : ℕ) → FoundIn s.tables name v n k → (b : ℕ) × Reaches s.tables k b × StandsIn s.tables b v
+  found_stands {name = name} {v = v} n k (here e) = (k, reach.itself, (lookup_stands s.tables bare k name v e).0)
+  found_stands n k (behind {n = m} {c = c} none up r) = let q = found_stands m c r in (q.0, through up q.1, q.2)
 
-  -- one level more changes nothing
-  level_more : (n : ℕ) (p : ℕ → Bool) (k : ℕ) → some_level_of s.tables n p k ≡ true → some_level_of s.tables (suc n) p k ≡ true
-  unfolding some_level_of
-  level_more zero p k e = absurd (cc)
-  level_more (suc n) p k e = go (p k) (base s.tables k) e (λ c f. level_more n p c f)
-    where
-      go : (a : Bool) (o : Option ℕ) → (a || holds (λ b. some_level_of s.tables n p b) o) ≡ true → ((c : ℕ) → some_level_of s.tables n p c ≡ true → some_level_of s.tables (suc n) p c ≡ true) → (a || holds (λ b. some_level_of s.tables (suc n) p b) o) ≡ true
-      go true o e rest = refl
-      go false None e rest = absurd (cc)
-      go false (Some c) e rest = rest c e
+  -- so what a declaration stands for does
+  stood : (l : ℕ) (f d : DeclNo) → StandsIn s.tables l f → Stands s.tables f d → (b : ℕ) × Reaches s.tables l b × StandsIn s.tables b d
+  stood l f d at itself = (l, reach.itself, at)
+  stood l f d at (matches row there proc is found) =
+      let same : row ≡ at.0 = some_same row at.0 (sym there ∙ at.1) in
+      let block : row.block ≡ l = ap (λ (z : Declaration). z.block) same ∙ at.2 in
+      let q = found_stands (length s.tables.blocks) row.block found in
+      (q.0, subst (λ z. Reaches s.tables z q.0) block q.1, q.2)
 
-  nothing_shown : (from : Option ℕ) (k : ℕ) (name : List ℕ) (d : DeclNo) → shown_of s.tables 0 from k name ≡ Some d → ⊥
-  unfolding shown_of
-  nothing_shown from k name d e = cc
+  level_reached : (k b : ℕ) (d : DeclNo) → Reaches s.tables k b → StandsIn s.tables b d → has_level s.tables k (block_of s d) ≡ true
+  unfolding has_level
+  level_reached k b d r at = subst (λ z. some_level_of s.tables (length s.tables.blocks) (λ c. nat_eq c z) k ≡ true) (sym (block_stands b d at)) (chains.reaches_level s.tables (length s.tables.blocks) k b (chains.all_end s of plain order k) r)
 
   -- a class that is connected shows what it shows alone
-  class_level : (from : Option ℕ) (k : ℕ) (name : List ℕ) (d : DeclNo) → is_connection (text s k) ≡ true → shown s.tables from k name ≡ Some d → (c : ℕ) × (base s.tables k ≡ Some c) × (has_level s.tables c (block_of s d) ≡ true)
-  unfolding shown has_level
-  class_level from k name d is e = by_count (length s.tables.blocks) e
-    where
-      by_count : (n : ℕ) → shown_of s.tables n from k name ≡ Some d → (c : ℕ) × (base s.tables k ≡ Some c) × (some_level_of s.tables n (λ b. nat_eq b (block_of s d)) c ≡ true)
-      by_count zero e = absurd (nothing_shown from k name d e)
-      by_count (suc n) e = go (shown_next s.tables bare n from k name d e)
-        where
-          go : Shown s.tables k d ⊎ ((c : ℕ) × (base s.tables k ≡ Some c) × (shown_of s.tables n from c name ≡ Some d)) → (c : ℕ) × (base s.tables k ≡ Some c) × (some_level_of s.tables (suc n) (λ b. nat_eq b (block_of s d)) c ≡ true)
-          go (inl l) = absurd (t.nothing_stands_in_connections s of plain order k is d l.0)
-          go (inr q) = (q.0, q.1, level_more n (λ b. nat_eq b (block_of s d)) q.0 (shown_level n from q.0 name d q.2))
+  through_class : (k b : ℕ) (d : DeclNo) → is_connection (text s k) ≡ true → Reaches s.tables k b → StandsIn s.tables b d → FoundThrough s true k (block_of s d)
+  through_class k b d is reach.itself at = absurd (t.nothing_stands_in_connections s of plain order k is d at)
+  through_class k b d is (through {b = c} up r) at = (c, up, level_reached c b d r at)
 
   record Shows (k : ℕ) (d : DeclNo) : Type 0 where
     through : FoundThrough s (is_connection (text s k)) k (block_of s d)
     entry : Entry
     is : entry_of s.tables d ≡ Some entry
 
-  shows : (from : Option ℕ) (k : ℕ) (name : List ℕ) (d : DeclNo) → shown s.tables from k name ≡ Some d → Shows k d
-  unfolding shown has_level
-  shows from k name d e = go (is_connection (text s k)) refl
+  -- what is shown stands for what is declared in a level, or is a match of it
+  shown_stands : (from : Option ℕ) (k : ℕ) (name : List ℕ) (f d : DeclNo) → shown s.tables from k name ≡ Some f → represented s.tables f ≡ d → (b : ℕ) × Reaches s.tables k b × StandsIn s.tables b d
+  unfolding shown
+  shown_stands from k name f d e rep =
+      let l = shown_reaches s.tables bare (length s.tables.blocks) from k name f e in
+      let q = stood l.0 f d l.2.0 (stands s.tables f d rep) in
+      (q.0, reaches_both l.1 q.1, q.2)
+
+  shows : (from : Option ℕ) (k : ℕ) (name : List ℕ) (f d : DeclNo) → shown s.tables from k name ≡ Some f → represented s.tables f ≡ d → Shows k d
+  shows from k name f d e rep = go (is_connection (text s k)) refl
     where
-      listed : (l : ℕ) × Reaches s.tables k l × Shown s.tables l d
-      listed = shown_reaches s.tables bare (length s.tables.blocks) from k name d e
+      q : (b : ℕ) × Reaches s.tables k b × StandsIn s.tables b d
+      q = shown_stands from k name f d e rep
 
       r : (e : Entry) × (entry_of s.tables d ≡ Some e)
-      r = (listed.2.0.0.entry, t.row_entry s of plain order d listed.2.0.0 listed.2.0.1)
+      r = (q.2.0.entry, t.row_entry s of plain order d q.2.0 q.2.1)
 
       go : (c : Bool) → is_connection (text s k) ≡ c → Shows k d
-      go false at = record { through = subst (λ z. FoundThrough s z k (block_of s d)) (sym at) (shown_level (length s.tables.blocks) from k name d e); entry = r.0; is = r.1 }
-      go true at = record { through = subst (λ z. FoundThrough s z k (block_of s d)) (sym at) (class_level from k name d at e); entry = r.0; is = r.1 }
+      go false at = record { through = subst (λ z. FoundThrough s z k (block_of s d)) (sym at) (level_reached k q.0 d q.1 q.2); entry = r.0; is = r.1 }
+      go true at = record { through = subst (λ z. FoundThrough s z k (block_of s d)) (sym at) (through_class k q.0 d at q.1 q.2); entry = r.0; is = r.1 }
 
   -- the search from block to block
   search : (token n k : ℕ) (name : List ℕ) (d : DeclNo) → searched s.tables (Some token) n k name ≡ Some d
@@ -117,7 +106,7 @@ module _ (s : Source) (of : TablesOf s) (plain : Plain s.program) (order : InOrd
           → option_or o (beyond (λ b. searched s.tables (Some token) n b name) (if c then None else b)) ≡ Some d
           → ((u : ℕ) → searched s.tables (Some token) n u name ≡ Some d → (v : ℕ) × (first_along (encloser s.tables) n (if_found s.tables token name) u ≡ Some v) × Around s.tables u v × (shown s.tables (Some token) v name ≡ Some d))
           → (u : ℕ) × (option_or (if is_shown o || c then Some k else None) (from_next (λ b. first_along (encloser s.tables) n (if_found s.tables token name) b) b) ≡ Some u) × Around s.tables k u × (shown s.tables (Some token) u name ≡ Some d)
-      go (Some f) at c b out g rest = (k, refl, itself, at ∙ g)
+      go (Some f) at c b out g rest = (k, refl, held.itself, at ∙ g)
       go None at true b out g rest = absurd (cc)
       go None at false None out g rest = absurd (cc)
       go None at false (Some u) out g rest = let q = rest u g in (q.0, q.1, further out q.2, q.3)
@@ -131,8 +120,9 @@ module _ (s : Source) (of : TablesOf s) (plain : Plain s.program) (order : InOrd
   find : (token k : ℕ) (name : List ℕ) (d : DeclNo) → block_at s.tables token ≡ Some k → binding s.tables token name ≡ Some (denotation.Declared d) → IsFound token k name d
   unfolding declaration_from found_in
   find token k name d at e =
-      let q = search token (length s.tables.blocks) k name d (ap (λ o. declaration_from s.tables (Some token) o name) (sym at) ∙ declared_is s.tables bare.virtuals token name d e) in
-      record { found = q.0; at = ap (λ o. level_beyond (first_along (encloser s.tables) (length s.tables.blocks) (if_found s.tables token name)) o) at ∙ q.1; around = q.2; shows = shows (Some token) q.0 name d q.3 }
+      let f = denoted_by s.tables token name d e in
+      let q = search token (length s.tables.blocks) k name f.0 (ap (λ o. declaration_from s.tables (Some token) o name) (sym at) ∙ f.1) in
+      record { found = q.0; at = ap (λ o. level_beyond (first_along (encloser s.tables) (length s.tables.blocks) (if_found s.tables token name)) o) at ∙ q.1; around = q.2; shows = shows (Some token) q.0 name f.0 d q.3 f.2 }
 
   pub around : (token k : ℕ) (name : List ℕ) (d : DeclNo) → block_at s.tables token ≡ Some k → binding s.tables token name ≡ Some (denotation.Declared d) → Found s token k name d
   around token k name d at e = let f = find token k name d at e in record { found = f.found; at = f.at; around = f.around; through = f.shows.through }
@@ -143,17 +133,16 @@ module _ (s : Source) (of : TablesOf s) (plain : Plain s.program) (order : InOrd
     where
       go : (o : Option ℕ) → block_at s.tables token ≡ o → (f : Entry) × (entry_of s.tables d ≡ Some f)
       go (Some k) at = let f = find token k name d at e in (f.shows.entry, f.shows.is)
-      go None at = absurd (let none : None ≡ Some d = ap (λ o. declaration_from s.tables (Some token) o name) (sym at) ∙ declared_is s.tables bare.virtuals token name d e in cc)
+      go None at = let q = denoted_by s.tables token name d e in absurd (let none : None ≡ Some q.0 = ap (λ o. declaration_from s.tables (Some token) o name) (sym at) ∙ q.1 in cc)
 
   pub attributes : (token block : ℕ) (name : List ℕ) (d : DeclNo) → attribute_in s.tables token block name ≡ Some (denotation.Declared d) → (e : Entry) × (entry_of s.tables d ≡ Some e) × (has_level s.tables block (block_of s d) ≡ true)
-  unfolding attribute_in shown has_level
+  unfolding attribute_in
   attributes token block name d e = go (shown s.tables (Some token) block name) (detach_or_none name) refl e
     where
       go : (o : Option DeclNo) (k : Option StandardName) → shown s.tables (Some token) block name ≡ o → declared_or_standard s.tables o k ≡ Some (denotation.Declared d) → (e : Entry) × (entry_of s.tables d ≡ Some e) × (has_level s.tables block (block_of s d) ≡ true)
       go (Some f) k at g =
-          let same : f ≡ d = sym (stands_for_itself s.tables bare.virtuals f) ∙ (let h : represented s.tables f ≡ d = cc in h) in
-          let at' : shown s.tables (Some token) block name ≡ Some d = at ∙ ap Some same in
-          let r = shows (Some token) block name d at' in
-          (r.entry, r.is, shown_level (length s.tables.blocks) (Some token) block name d at')
+          let rep : represented s.tables f ≡ d = cc in
+          let q = shown_stands (Some token) block name f d at rep in
+          (q.2.0.entry, t.row_entry s of plain order d q.2.0 q.2.1, level_reached block q.0 d q.1 q.2)
       go None (Some k) at g = absurd (cc)
       go None None at g = absurd (cc)

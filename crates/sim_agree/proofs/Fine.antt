@@ -1,12 +1,13 @@
 -- The tables of a plain program agree with one another and with its texts, whatever rules its declarations break.
 use Rattle.std.proofs.Common.{◌≡◌, ◌<◌, ◌+◌, ◌⊎◌, inl, inr, ℕ, zero, suc, Bool, true, false, List, [], ◌∷◌, ◌++◌, length, Option, Some, None, refl, sym, ap, ◌∙◌, subst, arith}
-use Rattle.std.specs.Prelude.{nat_eq, nat_lt, slice_get, slice_set}
+use Rattle.std.specs.Prelude.{nat_eq, nat_lt, slice_get}
+use Rattle.std.specs.List.{position_or_len}
+use Rattle.std.specs.Str.{bytes_eq}
 use Rattle.std.proofs.lemmas.List.{length-append}
 use Rattle.std.proofs.lemmas.Option.{slice_get_within}
 use Rattle.std.proofs.lemmas.Bool.Decides.{nat_tests}
+use Rattle.std.proofs.lemmas.Slice.Eq.{bytes_eq-Decides}
 use Rattle.sim_base.specs.declared.numbering.DeclNo.{DeclNo}
-use Rattle.sim_base.specs.declared.rule.Rule.{Rule}
-use Rattle.sim_base.specs.declared.rule.Rule.TheVariants as r
 use Rattle.sim_tree.specs.declared.expr.Identifier.{Identifier}
 use Rattle.sim_tree.specs.declared.stmt.TypeName.{TypeName}
 use Rattle.sim_tree.specs.Syntax.{Declarations, Heading, Statement}
@@ -20,11 +21,11 @@ use Rattle.sim_scope.specs.declared.types.StandardClass.{StandardClass}
 use Rattle.sim_scope.specs.declared.types.StandardPrefix.{StandardPrefix}
 use Rattle.sim_scope.specs.declared.types.StandardPrefix.TheVariants as prefixes
 use Rattle.sim_scope.specs.declared.types.WrittenMode.{WrittenMode}
-use Rattle.sim_scope.specs.Building.{BuildingOf, Declares, Mark, attribute_entry, block_around, broken_if, closed, closed_at, level_in, most_levels, name_of, opened, owner_of, parameter, place_of, placed, standard_base}
+use Rattle.sim_scope.specs.Building.{BuildingOf, Declares, Mark, attribute_entry, name_of, parameter, place_of, standard_base}
 use Rattle.sim_scope.specs.Declare.{result_named}
 use Rattle.sim_scope.specs.Access.{around}
 use Rattle.sim_scope.specs.Levels.{base_in}
-use Rattle.sim_scope.specs.Scopes.{declared_in}
+use Rattle.sim_scope.specs.Scopes.{declared_in, is_virtual}
 use Rattle.sim_scope.specs.Source.{level_in as level_of_row}
 use Rattle.sim_scope.specs.Standard.{class_owning}
 use Rattle.sim_scope.specs.Tables.{BlockOf, deeper}
@@ -37,10 +38,11 @@ use Rattle.sim_meaning.specs.Entries.{numbers_in}
 use Rattle.sim_meaning.specs.Levels.{is_class}
 use Rattle.sim_meaning.specs.Texts.{BlockText, ClassText, ConnectionText, ProcedureText, StandardText, Text, kind_of_type, PrefixedText}
 use Rattle.sim_sound.specs.Held.{Among}
-use Rattle.sim_agree.proofs.Groups.{Declaring, Has, Open, OwnEntry, PlainKind, Prefixing, Taking, declared_in_text, item, own_marks}
-use Rattle.sim_agree.proofs.Steps.{AllEven, Becomes, Changed, Even, Fixed, Listed, Nothing, Parametric, Step, among_at, fixed, last_cases, row_step, same_step}
+use Rattle.sim_agree.proofs.Groups.{Declaring, Has, Open, OwnEntry, Interfacing, PlainKind, Prefixing, Taking, declared_in_text, item, own_marks}
+use Rattle.sim_agree.proofs.Steps.{AllEven, Becomes, Changed, Even, Fixed, Listed, Parametric, RowIs, Step, among_at, count_false, count_true, fixed, found_at}
+use Rattle.sim_agree.proofs.Marks.{last_cases}
 use Rattle.sim_agree.proofs.StandardPrefixes.{InFront, IsBrought}
-use Rattle.sim_agree.proofs.Unprefixed.{Brings, Named, Unprefixed, brings_numbers, brings_of, brought_of, extras_in, no_extras, spelt_as, spelt_before}
+use Rattle.sim_agree.proofs.Unprefixed.{Brings, Known, Named, NamesFound, Unprefixed, brings_numbers, brings_of, brought_of, extras_in, no_extras, spelt_as, spelt_before}
 
 -- ---- the open texts
 
@@ -214,6 +216,7 @@ pub record Fine (b : BuildingOf) (ts : List Text) (os : List Open) : Type 0 wher
   pub rising : (k : ℕ) → Rising (numbers_in (slice_get b.tables.blocks k))
   pub based : (k : ℕ) → base_in (slice_get b.tables.blocks k) ≡ own_base (slice_get b.tables.blocks k)
   pub bare : Unprefixed b.tables
+  pub known : Known b.tables.declarations
   pub standards : StandardTexts b.tables.blocks ts
   pub headed : AllHeaded b.tables.blocks ts
   pub textless : Textless b.tables.blocks
@@ -265,7 +268,6 @@ pub record OfProcedure (bs : List BlockOf) (ts : List Text) (d : ℕ) (row : Dec
   pub body : Statement
   pub number : ℕ
   pub entry : Alike (entry.Procedure (result_named result) number) row.entry
-  pub listed : row.listed ≡ true
   pub text : slice_get ts number ≡ Some (ProcedureText result heading body)
   pub around : around (slice_get bs number) ≡ Some row.block
   pub owner : owner_in (slice_get bs number) ≡ Some (record { 0 = d })
@@ -311,6 +313,7 @@ pub data RowIn (bs : List BlockOf) (ts : List Text) (x : Text) (d : ℕ) (row : 
   procedure_row : Declaring x → OfProcedure bs ts d row → RowIn bs ts x d row
   class_row : Declaring x → OfClass bs ts d row → RowIn bs ts x d row
   formal_row : Taking x → Parametric row.entry → row.listed ≡ true → RowIn bs ts x d row
+  virtual_row : Interfacing x → is_virtual row.entry ≡ true → row.listed ≡ true → RowIn bs ts x d row
   attribute_row : IsStandard x → OfAttribute bs ts row → RowIn bs ts x d row
   simulation_row : Prefixing x → OfSimulation bs ts row → RowIn bs ts x d row
 
@@ -367,7 +370,7 @@ module _ (bs cs : List BlockOf) (ts us : List Text) (keep : Keeps bs cs ts us) w
   procedure_kept : (d : ℕ) (row : Declaration) → OfProcedure bs ts d row → OfProcedure cs us d row
   procedure_kept d row p =
       let k = keep p.number (ProcedureText p.result p.heading p.body) p.text in
-      record { result = p.result; heading = p.heading; body = p.body; number = p.number; entry = p.entry; listed = p.listed; text = k.1; around = same_around (slice_get cs p.number) (slice_get bs p.number) k.0 ∙ p.around; owner = same_owner (slice_get cs p.number) (slice_get bs p.number) k.0 ∙ p.owner }
+      record { result = p.result; heading = p.heading; body = p.body; number = p.number; entry = p.entry; text = k.1; around = same_around (slice_get cs p.number) (slice_get bs p.number) k.0 ∙ p.around; owner = same_owner (slice_get cs p.number) (slice_get bs p.number) k.0 ∙ p.owner }
 
   class_kept : (d : ℕ) (row : Declaration) → OfClass bs ts d row → OfClass cs us d row
   class_kept d row p =
@@ -402,6 +405,7 @@ module _ (bs cs : List BlockOf) (ts us : List Text) (keep : Keeps bs cs ts us) w
   row_at x d row (procedure_row y p) = procedure_row y (procedure_kept d row p)
   row_at x d row (class_row y p) = class_row y (class_kept d row p)
   row_at x d row (formal_row y p l) = formal_row y p l
+  row_at x d row (virtual_row y p l) = virtual_row y p l
 
   pub row_kept : (d : ℕ) (row : Declaration) → RowOf bs ts (slice_get ts row.block) d row → RowOf cs us (slice_get us row.block) d row
   row_kept d row p = go (slice_get ts row.block) refl p
@@ -422,17 +426,31 @@ alike_unspecified (entry.Formal f) w own a = own
 alike_unspecified (entry.Unspecified v) w own a = own
 alike_unspecified (entry.Attribute name parameter result) w own a = own
 
+-- a virtual is like nothing of these
+alike_virtual : (e : Entry) (result : Option SimType) (known : Option DeclNo) → Alike e (entry.Virtual result known) → ⊥
+alike_virtual (entry.Variable ty) result known a = a
+alike_virtual (entry.Constant ty) result known a = a
+alike_virtual (entry.Array ty n) result known a = a
+alike_virtual (entry.Procedure given k) result known a = a
+alike_virtual (entry.Class k) result known a = a
+alike_virtual (entry.Virtual given k) result known a = a
+alike_virtual (entry.Formal f) result known a = a
+alike_virtual (entry.Unspecified v) result known a = a
+alike_virtual (entry.Attribute name parameter given) result known a = a
+
 changed_in : (bs : List BlockOf) (ts : List Text) (x : Text) (d : ℕ) (old row : Declaration) → Changed old row → RowIn bs ts x d old → RowIn bs ts x d row
 changed_in bs ts x d old row c (own_row y p) = own_row y (go c.entry)
   where
     go : Becomes old.entry row.entry → Own (declared_in_text x) row
     go (inl e) = record { entry = p.entry; fits = p.fits; alike = subst (Alike p.entry) (sym e) p.alike; name = p.name; named = p.named ∙ sym c.name; token = p.token ∙ sym c.token; listed = c.listed ∙ p.listed; mark = p.mark }
-    go (inr q) = absurd (alike_unspecified p.entry q.0 p.fits (subst (Alike p.entry) q.1 p.alike))
+    go (inr (inl q)) = absurd (alike_unspecified p.entry q.0 p.fits (subst (Alike p.entry) q.1 p.alike))
+    go (inr (inr q)) = absurd (alike_virtual p.entry q.0 None (subst (Alike p.entry) q.2 p.alike))
 changed_in bs ts x d old row c (procedure_row y p) = procedure_row y (go c.entry)
   where
     go : Becomes old.entry row.entry → OfProcedure bs ts d row
-    go (inl e) = record { result = p.result; heading = p.heading; body = p.body; number = p.number; entry = subst (Alike (entry.Procedure (result_named p.result) p.number)) (sym e) p.entry; listed = c.listed ∙ p.listed; text = p.text; around = p.around ∙ ap Some (sym c.block); owner = p.owner }
-    go (inr q) = absurd (subst (Alike (entry.Procedure (result_named p.result) p.number)) q.1 p.entry)
+    go (inl e) = record { result = p.result; heading = p.heading; body = p.body; number = p.number; entry = subst (Alike (entry.Procedure (result_named p.result) p.number)) (sym e) p.entry; text = p.text; around = p.around ∙ ap Some (sym c.block); owner = p.owner }
+    go (inr (inl q)) = absurd (subst (Alike (entry.Procedure (result_named p.result) p.number)) q.1 p.entry)
+    go (inr (inr q)) = absurd (subst (Alike (entry.Procedure (result_named p.result) p.number)) q.2 p.entry)
 changed_in bs ts x d old row c (class_row y p) = class_row y (go c.entry)
   where
     still : (old.listed ≡ true) ⊎ IsStandard p.class → (row.listed ≡ true) ⊎ IsStandard p.class
@@ -441,22 +459,32 @@ changed_in bs ts x d old row c (class_row y p) = class_row y (go c.entry)
 
     go : Becomes old.entry row.entry → OfClass bs ts d row
     go (inl e) = record { class = p.class; is = p.is; number = p.number; entry = e ∙ p.entry; listed = still p.listed; hidden = λ q. c.listed ∙ p.hidden q; named = λ w q. c.name ∙ p.named w q; text = p.text; around = p.around ∙ ap Some (sym c.block); owner = p.owner }
-    go (inr q) = absurd (let e : entry.Unspecified q.0 ≡ entry.Class p.number = sym q.1 ∙ p.entry in cc)
+    go (inr (inl q)) = absurd (let e : entry.Unspecified q.0 ≡ entry.Class p.number = sym q.1 ∙ p.entry in cc)
+    go (inr (inr q)) = absurd (let e : entry.Virtual q.0 None ≡ entry.Class p.number = sym q.2 ∙ p.entry in cc)
 changed_in bs ts x d old row c (formal_row y p l) = formal_row y (go c.entry) (c.listed ∙ l)
   where
     go : Becomes old.entry row.entry → Parametric row.entry
     go (inl e) = subst Parametric (sym e) p
-    go (inr q) = q.2 (subst Parametric q.1 p)
+    go (inr (inl q)) = q.2 (subst Parametric q.1 p)
+    go (inr (inr q)) = absurd (subst Parametric q.2 p)
+changed_in bs ts x d old row c (virtual_row y p l) = virtual_row y (go c.entry) (c.listed ∙ l)
+  where
+    go : Becomes old.entry row.entry → is_virtual row.entry ≡ true
+    go (inl e) = ap is_virtual e ∙ p
+    go (inr (inl q)) = absurd (let e : false ≡ true = sym (ap is_virtual q.1) ∙ p in cc)
+    go (inr (inr q)) = ap is_virtual q.3
 changed_in bs ts x d old row c (attribute_row y p) = attribute_row y (go c.entry)
   where
     go : Becomes old.entry row.entry → OfAttribute bs ts row
     go (inl e) = record { name = p.name; class = p.class; owner = p.owner; is_attribute = p.is_attribute; prefix = p.prefix; block = p.block; first = p.first; group = p.group; is = p.is; entry = e ∙ p.entry; listed = c.listed ∙ p.listed; stands = c.block ∙ p.stands }
-    go (inr q) = absurd (let e : entry.Unspecified q.0 ≡ attribute_entry (Some p.first) p.name = sym q.1 ∙ p.entry in cc)
+    go (inr (inl q)) = absurd (let e : entry.Unspecified q.0 ≡ attribute_entry (Some p.first) p.name = sym q.1 ∙ p.entry in cc)
+    go (inr (inr q)) = absurd (let e : entry.Virtual q.0 None ≡ attribute_entry (Some p.first) p.name = sym q.2 ∙ p.entry in cc)
 changed_in bs ts x d old row c (simulation_row y p) = simulation_row y (go c.entry)
   where
     go : Becomes old.entry row.entry → OfSimulation bs ts row
     go (inl e) = record { name = p.name; is_simulation = p.is_simulation; first = p.first; group = subst (λ n. StandardGroup prefixes.Simulation bs ts n p.first) (sym c.block) p.group; entry = e ∙ p.entry; listed = c.listed ∙ p.listed }
-    go (inr q) = absurd (let e : entry.Unspecified q.0 ≡ attribute_entry (Some p.first) p.name = sym q.1 ∙ p.entry in cc)
+    go (inr (inl q)) = absurd (let e : entry.Unspecified q.0 ≡ attribute_entry (Some p.first) p.name = sym q.1 ∙ p.entry in cc)
+    go (inr (inr q)) = absurd (let e : entry.Virtual q.0 None ≡ attribute_entry (Some p.first) p.name = sym q.2 ∙ p.entry in cc)
 
 pub changed_row : (bs : List BlockOf) (ts : List Text) (o : Option Text) (d : ℕ) (old row : Declaration) → Changed old row → RowOf bs ts o d old → RowOf bs ts o d row
 changed_row bs ts None d old row c p = absurd p
@@ -477,8 +505,57 @@ more_rise ds ns old under n m d e at to lt = go (last_cases ns (record { 0 = len
     go (inr p) (inl q) = let u : m < length ns = slice_get_within ns m e q in let f : n ≡ length ns = p.0 in absurd (omega arith)
     go (inr p) (inr q) = let f : n ≡ length ns = p.0 in let g : m ≡ length ns = q.0 in absurd (omega arith)
 
+-- the place of what is found has its name
+pub name_there : (p : List ℕ → Bool) (names : List (List ℕ)) → position_or_len p names < length names → (n : List ℕ) × (slice_get names (position_or_len p names) ≡ Some n) × (p n ≡ true)
+name_there p [] lt = absurd (omega arith)
+name_there p (n ∷ ns) lt = go (p n) refl lt (λ q. name_there p ns q)
+  where
+    go : (c : Bool) → p n ≡ c → position_or_len p (n ∷ ns) < length (n ∷ ns) → (position_or_len p ns < length ns → (m : List ℕ) × (slice_get ns (position_or_len p ns) ≡ Some m) × (p m ≡ true))
+        → (m : List ℕ) × (slice_get (n ∷ ns) (position_or_len p (n ∷ ns)) ≡ Some m) × (p m ≡ true)
+    go true is lt rest = (n, ap (slice_get (n ∷ ns)) (count_true p n ns is), is)
+    go false is lt rest =
+        let e : position_or_len p (n ∷ ns) ≡ suc (position_or_len p ns) = count_false p n ns is in
+        let z : length (n ∷ ns) ≡ suc (length ns) = omega arith in
+        let q = rest (omega arith) in
+        (q.0, ap (slice_get (n ∷ ns)) e ∙ q.1, q.2)
+
+-- numbers that rise stand once
+once : (ns : List DeclNo) → Rising ns → (n m : ℕ) (d : DeclNo) → slice_get ns n ≡ Some d → slice_get ns m ≡ Some d → n ≡ m
+once ns rises n m d at to = go (nat_lt n m) refl (nat_lt m n) refl
+  where
+    go : (a : Bool) → nat_lt n m ≡ a → (c : Bool) → nat_lt m n ≡ c → n ≡ m
+    go true lt c e = let P : n < m = grind (arith, nat_tests) in let z : d.0 < d.0 = rises n m d d at to P in absurd (omega arith)
+    go false over true lt = let P : m < n = grind (arith, nat_tests) in let z : d.0 < d.0 = rises m n d d to at P in absurd (omega arith)
+    go false over false under = let P : n ≡ m = grind (arith, nat_tests) in P
+
+-- what a block finds has the name by which it is found
+pub names_found : (b : BuildingOf) (ts : List Text) (os : List Open) → Fine b ts os → NamesFound b.tables
+names_found b ts os f k name d is = go (slice_get b.tables.blocks k) refl is
+  where
+    go : (o : Option BlockOf) → slice_get b.tables.blocks k ≡ o → declared_in o name ≡ Some d → (row : Declaration) × (slice_get b.tables.declarations d.0 ≡ Some row) × (row.name ≡ name) × (row.block ≡ k)
+    go None at found = absurd (cc)
+    go (Some block) at found =
+        let own = f.own k d (subst (λ o. Among d (numbers_in o)) (sym at) (among_at block.numbers (position_or_len (bytes_eq name) block.names) d q.1)) in
+        (own.0, own.1, same own.0 (subst (λ o. declared_in o own.0.name ≡ Some d) at (subst (λ j. declared_in (slice_get b.tables.blocks j) own.0.name ≡ Some d) own.2 (f.finds d.0 own.0 own.1 own.3))), own.2)
+      where
+        q : (position_or_len (bytes_eq name) block.names < length block.names) × (slice_get block.numbers (position_or_len (bytes_eq name) block.names) ≡ Some d)
+        q = found_at (bytes_eq name) block.names block.numbers d found
+
+        same_name : (x y : List ℕ) → Some x ≡ Some y → x ≡ y
+        same_name x y e = cc
+
+        same : (own : Declaration) → declared_in (Some block) own.name ≡ Some d → own.name ≡ name
+        same own named =
+            let p = found_at (bytes_eq own.name) block.names block.numbers d named in
+            let here = name_there (bytes_eq name) block.names q.0 in
+            let there = name_there (bytes_eq own.name) block.names p.0 in
+            let place : position_or_len (bytes_eq own.name) block.names ≡ position_or_len (bytes_eq name) block.names =
+            once block.numbers (subst (λ o. Rising (numbers_in o)) at (f.rising k)) (position_or_len (bytes_eq own.name) block.names) (position_or_len (bytes_eq name) block.names) d p.1 q.1 in
+            let one : there.0 ≡ here.0 = same_name there.0 here.0 (sym there.1 ∙ ap (slice_get block.names) place ∙ here.1) in
+            (bytes_eq-Decides own.name there.0).0 there.2 ∙ one ∙ sym ((bytes_eq-Decides name here.0).0 here.2)
+
 module _ (b c : BuildingOf) (New : ℕ → Declaration → Type 0) (s : Step b c New) (ts : List Text) where
-  step_keeps : (n : ℕ) (x : Text) → slice_get ts n ≡ Some x → (fixed (slice_get c.tables.blocks n) ≡ fixed (slice_get b.tables.blocks n)) × (slice_get ts n ≡ Some x)
+  pub step_keeps : (n : ℕ) (x : Text) → slice_get ts n ≡ Some x → (fixed (slice_get c.tables.blocks n) ≡ fixed (slice_get b.tables.blocks n)) × (slice_get ts n ≡ Some x)
   step_keeps n x is = (s.fixes n, is)
 
   pub step_fine : (os : List Open) → Fine b ts os → Fine c ts os
@@ -497,6 +574,7 @@ module _ (b c : BuildingOf) (New : ℕ → Declaration → Type 0) (s : Step b c
     rising = λ k. rising k (s.lists k);
     based = λ k. same_base (slice_get c.tables.blocks k) (slice_get b.tables.blocks k) (s.fixes k) ∙ f.based k ∙ sym (same_own_base (slice_get c.tables.blocks k) (slice_get b.tables.blocks k) (s.fixes k));
     bare = s.bare f.bare;
+    known = s.knows (names_found b ts os f) f.known;
     standards = λ k which is. in_group_kept b.tables.blocks c.tables.blocks ts ts step_keeps k which (f.standards k which is);
     headed = λ n p e. headed_kept b.tables.blocks c.tables.blocks ts ts step_keeps p n (f.headed n p (s.spells n p e));
     textless = λ k. same_textless (slice_get c.tables.blocks k) (slice_get b.tables.blocks k) (s.fixes k) ∙ f.textless k;
@@ -510,17 +588,17 @@ module _ (b c : BuildingOf) (New : ℕ → Declaration → Type 0) (s : Step b c
       level : (t : ℕ) → level_of_row (slice_get c.tables.blocks t) ≡ level_of_row (slice_get b.tables.blocks t)
       level t = same_level (slice_get c.tables.blocks t) (slice_get b.tables.blocks t) (s.fixes t)
 
-      listed : (d : ℕ) (row : Declaration) → row.listed ≡ true → ((old : Declaration) × (slice_get b.tables.declarations d ≡ Some old) × Changed old row) ⊎ (New d row × Among (record { 0 = d }) (numbers_in (slice_get c.tables.blocks row.block)) × (AllEven b.tables.blocks → declared_in (slice_get c.tables.blocks row.block) row.name ≡ Some (record { 0 = d })))
+      listed : (d : ℕ) (row : Declaration) → row.listed ≡ true → RowIs b c New d row
           → Among (record { 0 = d }) (numbers_in (slice_get c.tables.blocks row.block))
       listed d row l (inl q) = s.more row.block (record { 0 = d }) (subst (λ z. Among (record { 0 = d }) (numbers_in (slice_get b.tables.blocks z))) (sym q.2.block) (f.listed d q.0 q.1 (sym q.2.listed ∙ l)))
-      listed d row l (inr q) = q.1
+      listed d row l (inr q) = (q.1 l).0
 
-      finds : (d : ℕ) (row : Declaration) → row.listed ≡ true → ((old : Declaration) × (slice_get b.tables.declarations d ≡ Some old) × Changed old row) ⊎ (New d row × Among (record { 0 = d }) (numbers_in (slice_get c.tables.blocks row.block)) × (AllEven b.tables.blocks → declared_in (slice_get c.tables.blocks row.block) row.name ≡ Some (record { 0 = d })))
+      finds : (d : ℕ) (row : Declaration) → row.listed ≡ true → RowIs b c New d row
           → declared_in (slice_get c.tables.blocks row.block) row.name ≡ Some (record { 0 = d })
       finds d row l (inl q) =
           subst (λ z. declared_in (slice_get c.tables.blocks z) row.name ≡ Some (record { 0 = d })) (sym q.2.block)
           (subst (λ z. declared_in (slice_get c.tables.blocks q.0.block) z ≡ Some (record { 0 = d })) (sym q.2.name) (s.looks q.0.block q.0.name (record { 0 = d }) (f.finds d q.0 q.1 (sym q.2.listed ∙ l))))
-      finds d row l (inr q) = q.2 f.evens
+      finds d row l (inr q) = (q.1 l).1 f.evens
 
       own : (k : ℕ) (d : DeclNo) → Among d (numbers_in (slice_get b.tables.blocks k)) ⊎ ((row : Declaration) × (slice_get c.tables.declarations d.0 ≡ Some row) × (row.block ≡ k) × (row.listed ≡ true)) → (row : Declaration) × (slice_get c.tables.declarations d.0 ≡ Some row) × (row.block ≡ k) × (row.listed ≡ true)
       own k d (inl a) = let old = f.own k d a in let new = s.stays d.0 old.0 old.1 in (new.0, new.1, new.2.block ∙ old.2, new.2.listed ∙ old.3)
@@ -533,7 +611,7 @@ module _ (b c : BuildingOf) (New : ℕ → Declaration → Type 0) (s : Step b c
   pub step_rows : ((d : ℕ) (row : Declaration) → New d row → RowOf c.tables.blocks ts (slice_get ts row.block) d row) → Rows b ts → Rows c ts
   step_rows new f d row is = go (s.rows d row is)
     where
-      go : ((old : Declaration) × (slice_get b.tables.declarations d ≡ Some old) × Changed old row) ⊎ (New d row × Among (record { 0 = d }) (numbers_in (slice_get c.tables.blocks row.block)) × (AllEven b.tables.blocks → declared_in (slice_get c.tables.blocks row.block) row.name ≡ Some (record { 0 = d }))) → RowOf c.tables.blocks ts (slice_get ts row.block) d row
+      go : RowIs b c New d row → RowOf c.tables.blocks ts (slice_get ts row.block) d row
       go (inl q) =
           subst (λ z. RowOf c.tables.blocks ts (slice_get ts z) d row) (sym q.2.block)
           (changed_row c.tables.blocks ts (slice_get ts q.0.block) d q.0 row q.2 (row_kept b.tables.blocks c.tables.blocks ts ts step_keeps d q.0 (f d q.0 q.1)))
@@ -556,7 +634,7 @@ text_other [] x (suc k) other = refl
 text_other (t ∷ ts) x zero other = refl
 text_other (t ∷ ts) x (suc k) other = text_other ts x k (let e : length (t ∷ ts) ≡ suc (length ts) = omega arith in let P : nat_eq k (length ts) ≡ false = grind (arith, nat_tests) in P)
 
-some_eq : {A : Type 0} (a b : A) → Some a ≡ Some b → a ≡ b
+pub some_eq : {A : Type 0} (a b : A) → Some a ≡ Some b → a ≡ b
 some_eq a b e = cc
 
 -- what is no standard class has no base before the classes of prefixes are known
@@ -609,7 +687,7 @@ module _ (b : BuildingOf) (new : BlockOf) (places : List (Option ℕ)) (ts : Lis
       let same : length b.tables.blocks ≡ length ts = f.size in
       (ap fixed (more_other b.tables.blocks new n (let P : nat_eq n (length b.tables.blocks) ≡ false = grind (arith, nat_tests) in P)), more_text ts (x ∷ []) n y is)
 
-  begun_fine : (owed : List Mark) (os : List Open) → new.encloser ≡ b.current → new.numbers ≡ [] → new.names ≡ [] → ((u : ℕ) → b.current ≡ Some u → new.level ≡ deeper new.kind (level_of_row (slice_get b.tables.blocks u))) → KindIs (Some new) (Some x) → extras_in (Some new) ≡ no_extras → new.base ≡ None → brings_of (Some new) ≡ brings_of None → new.prefix ≡ None → Ordinary x
+  pub begun_fine : (owed : List Mark) (os : List Open) → new.encloser ≡ b.current → new.numbers ≡ [] → new.names ≡ [] → ((u : ℕ) → b.current ≡ Some u → new.level ≡ deeper new.kind (level_of_row (slice_get b.tables.blocks u))) → KindIs (Some new) (Some x) → extras_in (Some new) ≡ no_extras → new.base ≡ None → brings_of (Some new) ≡ brings_of None → new.prefix ≡ None → Ordinary x
       → Fine b ts os → Fine With (ts ++ x ∷ []) (item x owed ∷ os)
   begun_fine owed os out none nameless level fits without bottom unbrought unheaded ordinary f = record {
     size = length-append bs (new ∷ []) ∙ (let e : length bs ≡ length ts = f.size in ap (λ z. z + 1) e) ∙ sym (length-append ts (x ∷ []));
@@ -628,7 +706,8 @@ module _ (b : BuildingOf) (new : BlockOf) (places : List (Option ℕ)) (ts : Lis
     textless = λ k. kept_more first_or_none bs new (ordinary_first new x fits ordinary) k ∙ f.textless k;
     brought = λ k d a. f.brought k d (subst (λ z. Among d z) (kept_more brought_of bs new (ap (λ (z : Brings). z.numbers) unbrought) k) a);
     named = λ k. subst (Named b.tables.declarations) (sym (kept_more brings_of bs new unbrought k)) (f.named k);
-    bare = record { blocks = λ k. kept_more extras_in bs new without k ∙ f.bare.blocks k; virtuals = f.bare.virtuals };
+    bare = record { blocks = λ k. kept_more extras_in bs new without k ∙ f.bare.blocks k };
+    known = f.known;
   }
     where
       bs : List BlockOf
@@ -723,65 +802,7 @@ module _ (b : BuildingOf) (new : BlockOf) (places : List (Option ℕ)) (ts : Lis
   pub begun_rows : (os : List Open) → Fine b ts os → Rows b ts → Rows With (ts ++ x ∷ [])
   begun_rows os f g d row is = row_kept b.tables.blocks (b.tables.blocks ++ new ∷ []) ts (ts ++ x ∷ []) (begun_keeps os f) d row (g d row is)
 
--- ---- a block ends
-
 -- both together
 pub record Agree (b : BuildingOf) (ts : List Text) (os : List Open) : Type 0 where
   pub fine : Fine b ts os
   pub rows : Rows b ts
-
-closed_row : (b : BuildingOf) (end n : ℕ) (o : Option BlockOf) (ts : List Text) (x : Text) (os : List Open) → b.current ≡ Some n → slice_get b.tables.blocks n ≡ o → slice_get ts n ≡ Some x → Stack b.tables.blocks ts (around (slice_get b.tables.blocks n)) os
-    → Agree b ts (item x [] ∷ os) → Agree (closed_at b end n o) ts os
-closed_row b end n None ts x os cur at is under a = absurd (no_kind (subst (λ z. KindIs z (Some x)) at (subst (λ z. KindIs (slice_get b.tables.blocks n) z) is (a.fine.kinds n))))
-  where
-    no_kind : KindIs None (Some x) → ⊥
-    no_kind k = k
-closed_row b end n (Some row) ts x os cur at is under a =
-    let new : BlockOf = record row { end = end } in
-    let c : BuildingOf = record b { tables = record b.tables { blocks = slice_set b.tables.blocks n new } } in
-    let s : Step b c Nothing = row_step b b Nothing n row new cur at refl refl refl refl refl refl (same_step b b Nothing refl refl) in
-    let f : Fine c ts (item x [] ∷ os) = step_fine b c Nothing s ts (item x [] ∷ os) a.fine in
-    let g : Rows c ts = step_rows b c Nothing s ts (λ d r q. absurd q) a.rows in record {
-      fine = record { size = f.size; stack = subst (λ z. Stack c.tables.blocks ts z os) (ap around at) (stack_kept b.tables.blocks c.tables.blocks ts ts (step_keeps b c Nothing s ts) os (around (slice_get b.tables.blocks n)) under); nested = f.nested; levels = f.levels; kinds = f.kinds; listed = f.listed; evens = f.evens; finds = f.finds; own = f.own; rising = f.rising; based = f.based; bare = record { blocks = f.bare.blocks; virtuals = f.bare.virtuals }; standards = f.standards; headed = f.headed; textless = f.textless; brought = f.brought; named = f.named };
-      rows = g;
-    }
-
-pub closed_agrees : (b : BuildingOf) (end : ℕ) (ts : List Text) (x : Text) (os : List Open) → Agree b ts (item x [] ∷ os) → Agree (closed b end b.current) ts os
-closed_agrees b end ts x os a =
-    let h = a.fine.stack in
-    subst (λ o. Agree (closed b end o) ts os) (sym h.1) (closed_row b end h.0 (slice_get b.tables.blocks h.0) ts x os h.1 refl h.2 h.3 a)
-
--- ---- a block begins
-
-if_agrees : (c : Bool) (b : BuildingOf) (token : ℕ) (rule : Rule) (ts : List Text) (os : List Open) → Agree b ts os → Agree (broken_if c b token rule) ts os
-if_agrees true b token rule ts os a = record { fine = record { size = a.fine.size; stack = a.fine.stack; nested = a.fine.nested; levels = a.fine.levels; kinds = a.fine.kinds; listed = a.fine.listed; evens = a.fine.evens; finds = a.fine.finds; own = a.fine.own; rising = a.fine.rising; based = a.fine.based; bare = a.fine.bare; standards = a.fine.standards; headed = a.fine.headed; textless = a.fine.textless; brought = a.fine.brought; named = a.fine.named }; rows = a.rows }
-if_agrees false b token rule ts os a = a
-
-abbrev pub fresh : BuildingOf → BlockKind → ℕ → BlockOf
-fresh b k first = record { kind = k; first = first; end = first; encloser = b.current; level = level_in k (block_around b.tables b.current); owner = owner_of k b.latest; formals = 0; inner = None; prefix = None; base = None; standard = None; names = []; numbers = []; has_class = false; brought_names = []; brought = []; protected = []; hidden = [] }
-
--- the block around an open block is there
-level_new : (k : BlockKind) (bs : List BlockOf) (u : ℕ) → u < length bs → level_in k (slice_get bs u) ≡ deeper k (level_of_row (slice_get bs u))
-level_new k [] u lt = absurd (omega arith)
-level_new k (b ∷ bs) zero lt = refl
-level_new k (b ∷ bs) (suc u) lt = let e : length (b ∷ bs) ≡ suc (length bs) = omega arith in level_new k bs u (omega arith)
-
--- the innermost open block is there
-pub current_within : (b : BuildingOf) (ts : List Text) (os : List Open) → Fine b ts os → (u : ℕ) → b.current ≡ Some u → u < length b.tables.blocks
-current_within b ts os f u is = go os f.stack
-  where
-    go : (os : List Open) → Stack b.tables.blocks ts b.current os → u < length b.tables.blocks
-    go [] h = absurd (let e : None ≡ Some u = sym h ∙ is in cc)
-    go (o ∷ os) h =
-        let same : h.0 ≡ u = some_eq h.0 u (sym h.1 ∙ is) in
-        let lt : h.0 < length ts = slice_get_within ts h.0 o.text h.2 in
-        let e : length b.tables.blocks ≡ length ts = f.size in omega arith
-
-pub opened_agrees : (b : BuildingOf) (k : BlockKind) (text first : ℕ) (ts : List Text) (x : Text) (owed : List Mark) (os : List Open) → KindOf k x → Ordinary x
-    → Fine b ts os → Rows (With b (fresh b k first) (placed b.tables b.current first).places ts x) (ts ++ x ∷ []) → Agree (opened b k text first) (ts ++ x ∷ []) (item x owed ∷ os)
-opened_agrees b k text first ts x owed os fits ordinary f g =
-    if_agrees (nat_lt most_levels (level_in k (block_around b.tables b.current))) (With b (fresh b k first) (placed b.tables b.current first).places ts x) text r.TooManyLevels (ts ++ x ∷ []) (item x owed ∷ os) (record {
-      fine = begun_fine b (fresh b k first) (placed b.tables b.current first).places ts x owed os refl refl refl
-          (λ u cur. subst (λ z. level_in k (block_around b.tables z) ≡ deeper k (level_of_row (slice_get b.tables.blocks u))) (sym cur) (level_new k b.tables.blocks u (current_within b ts os f u cur))) fits refl refl refl refl ordinary f;
-      rows = g;
-    })

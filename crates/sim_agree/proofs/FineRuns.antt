@@ -1,5 +1,5 @@
 -- The marks of a plain program, one after the other: behind each of them the tables agree with the texts.
-use Rattle.std.proofs.Common.{◌≡◌, ◌⊎◌, inl, inr, ℕ, List, [], ◌∷◌, ◌++◌, length, Option, Some, None, refl, sym, ap, ◌∙◌, subst, append-nil, append_assoc, true}
+use Rattle.std.proofs.Common.{◌≡◌, ◌⊎◌, inl, inr, ℕ, List, [], ◌∷◌, ◌++◌, length, Option, Some, None, refl, sym, ap, ◌∙◌, subst, append-nil, append_assoc, false, true}
 use Rattle.std.specs.Prelude.{slice_get}
 use Rattle.sim_base.specs.declared.numbering.DeclNo.{DeclNo}
 use Rattle.sim_tree.specs.declared.expr.Identifier.{Identifier}
@@ -10,20 +10,21 @@ use Rattle.sim_scope.specs.declared.types.BlockKind.{BlockKind}
 use Rattle.sim_scope.specs.declared.types.BlockKind.TheVariants as kind
 use Rattle.sim_scope.specs.declared.types.Entry.{Entry}
 use Rattle.sim_scope.specs.declared.types.Entry.TheVariants as entry
+use Rattle.sim_scope.specs.declared.types.SimType.{SimType}
 use Rattle.sim_scope.specs.declared.types.StandardPrefix.{StandardPrefix}
 use Rattle.sim_scope.specs.Building.{BuildingOf, Declares, Headed, Mark, Opens, changed, changed_row as changed_row_of, closed, declared, found_in, holding_class, marked, opened, parameter, placed, qualified, specified as specified_of, unspecified_at}
 use Rattle.sim_scope.specs.Declare.{headed_marks, result_named}
 use Rattle.sim_scope.specs.Runs.{each, run}
 use Rattle.sim_scope.specs.Access.{around}
-use Rattle.sim_scope.specs.Scopes.{declared_in}
+use Rattle.sim_scope.specs.Scopes.{is_procedure_entry, is_virtual}
 use Rattle.sim_scope.specs.Tables.{BlockOf}
 use Rattle.sim_scope.proofs.Kept.{more_here}
-use Rattle.sim_meaning.specs.Entries.{numbers_in}
 use Rattle.sim_meaning.specs.Texts.{BlockText, ClassText, ConnectionText, ProcedureText, Text, PrefixedText, StandardText}
-use Rattle.sim_sound.specs.Held.{Among}
-use Rattle.sim_agree.proofs.Groups.{AreReferences, Declaring, Grouped, Has, OfReferences, Open, OwnEntry, Quals, Taking, block, breaks_rule, closes, connects, declared_in_text, declares, declares_class, has_cases, headed, here, inner_mark, item, moded, nothing, own_marks, parameter as parameter_mark, procedure, qualifies, specified, there, unqualified, prefixes, guarded, Prefixing, prefixed_block, standard_block, standard_class, whole_prefix}
-use Rattle.sim_agree.proofs.Steps.{AllEven, Changed, Declared, IsRow, Nothing, Parametric, Step, Unmatched, class_step, class_unmatched, declared_latest, declared_step, headed_step, inner_step, met, moded_step, own_unmatched, parameter_step, procedure_unmatched, quals_latest, quals_step, rule_step, specified_met, prefix_step, guards_step}
-use Rattle.sim_agree.proofs.Fine.{Agree, Alike, Fine, Keeps, KindOf, OfClass, OfProcedure, Own, RowOf, alike_results, begun_keeps, begun_rows, changed_row, class_row, closed_agrees, formal_row, fresh, more_text, opened_agrees, own_row, owner_in, procedure_row, row_kept, row_text, step_fine, step_rows, KindIs, Ordinary}
+use Rattle.sim_agree.proofs.Groups.{AreReferences, Declaring, Grouped, Has, Interfacing, OfReferences, Open, OwnEntry, Quals, Taking, block, breaks_rule, closes, connects, declared_in_text, declares, declares_class, has_cases, headed, here, inner_mark, item, moded, nothing, own_marks, parameter as parameter_mark, procedure, qualifies, specified, specifies_virtual, there, unqualified, prefixes, guarded, Prefixing, prefixed_block, standard_block, standard_class, whole_prefix}
+use Rattle.sim_agree.proofs.Steps.{IsRow, Nothing, Parametric, RowIs, Step, Unmatched, shown}
+use Rattle.sim_agree.proofs.Marks.{Declared, class_step, declared_latest, declared_step, headed_step, inner_step, met, moded_step, own_unmatched, parameter_step, procedure_unmatched, quals_latest, quals_step, rule_step, specified_met, prefix_step, guards_step, virtual_unmatched}
+use Rattle.sim_agree.proofs.Fine.{Agree, Alike, Fine, Keeps, KindOf, OfClass, OfProcedure, Own, RowOf, alike_results, begun_keeps, begun_rows, changed_row, class_row, formal_row, more_text, own_row, owner_in, procedure_row, row_kept, row_text, step_fine, step_rows, KindIs, Ordinary, virtual_row}
+use Rattle.sim_agree.proofs.FineBlocks.{closed_agrees, fresh, opened_agrees}
 use Rattle.sim_agree.proofs.Unprefixed.{is_prefixable}
 use Rattle.sim_agree.proofs.BroughtFine.{front_prefixing, standard_agree}
 use Rattle.sim_agree.proofs.BroughtRuns.{FreshTop, brought_is, opened_top}
@@ -66,7 +67,7 @@ module _ (b c : BuildingOf) (k : BlockKind) (text first : ℕ) (y : Identifier) 
   next_agrees ordinary made = opened_agrees c k text first ts z inner (item x owed ∷ os) fits ordinary f (λ d row is. go d row is (s.rows d row is))
     where
       go : (d : ℕ) (row : Declaration) → slice_get c.tables.declarations d ≡ Some row
-          → ((old : Declaration) × (slice_get b.tables.declarations d ≡ Some old) × Changed old row) ⊎ (Declared (length b.tables.declarations) y e n d row × Among (record { 0 = d }) (numbers_in (slice_get c.tables.blocks row.block)) × (AllEven b.tables.blocks → declared_in (slice_get c.tables.blocks row.block) row.name ≡ Some (record { 0 = d })))
+          → RowIs b c (Declared (length b.tables.declarations) y e n) d row
           → RowOf begun_blocks us (slice_get us row.block) d row
       go d row is (inl q) = subst (λ m. RowOf begun_blocks us (slice_get us m) d row) (sym q.2.block) (changed_row begun_blocks us (slice_get us q.0.block) d q.0 row q.2 (row_kept b.tables.blocks begun_blocks ts us keeps d q.0 (g.rows d q.0 q.1)))
       go d row is (inr q) = made d row is q.0
@@ -106,8 +107,8 @@ procedure_agrees b text first x owed inner quals result h a ts os d q g =
     us : List Text
     us = ts ++ z ∷ []
 
-    alone : Unmatched b.tables e
-    alone = procedure_unmatched b.tables (result_named result) (length b.tables.blocks) g.fine.bare.virtuals
+    alone : Unmatched e
+    alone = procedure_unmatched (result_named result) (length b.tables.blocks)
 
     s : Step b c (Declared (length b.tables.declarations) h.name e n)
     s = quals_step b c0 (Declared (length b.tables.declarations) h.name e n) (AreReferences (result_named result)) quals q (declared_step b h.name e n alone g.fine.stack.1)
@@ -118,7 +119,7 @@ procedure_agrees b text first x owed inner quals result h a ts os d q g =
     latest : (i : ℕ) (row : Declaration) → slice_get c.tables.declarations i ≡ Some row → i ≡ length b.tables.declarations → c.latest ≡ Some (record { 0 = i })
     latest i row is same =
         quals_latest c0 (AreReferences (result_named result)) quals q
-        ∙ declared_latest b h.name e n row alone g.fine.stack.1 (subst (λ m. slice_get c0.tables.declarations m ≡ Some row) same (ap (λ ds. slice_get ds i) (sym (quals_rows c0 (AreReferences (result_named result)) quals q)) ∙ is))
+        ∙ declared_latest b h.name e n row g.fine.stack.1 (subst (λ m. slice_get c0.tables.declarations m ≡ Some row) same (ap (λ ds. slice_get ds i) (sym (quals_rows c0 (AreReferences (result_named result)) quals q)) ∙ is))
         ∙ ap (λ m. let w : DeclNo = record { 0 = m } in Some w) (sym same)
 
     made : (i : ℕ) (row : Declaration) → slice_get c.tables.declarations i ≡ Some row → (i ≡ length b.tables.declarations) × IsRow h.name e n row → OfProcedure cs us i row
@@ -128,7 +129,6 @@ procedure_agrees b text first x owed inner quals result h a ts os d q g =
       body = a;
       number = length b.tables.blocks;
       entry = subst (Alike e) (sym p.1.3) (alike_results (result_named result), refl);
-      listed = p.1.4;
       text = next_text b c kind.Procedure text first h.name e n x owed inner z ts os s g refl refl;
       around = next_around b c kind.Procedure text first h.name e n x owed inner z ts os s g refl refl row p.1;
       owner = ap owner_in (next_block b c kind.Procedure text first h.name e n x owed inner z ts os s g refl refl) ∙ latest i row is p.0;
@@ -176,7 +176,7 @@ class_agrees b text first x owed inner prefix h ds ss ts os d g =
     latest : (i : ℕ) (row : Declaration) → slice_get c.tables.declarations i ≡ Some row → i ≡ length b.tables.declarations → c.latest ≡ Some (record { 0 = i })
     latest i row is same =
         (kept b.current).1
-        ∙ declared_latest b h.name e n row (class_unmatched b.tables (length b.tables.blocks)) g.fine.stack.1 (subst (λ m. slice_get c0.tables.declarations m ≡ Some row) same (ap (λ rows. slice_get rows i) (sym (kept b.current).0) ∙ is))
+        ∙ declared_latest b h.name e n row g.fine.stack.1 (subst (λ m. slice_get c0.tables.declarations m ≡ Some row) same (ap (λ rows. slice_get rows i) (sym (kept b.current).0) ∙ is))
         ∙ ap (λ m. let w : DeclNo = record { 0 = m } in Some w) (sym same)
 
     made : (i : ℕ) (row : Declaration) → slice_get c.tables.declarations i ≡ Some row → (i ≡ length b.tables.declarations) × IsRow h.name e n row → OfClass cs us i row
@@ -185,7 +185,7 @@ class_agrees b text first x owed inner prefix h ds ss ts os d g =
       is = refl;
       number = length b.tables.blocks;
       entry = p.1.3;
-      listed = inl p.1.4;
+      listed = inl (shown e row.listed refl p.1.4);
       hidden = λ q. absurd q;
       named = λ w q. absurd (cc);
       text = next_text b c kind.Class text first h.name e n x owed inner z ts os s g refl refl;
@@ -200,7 +200,7 @@ pub step_agrees : (b c : BuildingOf) (New : ℕ → Declaration → Type 0) (x :
     → ((d : ℕ) (row : Declaration) → New d row → RowOf c.tables.blocks ts (slice_get ts row.block) d row)
     → Agree b ts (item x owed ∷ os) → Agree c ts (item x later ∷ os)
 step_agrees b c New x owed later ts os s new g = record {
-  fine = step_fine b c New s ts (item x later ∷ os) (record { size = g.fine.size; stack = g.fine.stack; nested = g.fine.nested; levels = g.fine.levels; kinds = g.fine.kinds; listed = g.fine.listed; evens = g.fine.evens; finds = g.fine.finds; own = g.fine.own; rising = g.fine.rising; based = g.fine.based; bare = g.fine.bare; standards = g.fine.standards; headed = g.fine.headed; textless = g.fine.textless; brought = g.fine.brought; named = g.fine.named });
+  fine = step_fine b c New s ts (item x later ∷ os) (record { size = g.fine.size; stack = g.fine.stack; nested = g.fine.nested; levels = g.fine.levels; kinds = g.fine.kinds; listed = g.fine.listed; evens = g.fine.evens; finds = g.fine.finds; own = g.fine.own; rising = g.fine.rising; based = g.fine.based; bare = g.fine.bare; known = g.fine.known; standards = g.fine.standards; headed = g.fine.headed; textless = g.fine.textless; brought = g.fine.brought; named = g.fine.named });
   rows = step_rows b c New s ts new g.rows;
 }
 
@@ -218,25 +218,50 @@ alike_own (entry.Formal f) own = absurd own
 alike_own (entry.Unspecified v) own = absurd own
 alike_own (entry.Attribute name parameter result) own = absurd own
 
+own_no_procedure : (e : Entry) → OwnEntry e → is_procedure_entry e ≡ false
+own_no_procedure (entry.Variable ty) own = refl
+own_no_procedure (entry.Constant ty) own = refl
+own_no_procedure (entry.Array ty n) own = refl
+own_no_procedure (entry.Procedure result k) own = absurd own
+own_no_procedure (entry.Class k) own = refl
+own_no_procedure (entry.Virtual result k) own = refl
+own_no_procedure (entry.Formal f) own = refl
+own_no_procedure (entry.Unspecified v) own = refl
+own_no_procedure (entry.Attribute name parameter result) own = refl
+
 -- a mark of a text's own
 pub declares_agrees : (b : BuildingOf) (x : Text) (owed quals : List Mark) (y : Identifier) (e : Entry) (ts : List Text) (os : List Open) → Declaring x → OwnEntry e → Quals (OfReferences e) quals → Has (Declares y e) (own_marks (declared_in_text x))
     → Agree b ts (item x (Declares y e ∷ owed) ∷ os) → Agree (run marked (declared b y e) quals) ts (item x owed ∷ os)
 declares_agrees b x owed quals y e ts os d own q has a =
     step_agrees b (run marked (declared b y e) quals) (Declared (length b.tables.declarations) y e a.fine.stack.0) x (Declares y e ∷ owed) owed ts os
-    (quals_step b (declared b y e) (Declared (length b.tables.declarations) y e a.fine.stack.0) (OfReferences e) quals q (declared_step b y e a.fine.stack.0 (own_unmatched b.tables e own) a.fine.stack.1))
+    (quals_step b (declared b y e) (Declared (length b.tables.declarations) y e a.fine.stack.0) (OfReferences e) quals q (declared_step b y e a.fine.stack.0 (own_unmatched e own) a.fine.stack.1))
     (λ i row p. made i row p.1) a
   where
     made : (i : ℕ) (row : Declaration) → IsRow y e a.fine.stack.0 row → RowOf (run marked (declared b y e) quals).tables.blocks ts (slice_get ts row.block) i row
     made i row p =
-        let o : Own (declared_in_text x) row = record { entry = e; fits = own; alike = subst (Alike e) (sym p.3) (alike_own e own); name = y; named = sym p.0; token = sym p.1; listed = p.4; mark = has } in
+        let o : Own (declared_in_text x) row = record { entry = e; fits = own; alike = subst (Alike e) (sym p.3) (alike_own e own); name = y; named = sym p.0; token = sym p.1; listed = shown e row.listed (own_no_procedure e own) p.4; mark = has } in
         subst (λ z. RowOf (run marked (declared b y e) quals).tables.blocks ts z i row) (sym (ap (slice_get ts) p.2 ∙ a.fine.stack.2)) (own_row d o)
+
+-- a virtual of a class
+pub virtual_agrees : (b : BuildingOf) (x : Text) (owed quals : List Mark) (y : Identifier) (result : Option SimType) (ts : List Text) (os : List Open) → Interfacing x → Quals (AreReferences result) quals
+    → Agree b ts (item x owed ∷ os) → Agree (run marked (declared b y (entry.Virtual result None)) quals) ts (item x owed ∷ os)
+virtual_agrees b x owed quals y result ts os d q a =
+    step_agrees b c (Declared (length b.tables.declarations) y (entry.Virtual result None) a.fine.stack.0) x owed owed ts os
+    (quals_step b (declared b y (entry.Virtual result None)) (Declared (length b.tables.declarations) y (entry.Virtual result None) a.fine.stack.0) (AreReferences result) quals q (declared_step b y (entry.Virtual result None) a.fine.stack.0 (virtual_unmatched result) a.fine.stack.1))
+    (λ i row p. made i row p.1) a
+  where
+    c : BuildingOf
+    c = run marked (declared b y (entry.Virtual result None)) quals
+
+    made : (i : ℕ) (row : Declaration) → IsRow y (entry.Virtual result None) a.fine.stack.0 row → RowOf c.tables.blocks ts (slice_get ts row.block) i row
+    made i row p = subst (λ z. RowOf c.tables.blocks ts z i row) (sym (ap (slice_get ts) p.2 ∙ a.fine.stack.2)) (virtual_row d (ap is_virtual p.3) (shown (entry.Virtual result None) row.listed refl p.4))
 
 pub parameter_agrees : (b : BuildingOf) (x : Text) (owed : List Mark) (y : Identifier) (ts : List Text) (os : List Open) → Taking x → Agree b ts (item x owed ∷ os) → Agree (parameter b y) ts (item x owed ∷ os)
 parameter_agrees b x owed y ts os d a =
     step_agrees b (parameter b y) (Declared (length b.tables.declarations) y (entry.Unspecified None) a.fine.stack.0) x owed owed ts os (parameter_step b y a.fine.stack.0 a.fine.stack.1) (λ i row p. made i row p.1) a
   where
     made : (i : ℕ) (row : Declaration) → IsRow y (entry.Unspecified None) a.fine.stack.0 row → RowOf (parameter b y).tables.blocks ts (slice_get ts row.block) i row
-    made i row p = subst (λ z. RowOf (parameter b y).tables.blocks ts z i row) (sym (ap (slice_get ts) p.2 ∙ a.fine.stack.2)) (formal_row d (subst Parametric (sym p.3) tt) p.4)
+    made i row p = subst (λ z. RowOf (parameter b y).tables.blocks ts z i row) (sym (ap (slice_get ts) p.2 ∙ a.fine.stack.2)) (formal_row d (subst Parametric (sym p.3) tt) (shown (entry.Unspecified None) row.listed refl p.4))
 
 pub block_agrees : (b : BuildingOf) (k : BlockKind) (text first : ℕ) (x : Text) (owed : List Mark) (ts : List Text) (os : List Open) → KindOf k x → Ordinary x → Agree b ts os → Agree (opened b k text first) (ts ++ x ∷ []) (item x owed ∷ os)
 block_agrees b k text first x owed ts os p ordinary a = opened_agrees b k text first ts x owed os p ordinary a.fine (begun_rows b (fresh b k first) (placed b.tables b.current first).places ts x os a.fine a.rows)
@@ -335,6 +360,10 @@ run_agrees b ts (standard_class {os = os} {ms = ms} {xs = xs} p text first x owe
 run_agrees b ts (declares {os = os} {ms = ms} {xs = xs} x owed quals y e d n own q written g) w a =
     subst (λ c. Agree c (ts ++ xs) []) (sym (run_both (declared b y e) quals ms))
     (run_agrees (run marked (declared b y e) quals) ts g ((λ z f p. w.0 z f (there p)), w.1) (declares_agrees b x owed quals y e ts os d own q (w.0 y e here) a))
+run_agrees b ts (specifies_virtual {os = os} {ms = ms} {xs = xs} x owed quals y result d n q g) w a =
+    let e : Entry = entry.Virtual (result_named result) None in
+    subst (λ c. Agree c (ts ++ xs) []) (sym (run_both (declared b y e) quals ms))
+    (run_agrees (run marked (declared b y e) quals) ts g w (virtual_agrees b x owed quals y (result_named result) ts os d q a))
 run_agrees b ts (parameter_mark {os = os} x owed y d has g) w a = run_agrees (parameter b y) ts g w (parameter_agrees b x owed y ts os d a)
 run_agrees {os = os} b ts (moded y g) w a = run_agrees _ ts g w (quiet_agrees b _ ts os (moded_step b y.token (found_in b.tables b.current y.name)) a)
 run_agrees {os = os} b ts (specified {ms = ms} {xs = xs} quals y k ty p q g) w a =

@@ -8,8 +8,9 @@ use Rattle.sim_tree.specs.declared.stmt.TypeName.{TypeName}
 use Rattle.sim_tree.specs.declared.stmt.TypeName.TheVariants as type_name
 use Rattle.sim_tree.specs.declared.stmt.Variable.{Variable}
 use Rattle.sim_tree.specs.Named.{all_named, named}
-use Rattle.sim_tree.specs.Order.{Ascends, Behind, InOrder, Spot, Token, in_arms, in_block, in_bounds, in_declaration, in_declarations, in_each, in_element, in_expression, in_name, in_result, in_schedule, in_segment, in_side, in_statement, in_statements, in_type, in_variable, tokens, in_prefix}
-use Rattle.sim_tree.specs.Syntax.{Also, Arms, Arrayed, Arrays, Begin, Block, BoundPair, Declaration, Declarations, DeclareClass, DeclareProcedure, Element, Expression, Expressions, Heading, Interface, NoArm, NoDeclaration, NoStatement, RightSide, Schedule, Statement, Statements, Variables, When, With, Prefix}
+use Rattle.sim_tree.specs.Order.{Ascends, Behind, Spot, Token, in_bounds, in_each, in_element, in_expression, in_name, in_result, in_schedule, in_segment, in_side, in_type, in_variable, tokens, in_prefix}
+use Rattle.sim_agree.specs.Order.{InOrder, in_arms, in_block, in_declaration, in_declarations, in_statement, in_statements, in_virtual}
+use Rattle.sim_tree.specs.Syntax.{Also, Arms, Arrayed, Arrays, Begin, Block, BoundPair, Declaration, Declarations, DeclareClass, DeclareProcedure, Element, Expression, Expressions, Heading, Interface, NoArm, NoDeclaration, NoStatement, RightSide, Schedule, Statement, Statements, Variables, Virtual, When, With, Prefix}
 use Rattle.sim_tree.specs.Syntax as syntax
 use Rattle.sim_scope.specs.declared.types.StandardPrefix.{StandardPrefix}
 use Rattle.sim_scope.specs.declared.types.StandardPrefix.TheVariants as prefixes
@@ -297,6 +298,14 @@ result_passes : (result : Option TypeName) (l : List Spot) (from : ℕ) → Asce
 result_passes None l from h = (from, h)
 result_passes (Some type) l from h = type_passes type l from h
 
+abbrev AnyVirtual : Virtual → Type 0
+AnyVirtual v = Unit {0}
+
+virtual_passes : (v : Virtual) (l : List Spot) (from : ℕ) → Ascends from (in_virtual v l) → AnyVirtual v × Rest l
+virtual_passes v l from h =
+    let r = result_passes v.result (in_each in_name v.names l) from h in
+    let x = each_dots in_name Any name_passes v.names l r.0 r.1 in (tt, x.1)
+
 -- ---- the walk over a program
 
 -- the body of a class is read as its own text, where it is a block
@@ -456,17 +465,19 @@ module _ (s : Source) (C : Meets) where
         let n = both_unbroken (declaring.class prefix i g interface) (class_events declaring x ++ Closes end ∷ []) b in
         let m = both_unbroken (class_events declaring x) (Closes end ∷ []) n.1 in
         let j = parts_connect s C (class_events connections x) [] k in
-        let v = prefix_passes prefix (in_name g.name (in_each in_name g.formals (in_block x (Behind end ∷ l)))) from h in
-        let f = each_dots in_name Any name_passes g.formals (in_block x (Behind end ∷ l)) (g.name.token.0 + 1) v.1.1 in
-        let r = class_fitted prefix i g interface x end p.2 m.0 j.0 l f.1.0 f.1.1 in
+        let v = prefix_passes prefix (in_name g.name (in_each in_name g.formals (in_each in_virtual interface.virtuals (in_block x (Behind end ∷ l))))) from h in
+        let f = each_dots in_name Any name_passes g.formals (in_each in_virtual interface.virtuals (in_block x (Behind end ∷ l))) (g.name.token.0 + 1) v.1.1 in
+        let u = each_dots in_virtual AnyVirtual virtual_passes interface.virtuals (in_block x (Behind end ∷ l)) f.1.0 f.1.1 in
+        let r = class_fitted prefix i g interface x end p.1 m.0 j.0 l u.1.0 u.1.1 in
         r
     declaration_fitted (DeclareClass prefix i g interface a end) p b k l from h =
         let n = both_unbroken (declaring.class prefix i g interface) (statement_events declaring ClassBody a ++ Closes end ∷ []) b in
         let m = both_unbroken (statement_events declaring ClassBody a) (Closes end ∷ []) n.1 in
         let j = parts_connect s C (statement_events connections ClassBody a) [] k in
-        let v = prefix_passes prefix (in_name g.name (in_each in_name g.formals (in_statement a (Behind end ∷ l)))) from h in
-        let f = each_dots in_name Any name_passes g.formals (in_statement a (Behind end ∷ l)) (g.name.token.0 + 1) v.1.1 in
-        let x = statement_fitted ClassBody true (λ z. tt) a tt p.2 m.0 j.0 (Behind end ∷ l) f.1.0 f.1.1 in
+        let v = prefix_passes prefix (in_name g.name (in_each in_name g.formals (in_each in_virtual interface.virtuals (in_statement a (Behind end ∷ l))))) from h in
+        let f = each_dots in_name Any name_passes g.formals (in_each in_virtual interface.virtuals (in_statement a (Behind end ∷ l))) (g.name.token.0 + 1) v.1.1 in
+        let u = each_dots in_virtual AnyVirtual virtual_passes interface.virtuals (in_statement a (Behind end ∷ l)) f.1.0 f.1.1 in
+        let x = statement_fitted ClassBody true (λ z. tt) a tt p.1 m.0 j.0 (Behind end ∷ l) u.1.0 u.1.1 in
         (tt, ((tt, (x.0, tt)), fitted_prefix s C prefix (statement_texts a) x.1), (end, x.2.1.1))
 
     -- a class whose body is a block

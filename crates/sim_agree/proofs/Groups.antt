@@ -6,7 +6,7 @@ use Rattle.sim_tree.specs.declared.stmt.Mode.TheVariants as word
 use Rattle.sim_tree.specs.declared.stmt.TypeName.{TypeName}
 use Rattle.sim_tree.specs.declared.stmt.TypeName.TheVariants as type_name
 use Rattle.sim_tree.specs.declared.stmt.Variable.{Variable}
-use Rattle.sim_tree.specs.Syntax.{Also, Arms, Arrayed, Arrays, Begin, Block, Compound, Declarations, DeclareClass, DeclareProcedure, Heading, Interface, Moded as ModePart, NoArm, NoDeclaration, NoStatement, Prefix, Program, Specification, Specified as Specifier, Statement, Statements, Variables, When, With, Protected, Expressions}
+use Rattle.sim_tree.specs.Syntax.{Also, Arms, Arrayed, Arrays, Begin, Block, Compound, Declarations, DeclareClass, DeclareProcedure, Heading, Interface, Moded as ModePart, NoArm, NoDeclaration, NoStatement, Prefix, Program, Specification, Specified as Specifier, Statement, Statements, Variables, Virtual, When, With, Protected, Expressions}
 use Rattle.sim_tree.specs.Syntax as syntax
 use Rattle.sim_base.specs.declared.rule.Rule.{Rule}
 use Rattle.sim_base.specs.declared.rule.Rule.TheVariants as r
@@ -23,14 +23,14 @@ use Rattle.sim_scope.specs.declared.types.SimType.{SimType}
 use Rattle.sim_scope.specs.declared.types.SimType.TheVariants as t
 use Rattle.sim_scope.specs.Bodies.{body_declarations, body_statements}
 use Rattle.sim_scope.specs.Building.{Breaks, Closes, Declares, DeclaresClass, DeclaresProcedure, Headed, Inner, Mark, Moded, Opens, Parameter, Qualifies, Specified, Prefixes, Protects}
-use Rattle.sim_scope.specs.Declare.{array_marks, class_marks, class_prefix_marks, declaring, first_of_class, first_of_procedure, headed_marks, heading_marks, inner_marks, interface_marks, mode_named, mode_part_marks, moded_marks, parameter_marks, procedure_marks, program_marks, protection_marks, qualified_marks, qualified_result, result_named, segment_marks, specification_marks, specified_marks, type_named, variable_marks, virtual_marks, brought_marks, marks_of_standard, prefix_marks, standard_marks, is_written, protected_marks, prefixed_marks}
+use Rattle.sim_scope.specs.Declare.{array_marks, class_marks, class_prefix_marks, declaring, first_of_class, first_of_procedure, headed_marks, heading_marks, inner_marks, interface_marks, mode_named, mode_part_marks, moded_marks, parameter_marks, procedure_marks, program_marks, protection_marks, qualified_marks, qualified_result, result_named, segment_marks, specification_marks, specified_marks, type_named, variable_marks, virtual_marks, virtual_name_marks, brought_marks, marks_of_standard, prefix_marks, standard_marks, is_written, protected_marks, prefixed_marks}
 use Rattle.sim_scope.specs.Runs.{each}
 use Rattle.sim_scope.specs.declared.types.StandardPrefix.{StandardPrefix}
 use Rattle.sim_scope.specs.declared.types.StandardPrefix.TheVariants as standard_prefixes
 use Rattle.sim_scope.specs.Standard.{standard_prefix}
 use Rattle.sim_scope.specs.Walk.{arms_events, begin_of, block_events, declaration_events, declarations_events, program_events, statement_events, statements_events, whole_events}
 use Rattle.sim_meaning.specs.Texts.{BlockText, ClassText, ConnectionText, ProcedureText, Text, arms_texts, block_texts, declaration_texts, declarations_texts, prefix_texts, program_texts, statement_texts, statements_texts, PrefixedText, prefixed_texts, standard_texts}
-use Rattle.sim_agree.specs.Plain.{Each, Plain, PlainArms, PlainBlock, PlainDeclarations, PlainHeading, PlainInterface, PlainMode, PlainSpecification, PlainStatement, PlainStatements, PlainWord, PlainStart}
+use Rattle.sim_agree.specs.Plain.{Each, Plain, PlainArms, PlainBlock, PlainDeclarations, PlainHeading, PlainMode, PlainSpecification, PlainStatement, PlainStatements, PlainWord, PlainStart}
 use Rattle.sim_agree.proofs.StandardPrefixes.{Spells, brought_texts, classes_of, no_texts, texts_of_standard}
 
 -- what a block or a class declares itself, but for its parameters, procedures and classes
@@ -84,12 +84,22 @@ Prefixing (ClassText prefix h ds ss) = Unit {0}
 Prefixing (PrefixedText class es ds ss) = Unit {0}
 Prefixing _ = ⊥
 
+-- a class, which may have virtual parts
+abbrev pub Interfacing : Text → Type 0
+Interfacing (ClassText prefix h ds ss) = Unit {0}
+Interfacing _ = ⊥
+
 -- a variable, a constant or an array
 abbrev pub OwnEntry : Entry → Type 0
 OwnEntry (entry.Variable ty) = Unit {0}
 OwnEntry (entry.Constant ty) = Unit {0}
 OwnEntry (entry.Array ty n) = Unit {0}
 OwnEntry _ = ⊥
+
+-- what a mark declares: no virtual knows its match yet
+abbrev pub Declarable : Entry → Type 0
+Declarable (entry.Virtual result (Some d)) = ⊥
+Declarable _ = Unit {0}
 
 abbrev pub PlainFormal : FormalKind → Option SimType → Type 0
 PlainFormal shape.Simple (Some ty) = Unit {0}
@@ -116,6 +126,7 @@ OfReferences (entry.Variable ty) = IsReference ty
 OfReferences (entry.Constant ty) = IsReference ty
 OfReferences (entry.Array ty n) = IsReference ty
 OfReferences (entry.Procedure result k) = AreReferences result
+OfReferences (entry.Virtual result own) = AreReferences result
 OfReferences (entry.Formal f) = AreReferences f.ty
 OfReferences _ = ⊥
 
@@ -186,6 +197,8 @@ pub data Grouped : List Open → List Mark → List Text → Type 0 where
       → Grouped (item x owed ∷ os) (DeclaresClass h.name ∷ Opens kind.Class text first ∷ (whole_prefix p first y ++ ms)) (ClassText (Some y) h ds ss ∷ (brought_texts p ++ xs))
   declares : {os : List Open} {ms : List Mark} {xs : List Text} (x : Text) (owed quals : List Mark) (y : Identifier) (e : Entry) → Declaring x → NoHeaded owed → OwnEntry e → Quals (OfReferences e) quals → Written e y quals (declared_in_text x)
       → Grouped (item x owed ∷ os) ms xs → Grouped (item x (Declares y e ∷ owed) ∷ os) (Declares y e ∷ (quals ++ ms)) xs
+  specifies_virtual : {os : List Open} {ms : List Mark} {xs : List Text} (x : Text) (owed quals : List Mark) (y : Identifier) (result : Option TypeName) → Interfacing x → NoHeaded owed → Quals (AreReferences (result_named result)) quals
+      → Grouped (item x owed ∷ os) ms xs → Grouped (item x owed ∷ os) (Declares y (entry.Virtual (result_named result) None) ∷ (quals ++ ms)) xs
   parameter : {os : List Open} {ms : List Mark} {xs : List Text} (x : Text) (owed : List Mark) (y : Identifier) → Taking x → Has (Headed y) owed
       → Grouped (item x owed ∷ os) ms xs → Grouped (item x owed ∷ os) (Parameter y ∷ ms) xs
   moded : {os : List Open} {ms : List Mark} {xs : List Text} (y : Identifier) → Grouped os ms xs → Grouped os (Moded y mode.ByValue ∷ ms) xs
@@ -482,10 +495,6 @@ inside_block : (os : List Open) (x : Text) (d ds : List Mark) (ss : List Mark) (
     → Adds (item x d ∷ os) ds dt (item x [] ∷ os) → Adds (item x [] ∷ os) ss st (item x [] ∷ os) → Adds (item x d ∷ os) ((ds ++ ss) ++ Closes end ∷ []) (dt ++ st) os
 inside_block os x d ds ss dt st end a b = as_texts ((dt ++ st) ++ []) (dt ++ st) (append-nil (dt ++ st)) (both (both a b) (ends x end os))
 
--- a class without virtual parts
-pub only_protections : (i : Interface) → PlainInterface i → interface_marks i ≡ each protection_marks i.protections
-only_protections i p = ap (λ z. each protection_marks i.protections ++ each virtual_marks z) p ∙ append-nil (each protection_marks i.protections)
-
 guarded_one : (hides keeps : Bool) (y : Identifier) (os : List Open) → Adds os (Protects hides keeps y ∷ []) [] os
 guarded_one hides keeps y os = record { before = λ ms xs g. guarded hides keeps y g }
 
@@ -498,8 +507,22 @@ protections_add : (ps : List Protected) (os : List Open) → Adds os (each prote
 protections_add [] os = none
 protections_add (p ∷ ps) os = both (guarded_add (is_written p.hidden) (is_written p.protected) p.names os) (protections_add ps os)
 
-interface_adds : (i : Interface) → PlainInterface i → (os : List Open) → Adds os (interface_marks i) [] os
-interface_adds i p os = as_marks (each protection_marks i.protections) (interface_marks i) (sym (only_protections i p)) (protections_add i.protections os)
+-- virtual parts
+module _ (x : Text) (specifies : Interfacing x) (owed : List Mark) (free : NoHeaded owed) (os : List Open) where
+  virtual_one : (result : Option TypeName) (y : Identifier) → Adds (item x owed ∷ os) (virtual_name_marks result y) [] (item x owed ∷ os)
+  unfolding virtual_name_marks
+  virtual_one result y = record { before = λ ms xs g. specifies_virtual x owed (qualified_result result) y result specifies free (quals_of_result result) g }
+
+  names_add : (result : Option TypeName) (ys : List Identifier) → Adds (item x owed ∷ os) (each (virtual_name_marks result) ys) [] (item x owed ∷ os)
+  names_add result [] = none
+  names_add result (y ∷ ys) = both (virtual_one result y) (names_add result ys)
+
+  virtuals_add : (vs : List Virtual) → Adds (item x owed ∷ os) (each virtual_marks vs) [] (item x owed ∷ os)
+  virtuals_add [] = none
+  virtuals_add (v ∷ vs) = both (names_add v.result v.names) (virtuals_add vs)
+
+  interface_adds : (i : Interface) → Adds (item x owed ∷ os) (interface_marks i) [] (item x owed ∷ os)
+  interface_adds i = both (protections_add i.protections (item x owed ∷ os)) (virtuals_add i.virtuals)
 
 -- the texts of a class, whose body is `begin .. end` or one statement
 pub one_text : (prefix : Option Identifier) (h : Heading) (a : Statement) → ClassText prefix h NoDeclaration (Also a NoStatement) ∷ (prefix_texts prefix ++ statement_texts a) ≡ ClassText prefix h NoDeclaration (Also a NoStatement) ∷ (prefix_texts prefix ++ (statement_texts a ++ []))
@@ -530,12 +553,12 @@ procedure_adds x d os owed n result j h a e p body =
     as_texts (y ∷ (statement_texts a ++ [])) (y ∷ statement_texts a) (ap (λ z. y ∷ z) (append-nil (statement_texts a)))
     (both (both (begins_procedure x d owed n os result j h a) (heading_adds y tt [] ps h p)) (both body (ends y e ps)))
 
-class_adds : (x : Text) → Declaring x → (os : List Open) (owed : List Mark) → NoHeaded owed → (prefix : Option Identifier) (j : ℕ) (h : Heading) (i : Interface) (a : Statement) (e : ℕ) → PlainHeading h → PlainInterface i
+class_adds : (x : Text) → Declaring x → (os : List Open) (owed : List Mark) → NoHeaded owed → (prefix : Option Identifier) (j : ℕ) (h : Heading) (i : Interface) (a : Statement) (e : ℕ) → PlainHeading h
     → Adds (item (ClassText prefix h (body_declarations a) (body_statements a)) (own_marks (body_declarations a)) ∷ item x owed ∷ os) (statement_events declaring ClassBody a) (declarations_texts (body_declarations a) ++ statements_texts (body_statements a))
     (item (ClassText prefix h (body_declarations a) (body_statements a)) [] ∷ item x owed ∷ os)
     → Adds (item x owed ∷ os) (declaration_events declaring (DeclareClass prefix j h i a e)) (declaration_texts (DeclareClass prefix j h i a e)) (item x owed ∷ os)
 unfolding declaring
-class_adds x d os owed n prefix j h i a e p q body =
+class_adds x d os owed n prefix j h i a e p body =
     let y : Text = ClassText prefix h (body_declarations a) (body_statements a) in
     let ps : List Open = item x owed ∷ os in
     let inside : List Text = declarations_texts (body_declarations a) ++ statements_texts (body_statements a) in
@@ -543,7 +566,7 @@ class_adds x d os owed n prefix j h i a e p q body =
     as_texts (y ∷ ((prefix_texts prefix ++ []) ++ (inside ++ []))) (declaration_texts (DeclareClass prefix j h i a e))
     (ap (λ z. y ∷ (z ++ (inside ++ []))) (append-nil (prefix_texts prefix)) ∙ ap (λ z. y ∷ (prefix_texts prefix ++ z)) (append-nil inside) ∙ sym (class_texts prefix j h i a e))
     (both (both (begins_class x d owed n os prefix j h (body_declarations a) (body_statements a))
-    (both (heading_adds y tt own ps h p) (interface_adds i q (item y own ∷ ps)))) (both body (ends y e ps)))
+    (both (heading_adds y tt own ps h p) (interface_adds y tt own (no_headed_own (body_declarations a)) ps i))) (both body (ends y e ps)))
 
 -- a statement stands in the body of a class, or elsewhere
 abbrev place : (in_class : Bool) → Position
@@ -625,7 +648,7 @@ mutual
   declarations_add x d os (With (DeclareProcedure result j h a e) ds) w p =
       both (procedure_adds x d os (own_marks ds) (no_headed_own ds) result j h a e p.0.0 (statement_adds false a (item (ProcedureText result h a) [] ∷ item x (own_marks ds) ∷ os) p.0.1)) (declarations_add x d os ds w p.1)
   declarations_add x d os (With (DeclareClass prefix j h i a e) ds) w p =
-      both (class_adds x d os (own_marks ds) (no_headed_own ds) prefix j h i a e p.0.0 p.0.1 (class_body_adds prefix a h (item x (own_marks ds) ∷ os) p.0.2 (λ ps. statement_adds false a ps p.0.2))) (declarations_add x d os ds w p.1)
+      both (class_adds x d os (own_marks ds) (no_headed_own ds) prefix j h i a e p.0.0 (class_body_adds prefix a h (item x (own_marks ds) ∷ os) p.0.1 (λ ps. statement_adds false a ps p.0.1))) (declarations_add x d os ds w p.1)
 
 -- a plain program
 pub program_grouped : (p : Program) → Plain p → Grouped [] (program_events declaring p) (program_texts p.prefix p.block)

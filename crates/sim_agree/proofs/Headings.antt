@@ -1,10 +1,10 @@
 -- The parameters of the procedures and classes of an allowed plain program, and to which texts these belong.
-use Rattle.std.proofs.Common.{◌≡◌, ◌<◌, ◌≤◌, ℕ, zero, suc, List, [], ◌∷◌, length, take, Option, Some, None, refl, sym, ap, ◌∙◌, subst, arith, ◌++◌}
+use Rattle.std.proofs.Common.{◌≡◌, ◌<◌, ◌≤◌, ℕ, zero, suc, List, [], ◌∷◌, length, take, Option, Some, None, refl, sym, ap, ◌∙◌, subst, arith, ◌++◌, false, true}
 use Rattle.std.specs.Prelude.{slice_get}
 use Rattle.std.proofs.lemmas.Option.{slice_get_within}
 use Rattle.sim_base.specs.declared.numbering.DeclNo.{DeclNo}
 use Rattle.sim_tree.specs.declared.stmt.TypeName.{TypeName}
-use Rattle.sim_tree.specs.Order.{InOrder}
+use Rattle.sim_agree.specs.Order.{InOrder}
 use Rattle.sim_tree.specs.Syntax.{Heading, Statement}
 use Rattle.sim_scope.specs.declared.scopes.Declaration.{Declaration}
 use Rattle.sim_scope.specs.declared.types.Entry.{Entry}
@@ -23,7 +23,7 @@ use Rattle.sim_scope.specs.Levels.{owner_of_level, base}
 use Rattle.sim_scope.specs.Standard.{parameter_of, result_of}
 use Rattle.sim_meaning.specs.Levels.{is_class}
 use Rattle.sim_agree.proofs.ClassRows.{own_no_class}
-use Rattle.sim_scope.specs.Scopes.{class_formals, class_formals_of, entry_of, formals_in, formals_beyond}
+use Rattle.sim_scope.specs.Scopes.{class_formals, class_formals_of, entry_of, formals_beyond, formals_in, is_virtual}
 use Rattle.sim_scope.specs.Source.{Source, block_of}
 use Rattle.sim_scope.specs.Tables.{BlockOf}
 use Rattle.sim_meaning.specs.Closing as closing
@@ -35,8 +35,8 @@ use Rattle.sim_sound.specs.Typed.{ClassThere, Distinct, FormalsAre, NoFormal, No
 use Rattle.sim_agree.specs.Plain.{Plain}
 use Rattle.sim_agree.specs.TablesOf.{TablesOf}
 use Rattle.sim_agree.proofs.Clean.{Counts}
-use Rattle.sim_agree.proofs.Fine.{Alike, IsStandard, Rising, RowIn, attribute_row, class_row, formal_row, own_row, owner_in, procedure_row, simulation_row}
-use Rattle.sim_agree.proofs.Groups.{Declaring, OwnEntry, PlainFormal, Prefixing, Taking}
+use Rattle.sim_agree.proofs.Fine.{Alike, IsStandard, Rising, RowIn, attribute_row, class_row, formal_row, own_row, owner_in, procedure_row, simulation_row, virtual_row}
+use Rattle.sim_agree.proofs.Groups.{Declaring, OwnEntry, PlainFormal, Prefixing, Taking, Interfacing}
 use Rattle.sim_agree.proofs.Steps.{IsParameter, NoName, Parametric}
 use Rattle.sim_agree.proofs.Tables as t
 use Rattle.sim_agree.proofs.Tables.{Bs, Ts}
@@ -95,6 +95,17 @@ at_among [] n d at = absurd (cc)
 at_among (m ∷ ns) zero d at = subst (λ z. Among z (m ∷ ns)) (some_same m d at) first
 at_among (m ∷ ns) (suc n) d at = later (at_among ns n d at)
 
+virtual_is_none : (e : Entry) → is_virtual e ≡ true → IsParameter e → ⊥
+virtual_is_none (entry.Variable ty) v q = q
+virtual_is_none (entry.Constant ty) v q = q
+virtual_is_none (entry.Array ty n) v q = q
+virtual_is_none (entry.Procedure r n) v q = q
+virtual_is_none (entry.Class n) v q = q
+virtual_is_none (entry.Virtual r n) v q = q
+virtual_is_none (entry.Formal f) v q = cc
+virtual_is_none (entry.Unspecified w) v q = cc
+virtual_is_none (entry.Attribute name given result) v q = q
+
 taken : (ns : List DeclNo) (m : ℕ) → m ≡ length ns → take m ns ≡ ns
 taken [] zero e = refl
 taken [] (suc m) e = absurd (let f : suc m ≡ 0 = e in cc)
@@ -139,6 +150,7 @@ module _ (s : Source) (of : TablesOf s) (plain : Plain s.program) (order : InOrd
   param_in x d row (procedure_row y p) q = absurd (procedure_is_none (result_named p.result) p.number row.entry p.entry q)
   param_in x d row (class_row y p) q = absurd (subst IsParameter p.entry q)
   param_in x d row (formal_row y p l) q = p
+  param_in x d row (virtual_row y p l) q = absurd (virtual_is_none row.entry p q)
   param_in x d row (attribute_row y p) q = absurd (subst IsParameter p.entry q)
   param_in x d row (simulation_row y p) q = absurd (subst IsParameter p.entry q)
 
@@ -197,6 +209,7 @@ module _ (s : Source) (of : TablesOf s) (plain : Plain s.program) (order : InOrd
       go x f (procedure_row y p) = absurd (subst Declaring (some_same x (ProcedureText result h a) f) y)
       go x f (class_row y p) = absurd (subst Declaring (some_same x (ProcedureText result h a) f) y)
       go x f (formal_row y p l) = p
+      go x f (virtual_row y p l) = absurd (subst Interfacing (some_same x (ProcedureText result h a) f) y)
       go x f (attribute_row y p) = absurd (subst IsStandard (some_same x (ProcedureText result h a) f) y)
       go x f (simulation_row y p) = absurd (subst Prefixing (some_same x (ProcedureText result h a) f) y)
 
@@ -361,11 +374,23 @@ module _ (s : Source) (of : TablesOf s) (plain : Plain s.program) (order : InOrd
       of_procedures x n (entry.Attribute name given y) a = tt
       of_procedures x n (entry.Formal f) a = absurd a
 
+      of_virtuals : (e : Entry) → is_virtual e ≡ true → NoFormal (Some e)
+      of_virtuals (entry.Variable ty) v = tt
+      of_virtuals (entry.Constant ty) v = tt
+      of_virtuals (entry.Array ty m) v = tt
+      of_virtuals (entry.Procedure y m) v = tt
+      of_virtuals (entry.Class m) v = tt
+      of_virtuals (entry.Virtual y m) v = tt
+      of_virtuals (entry.Unspecified w) v = tt
+      of_virtuals (entry.Attribute name given y) v = tt
+      of_virtuals (entry.Formal f) v = absurd (cc)
+
       in_row : (x : Text) → Some x ≡ Some z → (d : ℕ) (row : Declaration) → RowIn (Bs s of plain order) (Ts s of plain order) x d row → NoFormal (Some row.entry)
       in_row x f d row (own_row y p) = of_own p.entry row.entry p.fits p.alike
       in_row x f d row (procedure_row y p) = of_procedures (result_named p.result) p.number row.entry p.entry
       in_row x f d row (class_row y p) = subst (λ z. NoFormal (Some z)) (sym p.entry) tt
       in_row x f d row (formal_row y p l) = absurd (free (subst Taking (some_same x z f) y))
+      in_row x f d row (virtual_row y p l) = of_virtuals row.entry p
       in_row x f d row (attribute_row y p) = subst (λ z. NoFormal (Some z)) (sym p.entry) tt
       in_row x f d row (simulation_row y p) = subst (λ z. NoFormal (Some z)) (sym p.entry) tt
 
@@ -421,6 +446,7 @@ module _ (s : Source) (of : TablesOf s) (plain : Plain s.program) (order : InOrd
           }
       go row at f x (class_row y p) = absurd (let g : entry.Class p.number ≡ entry.Procedure result k = sym p.entry ∙ f in cc)
       go row at f x (formal_row y p l) = absurd (subst Parametric f p)
+      go row at f x (virtual_row y p l) = absurd (let g : false ≡ true = sym (ap is_virtual f) ∙ p in cc)
       go row at f x (attribute_row y p) = absurd (let g : entry.Attribute p.name (typed_or_none (Some p.first) (parameter_of p.name)) (typed_or_none (Some p.first) (result_of p.name)) ≡ entry.Procedure result k = sym p.entry ∙ f in cc)
       go row at f x (simulation_row y p) = absurd (let g : entry.Attribute p.name (typed_or_none (Some p.first) (parameter_of p.name)) (typed_or_none (Some p.first) (result_of p.name)) ≡ entry.Procedure result k = sym p.entry ∙ f in cc)
 
@@ -447,5 +473,6 @@ module _ (s : Source) (of : TablesOf s) (plain : Plain s.program) (order : InOrd
           number : (m n : ℕ) → entry.Class m ≡ entry.Class n → m ≡ n
           number m n q = cc
       go row at f x (formal_row y p l) = absurd (subst Parametric f p)
+      go row at f x (virtual_row y p l) = absurd (let g : false ≡ true = sym (ap is_virtual f) ∙ p in cc)
       go row at f x (attribute_row y p) = absurd (let g : entry.Attribute p.name (typed_or_none (Some p.first) (parameter_of p.name)) (typed_or_none (Some p.first) (result_of p.name)) ≡ entry.Class k = sym p.entry ∙ f in cc)
       go row at f x (simulation_row y p) = absurd (let g : entry.Attribute p.name (typed_or_none (Some p.first) (parameter_of p.name)) (typed_or_none (Some p.first) (result_of p.name)) ≡ entry.Class k = sym p.entry ∙ f in cc)

@@ -10,7 +10,7 @@ use Rattle.sim_base.specs.declared.numbering.TokenNo.{TokenNo}
 use Rattle.sim_base.specs.declared.rule.Rule.{Rule}
 use Rattle.sim_base.specs.declared.rule.Rule.TheVariants as r
 use Rattle.sim_tree.specs.declared.expr.Identifier.{Identifier}
-use Rattle.sim_tree.specs.Order.{InOrder}
+use Rattle.sim_agree.specs.Order.{InOrder}
 use Rattle.sim_tree.specs.Syntax.{Program}
 use Rattle.sim_scope.specs.declared.scopes.Declaration.{Declaration}
 use Rattle.sim_scope.specs.declared.types.BlockKind.{BlockKind}
@@ -37,7 +37,7 @@ use Rattle.sim_agree.specs.TablesOf.{TablesOf}
 use Rattle.sim_agree.proofs.Calm.{declared_calm}
 use Rattle.sim_agree.proofs.Completing.{bare_row}
 use Rattle.sim_agree.proofs.Tables as tables
-use Rattle.sim_agree.proofs.Groups.{Grouped, OfReferences, Open, OwnEntry, Quals, block, breaks_rule, closes, connects, declares, declares_class, headed as headed_mark, inner_mark, moded as moded_mark, nothing, parameter as parameter_mark, procedure, program_grouped, qualifies, specified as specified_mark, unqualified, prefixes, guarded, prefixed_block, standard_block, standard_class, whole_prefix}
+use Rattle.sim_agree.proofs.Groups.{Grouped, OfReferences, Open, OwnEntry, Quals, block, breaks_rule, closes, connects, declares, declares_class, headed as headed_mark, inner_mark, moded as moded_mark, nothing, parameter as parameter_mark, procedure, program_grouped, qualifies, specified as specified_mark, specifies_virtual, unqualified, prefixes, guarded, prefixed_block, standard_block, standard_class, whole_prefix}
 use Rattle.sim_agree.proofs.BroughtFine as brought
 use Rattle.sim_agree.proofs.BroughtKnown as known
 use Rattle.sim_agree.proofs.BroughtRows.{with_standard}
@@ -407,6 +407,10 @@ run_held b (standard_class {ms = ms} p text first x owed y hd ds ss e dx nh g) h
     (opened_held held kind.Class text first (class_held b hd.name (entry.Class (length b.tables.blocks)) b.current (declared_calm b hd.name (entry.Class (length b.tables.blocks))).size h))))
 run_held b (declares x owed quals y e dx nh own q written g) h =
     subst ClassesHeld (sym (run_both (declared b y e) quals _)) (run_held (run marked (declared b y e) quals) g (quals_held (declared b y e) _ quals q (other_held b y e (own_no_class e own) b.current h)))
+run_held b (specifies_virtual x owed quals y result dx nh q g) h =
+    subst ClassesHeld (sym (run_both (declared b y (entry.Virtual (result_named result) None)) quals _))
+    (run_held (run marked (declared b y (entry.Virtual (result_named result) None)) quals) g
+    (quals_held (declared b y (entry.Virtual (result_named result) None)) _ quals q (other_held b y (entry.Virtual (result_named result) None) (λ z. absurd (let f : entry.Virtual (result_named result) None ≡ entry.Class z.0 = z.1 in cc)) b.current h)))
 run_held b (parameter_mark x owed y tx has g) h = run_held (parameter b y) g (counted_held (declared b y (entry.Unspecified None)) (declared b y (entry.Unspecified None)).current (other_held b y (entry.Unspecified None) (λ z. absurd (let f : entry.Unspecified None ≡ entry.Class z.0 = z.1 in cc)) b.current h))
 run_held b (moded_mark y g) h = run_held (moded b y.token mode.ByValue (found_in b.tables b.current y.name)) g (held_same b (moded b y.token mode.ByValue (found_in b.tables b.current y.name)) (moded_grows b y.token (found_in b.tables b.current y.name)) h)
 run_held b (specified_mark quals y k ty pf q g) h =
@@ -447,7 +451,7 @@ class_before (entry.Constant ty) new n (inr f) g = absurd (let h : entry.Constan
 class_before (entry.Array ty m) new n (inr f) g = absurd (let h : entry.Array (t.Ref f.1.0) m ≡ entry.Class n = sym f.1.1 ∙ g in cc)
 class_before (entry.Procedure result m) new n (inr f) g = absurd (let h : entry.Procedure (type_to f.1.0 result) m ≡ entry.Class n = sym f.1.1 ∙ g in cc)
 class_before (entry.Class m) new n (inr f) g = absurd f.0
-class_before (entry.Virtual result m) new n (inr f) g = absurd f.0
+class_before (entry.Virtual result m) new n (inr f) g = absurd (let h : entry.Virtual (type_to f.1.0 result) m ≡ entry.Class n = sym f.1.1 ∙ g in cc)
 class_before (entry.Formal x) new n (inr f) g = absurd (let h : entry.Formal (record x { ty = type_to f.1.0 x.ty }) ≡ entry.Class n = sym f.1.1 ∙ g in cc)
 class_before (entry.Unspecified w) new n (inr f) g = absurd f.0
 class_before (entry.Attribute name given result) new n (inr f) g = absurd f.0

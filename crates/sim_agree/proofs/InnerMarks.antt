@@ -1,5 +1,5 @@
 -- Marks that leave each block its `inner` and the block around it.
-use Rattle.std.proofs.Common.{◌≡◌, ℕ, Bool, true, false, List, [], ◌∷◌, ◌++◌, length, map, Option, Some, None, refl, ap, ◌∙◌, if◌then◌else◌, sym, subst}
+use Rattle.std.proofs.Common.{◌≡◌, ℕ, Bool, true, false, List, [], ◌∷◌, ◌++◌, length, map, Option, Some, None, refl, ap, ◌∙◌, if◌then◌else◌}
 use Rattle.std.specs.Prelude.{◌&&◌, nat_eq, not, slice_get, slice_set}
 use Rattle.std.specs.List.{list_any}
 use Rattle.std.specs.Str.{bytes_eq}
@@ -23,12 +23,11 @@ use Rattle.sim_scope.specs.declared.types.Mode.{Mode}
 use Rattle.sim_scope.specs.declared.types.SimType.{SimType}
 use Rattle.sim_scope.specs.declared.types.WrittenMode.{WrittenMode}
 use Rattle.sim_scope.specs.Building.{Breaks, Brings, BuildingOf, Closes, Declares, DeclaresClass, DeclaresProcedure, Headed, Inner, Mark, Moded, Opens, Parameter, Prefixes, Protects, Provides, Qualifies, Specified, broken, broken_if, changed, changed_row, counted, counted_in, counting, declared, declared_again, declared_at, declared_inside, declared_new, declared_twice, entered, formal, found_in, headed, holding_class, in_class, is_by_name, is_match, is_procedure, marked, matched, mode_allowed, moded, moded_as, most_declarations, qualified, specified, specified_as, token_in, unspecified_at, unspecified_in, with_entry, with_mode, with_name, prefixed_by, guards, guards_at, protecting}
-use Rattle.sim_scope.specs.Declare.{array_marks, headed_marks, heading_marks, mode_part_marks, moded_marks, parameter_marks, qualified_marks, qualified_result, segment_marks, specification_marks, specified_marks, type_named, variable_marks, interface_marks, is_written, protected_marks, protection_marks, virtual_marks}
+use Rattle.sim_scope.specs.Declare.{array_marks, headed_marks, heading_marks, mode_part_marks, moded_marks, parameter_marks, qualified_marks, qualified_result, segment_marks, specification_marks, specified_marks, type_named, variable_marks, interface_marks, is_written, protected_marks, protection_marks, virtual_marks, virtual_name_marks}
 use Rattle.sim_scope.specs.Runs.{each, run}
 use Rattle.sim_scope.specs.Scopes.{declared_in, entry_of}
 use Rattle.sim_scope.specs.Tables.{BlockOf}
 use Rattle.sim_scope.proofs.Quiet.{map_set}
-use Rattle.sim_agree.specs.Plain.{PlainInterface}
 
 -- of a block the `inner` that is written in it, and the block around it
 pub record InnerRow : Type 0 where
@@ -265,7 +264,11 @@ keep_protected : (hides keeps : Bool) (x : Identifier) → AllKeep (protected_ma
 unfolding protected_marks
 keep_protected hides keeps x = (tt, tt)
 
-pub keep_interface : (i : Interface) → PlainInterface i → AllKeep (interface_marks i)
-keep_interface i p =
+keep_virtual : (t : Option TypeName) (x : Identifier) → AllKeep (virtual_name_marks t x)
+unfolding virtual_name_marks
+keep_virtual t x = (tt, keep_result t)
+
+pub keep_interface : (i : Interface) → AllKeep (interface_marks i)
+keep_interface i =
     keep_both (each protection_marks i.protections) (each virtual_marks i.virtuals) (keep_each protection_marks i.protections (λ q. keep_each (protected_marks (is_written q.hidden) (is_written q.protected)) q.names (keep_protected (is_written q.hidden) (is_written q.protected))))
-    (subst (λ z. AllKeep (each virtual_marks z)) (sym p) tt)
+    (keep_each virtual_marks i.virtuals (λ v. keep_each (virtual_name_marks v.result) v.names (keep_virtual v.result)))

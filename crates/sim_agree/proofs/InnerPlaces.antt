@@ -252,7 +252,7 @@ mutual
       let body = front events (Closes end ∷ []) (back heading (events ++ Closes end ∷ []) f) in
       let first = declarations_events declaring ds in
       let more = statements_events declaring ClassStatement ss in
-      (or_inners ss (back first more body), placed_behind prefix (declarations_texts ds ++ statements_texts ss) (both_each (declarations_texts ds) (statements_texts ss) (declarations_placed ds (p.2).0 (front first more body)) (class_statements_placed ss (p.2).1 (back first more body))))
+      (or_inners ss (back first more body), placed_behind prefix (declarations_texts ds ++ statements_texts ss) (both_each (declarations_texts ds) (statements_texts ss) (declarations_placed ds (p.1).0 (front first more body)) (class_statements_placed ss (p.1).1 (back first more body))))
   declaration_placed (DeclareClass prefix i h interface (syntax.Inner j) end) p f =
       let heading = class_marks prefix i h.name ++ (heading_marks h ++ interface_marks interface) in
       let events = statement_events declaring ClassBody (syntax.Inner j) in
@@ -262,52 +262,52 @@ mutual
       let heading = class_marks prefix i h.name ++ (heading_marks h ++ interface_marks interface) in
       let events = statement_events declaring ClassBody (syntax.Prefixed class arguments b) in
       let body = front events (Closes end ∷ []) (back heading (events ++ Closes end ∷ []) f) in
-      ((tt, tt), placed_behind prefix (statement_texts (syntax.Prefixed class arguments b)) (statement_placed (syntax.Prefixed class arguments b) p.2 body))
+      ((tt, tt), placed_behind prefix (statement_texts (syntax.Prefixed class arguments b)) (statement_placed (syntax.Prefixed class arguments b) p.1 body))
   declaration_placed (DeclareClass prefix i h interface (syntax.Activate j word e schedule) end) p f =
       let heading = class_marks prefix i h.name ++ (heading_marks h ++ interface_marks interface) in
       let events = statement_events declaring ClassBody (syntax.Activate j word e schedule) in
       let body = front events (Closes end ∷ []) (back heading (events ++ Closes end ∷ []) f) in
-      ((no_inner (syntax.Activate j word e schedule) body, tt), placed_behind prefix (statement_texts (syntax.Activate j word e schedule)) (statement_placed (syntax.Activate j word e schedule) p.2 body))
+      ((no_inner (syntax.Activate j word e schedule) body, tt), placed_behind prefix (statement_texts (syntax.Activate j word e schedule)) (statement_placed (syntax.Activate j word e schedule) p.1 body))
   declaration_placed (DeclareClass prefix i h interface (syntax.Empty j) end) p f =
       let heading = class_marks prefix i h.name ++ (heading_marks h ++ interface_marks interface) in
       let events = statement_events declaring ClassBody (syntax.Empty j) in
       let body = front events (Closes end ∷ []) (back heading (events ++ Closes end ∷ []) f) in
-      ((no_inner (syntax.Empty j) body, tt), placed_behind prefix (statement_texts (syntax.Empty j)) (statement_placed (syntax.Empty j) p.2 body))
+      ((no_inner (syntax.Empty j) body, tt), placed_behind prefix (statement_texts (syntax.Empty j)) (statement_placed (syntax.Empty j) p.1 body))
   declaration_placed (DeclareClass prefix i h interface (syntax.Call e) end) p f =
       let heading = class_marks prefix i h.name ++ (heading_marks h ++ interface_marks interface) in
       let events = statement_events declaring ClassBody (syntax.Call e) in
       let body = front events (Closes end ∷ []) (back heading (events ++ Closes end ∷ []) f) in
-      ((no_inner (syntax.Call e) body, tt), placed_behind prefix (statement_texts (syntax.Call e)) (statement_placed (syntax.Call e) p.2 body))
+      ((no_inner (syntax.Call e) body, tt), placed_behind prefix (statement_texts (syntax.Call e)) (statement_placed (syntax.Call e) p.1 body))
   declaration_placed (DeclareClass prefix i h interface (syntax.Assign e rs) end) p f =
       let heading = class_marks prefix i h.name ++ (heading_marks h ++ interface_marks interface) in
       let events = statement_events declaring ClassBody (syntax.Assign e rs) in
       let body = front events (Closes end ∷ []) (back heading (events ++ Closes end ∷ []) f) in
-      ((no_inner (syntax.Assign e rs) body, tt), placed_behind prefix (statement_texts (syntax.Assign e rs)) (statement_placed (syntax.Assign e rs) p.2 body))
+      ((no_inner (syntax.Assign e rs) body, tt), placed_behind prefix (statement_texts (syntax.Assign e rs)) (statement_placed (syntax.Assign e rs) p.1 body))
   declaration_placed (DeclareClass prefix i h interface (syntax.Choose j c x y) end) p f =
       let heading = class_marks prefix i h.name ++ (heading_marks h ++ interface_marks interface) in
       let events = statement_events declaring ClassBody (syntax.Choose j c x y) in
       let body = front events (Closes end ∷ []) (back heading (events ++ Closes end ∷ []) f) in
-      ((no_inner (syntax.Choose j c x y) body, tt), placed_behind prefix (statement_texts (syntax.Choose j c x y)) (statement_placed (syntax.Choose j c x y) p.2 body))
+      ((no_inner (syntax.Choose j c x y) body, tt), placed_behind prefix (statement_texts (syntax.Choose j c x y)) (statement_placed (syntax.Choose j c x y) p.1 body))
   declaration_placed (DeclareClass prefix i h interface (syntax.Repeat j c x) end) p f =
       let heading = class_marks prefix i h.name ++ (heading_marks h ++ interface_marks interface) in
       let events = statement_events declaring ClassBody (syntax.Repeat j c x) in
       let body = front events (Closes end ∷ []) (back heading (events ++ Closes end ∷ []) f) in
-      ((no_inner (syntax.Repeat j c x) body, tt), placed_behind prefix (statement_texts (syntax.Repeat j c x)) (statement_placed (syntax.Repeat j c x) p.2 body))
+      ((no_inner (syntax.Repeat j c x) body, tt), placed_behind prefix (statement_texts (syntax.Repeat j c x)) (statement_placed (syntax.Repeat j c x) p.1 body))
   declaration_placed (DeclareClass prefix i h interface (syntax.For j name sign assign es x) end) p f =
       let heading = class_marks prefix i h.name ++ (heading_marks h ++ interface_marks interface) in
       let events = statement_events declaring ClassBody (syntax.For j name sign assign es x) in
       let body = front events (Closes end ∷ []) (back heading (events ++ Closes end ∷ []) f) in
-      ((no_inner (syntax.For j name sign assign es x) body, tt), placed_behind prefix (statement_texts (syntax.For j name sign assign es x)) (statement_placed (syntax.For j name sign assign es x) p.2 body))
+      ((no_inner (syntax.For j name sign assign es x) body, tt), placed_behind prefix (statement_texts (syntax.For j name sign assign es x)) (statement_placed (syntax.For j name sign assign es x) p.1 body))
   declaration_placed (DeclareClass prefix i h interface (syntax.Inspect j e opening x close other) end) p f =
       let heading = class_marks prefix i h.name ++ (heading_marks h ++ interface_marks interface) in
       let events = statement_events declaring ClassBody (syntax.Inspect j e opening x close other) in
       let body = front events (Closes end ∷ []) (back heading (events ++ Closes end ∷ []) f) in
-      ((no_inner (syntax.Inspect j e opening x close other) body, tt), placed_behind prefix (statement_texts (syntax.Inspect j e opening x close other)) (statement_placed (syntax.Inspect j e opening x close other) p.2 body))
+      ((no_inner (syntax.Inspect j e opening x close other) body, tt), placed_behind prefix (statement_texts (syntax.Inspect j e opening x close other)) (statement_placed (syntax.Inspect j e opening x close other) p.1 body))
   declaration_placed (DeclareClass prefix i h interface (syntax.InspectWhen j e arms other) end) p f =
       let heading = class_marks prefix i h.name ++ (heading_marks h ++ interface_marks interface) in
       let events = statement_events declaring ClassBody (syntax.InspectWhen j e arms other) in
       let body = front events (Closes end ∷ []) (back heading (events ++ Closes end ∷ []) f) in
-      ((no_inner (syntax.InspectWhen j e arms other) body, tt), placed_behind prefix (statement_texts (syntax.InspectWhen j e arms other)) (statement_placed (syntax.InspectWhen j e arms other) p.2 body))
+      ((no_inner (syntax.InspectWhen j e arms other) body, tt), placed_behind prefix (statement_texts (syntax.InspectWhen j e arms other)) (statement_placed (syntax.InspectWhen j e arms other) p.1 body))
 
 program_placed : (prefix : Option Prefix) (b : Block) → PlainStart prefix → PlainBlock b → Free (program_events declaring (record { prefix = prefix; block = b })) → Each InPlace (program_texts prefix b)
 unfolding program_events declaring

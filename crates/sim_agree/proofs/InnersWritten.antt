@@ -6,7 +6,7 @@ use Rattle.sim_base.specs.declared.rule.Rule.{Rule}
 use Rattle.sim_base.specs.declared.rule.Rule.TheVariants as r
 use Rattle.sim_tree.specs.declared.expr.Identifier.{Identifier}
 use Rattle.sim_tree.specs.declared.stmt.TypeName.{TypeName}
-use Rattle.sim_tree.specs.Order.{InOrder}
+use Rattle.sim_agree.specs.Order.{InOrder}
 use Rattle.sim_tree.specs.Syntax.{Also, Arms, Arrays, Begin, Block, Declaration, Declarations, DeclareClass, DeclareProcedure, Heading, Interface, NoArm, NoDeclaration, NoStatement, Prefix, Program, Statement, Statements, Variables, When, With, Expressions}
 use Rattle.sim_tree.specs.Syntax as syntax
 use Rattle.sim_scope.specs.declared.found.Fault.{Fault}
@@ -29,7 +29,7 @@ use Rattle.sim_scope.proofs.Walks.{run-append}
 use Rattle.sim_meaning.specs.Levels.{is_written, written_in}
 use Rattle.sim_meaning.specs.Texts.{BlockText, ClassText, ConnectionText, ProcedureText, Text, arms_texts, block_texts, declaration_texts, declarations_texts, program_texts, statement_texts, statements_texts, text, PrefixedText, prefix_texts, prefixed_texts, standard_texts}
 use Rattle.sim_agree.specs.Inners.{Inners, InnersIn, NoInner, NoInners, OneInner, here, behind}
-use Rattle.sim_agree.specs.Plain.{Plain, PlainArms, PlainBlock, PlainDeclaration, PlainDeclarations, PlainInterface, PlainStatement, PlainStatements}
+use Rattle.sim_agree.specs.Plain.{Plain, PlainArms, PlainBlock, PlainDeclaration, PlainDeclarations, PlainStatement, PlainStatements}
 use Rattle.sim_agree.specs.TablesOf.{TablesOf}
 use Rattle.sim_agree.proofs.Completing.{bare_row}
 use Rattle.sim_agree.proofs.BroughtRows.{added_rows, bringing}
@@ -467,11 +467,11 @@ procedure_adds result i h a e p =
     (adds_filled kind.Procedure (first_of_procedure result i) h.name.token.0 e x (H ++ B) (statement_texts a)
     (fills_plain x (H ++ B) (statement_texts a) (λ f. no_inner a (back H B f)) (adds_both H B [] (statement_texts a) (adds_kept H (keep_heading h)) p))))
 
-class_adds : (prefix : Option Identifier) (i : ℕ) (h : Heading) (interface : Interface) (a : Statement) (e : ℕ) → PlainInterface interface
+class_adds : (prefix : Option Identifier) (i : ℕ) (h : Heading) (interface : Interface) (a : Statement) (e : ℕ)
     → Fills (ClassText prefix h (body_declarations a) (body_statements a)) (statement_events declaring ClassBody a) (declarations_texts (body_declarations a) ++ statements_texts (body_statements a))
     → Adds (declaration_events declaring (DeclareClass prefix i h interface a e)) (declaration_texts (DeclareClass prefix i h interface a e))
 unfolding declaring class_marks
-class_adds prefix i h interface a e q p =
+class_adds prefix i h interface a e p =
     let P = DeclaresClass h.name in
     let O = Opens kind.Class (first_of_class prefix i) h.name.token.0 in
     let K = class_prefix_marks h.name.token.0 prefix in
@@ -485,7 +485,7 @@ class_adds prefix i h interface a e q p =
     (adds_as ((P ∷ []) ++ (O ∷ (((K ++ H) ++ B) ++ C))) _ (x ∷ ms) (ap (λ z. P ∷ O ∷ z) (append_assoc (K ++ H) B C))
     (adds_both (P ∷ []) (O ∷ (((K ++ H) ++ B) ++ C)) [] (x ∷ ms) (adds_kept (P ∷ []) (tt, tt))
     (adds_one kind.Class (first_of_class prefix i) h.name.token.0 e x ((K ++ H) ++ B) ms
-    (class_prefix_fills prefix h.name.token.0 x H B ns (keep_both (heading_marks h) (interface_marks interface) (keep_heading h) (keep_interface interface q)) p))))
+    (class_prefix_fills prefix h.name.token.0 x H B ns (keep_both (heading_marks h) (interface_marks interface) (keep_heading h) (keep_interface interface)) p))))
 
 -- ---- the whole program
 
@@ -557,7 +557,7 @@ mutual
   declaration_adds (Variables type vs) p = adds_kept (each (variable_marks type) vs) (keep_variables type vs)
   declaration_adds (Arrays type i segments) p = adds_kept (each (segment_marks type) segments) (keep_segments type segments)
   declaration_adds (DeclareProcedure result i h a e) p = procedure_adds result i h a e (statement_adds a p.1)
-  declaration_adds (DeclareClass prefix i h interface a e) p = class_adds prefix i h interface a e p.1 (class_body prefix a h p.2 (statement_adds a p.2))
+  declaration_adds (DeclareClass prefix i h interface a e) p = class_adds prefix i h interface a e (class_body prefix a h p.1 (statement_adds a p.1))
 
   class_body : (prefix : Option Identifier) (a : Statement) (h : Heading) → PlainStatement a → Adds (statement_events declaring Inside a) (statement_texts a)
       → Fills (ClassText prefix h (body_declarations a) (body_statements a)) (statement_events declaring ClassBody a) (declarations_texts (body_declarations a) ++ statements_texts (body_statements a))

@@ -4,7 +4,7 @@ use Rattle.std.specs.Prelude.{◌&&◌, ◌||◌, nat_le, nat_lt, not, slice_get
 use Rattle.std.specs.List.{list_any}
 use Rattle.std.proofs.lemmas.Bool.Decides.{nat_tests}
 use Rattle.std.proofs.lemmas.Option.{slice_get_within}
-use Rattle.sim_tree.specs.Order.{InOrder}
+use Rattle.sim_agree.specs.Order.{InOrder}
 use Rattle.sim_scope.specs.declared.types.BlockKind.{BlockKind}
 use Rattle.sim_scope.specs.declared.types.BlockKind.TheVariants as kind
 use Rattle.sim_scope.specs.declared.types.StandardClass.{StandardClass}

@@ -7,7 +7,7 @@ use Rattle.sim_tree.specs.declared.stmt.TypeName.{TypeName}
 use Rattle.sim_tree.specs.declared.stmt.TypeName.TheVariants as type_name
 use Rattle.sim_tree.specs.declared.stmt.Variable.{Variable}
 use Rattle.sim_tree.specs.Named.{named}
-use Rattle.sim_tree.specs.Syntax.{Also, Arms, Arrayed, Arrays, Begin, Block, BoundPair, Compound, Declaration, Declarations, DeclareClass, DeclareProcedure, Element, Expression, Heading, Interface, Moded as ModePart, NoArm, NoDeclaration, NoStatement, Prefix, Program, RightSide, Specification, Specified as Specifier, Statement, Statements, Variables, When, With, Protected, Expressions, Schedule}
+use Rattle.sim_tree.specs.Syntax.{Also, Arms, Arrayed, Arrays, Begin, Block, BoundPair, Compound, Declaration, Declarations, DeclareClass, DeclareProcedure, Element, Expression, Heading, Interface, Moded as ModePart, NoArm, NoDeclaration, NoStatement, Prefix, Program, RightSide, Specification, Specified as Specifier, Statement, Statements, Variables, Virtual, When, With, Protected, Expressions, Schedule}
 use Rattle.sim_tree.specs.Syntax as syntax
 use Rattle.sim_base.specs.declared.rule.Rule.{Rule}
 use Rattle.sim_base.specs.declared.rule.Rule.TheVariants as r
@@ -23,14 +23,15 @@ use Rattle.sim_scope.specs.declared.types.SimType.{SimType}
 use Rattle.sim_scope.specs.declared.types.StandardPrefix.{StandardPrefix}
 use Rattle.sim_scope.specs.Bodies.{body_declarations, body_statements}
 use Rattle.sim_scope.specs.Building.{Breaks, Closes, Declares, DeclaresClass, DeclaresProcedure, Headed, Inner, Mark, Moded, Opens, Parameter, Specified, Prefixes, Protects}
-use Rattle.sim_scope.specs.Declare.{array_marks, class_marks, class_prefix_marks, declaring, first_of_class, first_of_procedure, headed_marks, heading_marks, inner_marks, interface_marks, mode_named, mode_part_marks, moded_marks, parameter_marks, procedure_marks, program_marks, qualified_marks, qualified_result, result_named, segment_marks, specification_marks, specified_marks, type_named, variable_marks, is_written, protected_marks, protection_marks, prefix_marks, prefixed_marks}
+use Rattle.sim_scope.specs.Declare.{array_marks, class_marks, class_prefix_marks, declaring, first_of_class, first_of_procedure, headed_marks, heading_marks, inner_marks, interface_marks, mode_named, mode_part_marks, moded_marks, parameter_marks, procedure_marks, program_marks, qualified_marks, qualified_result, result_named, segment_marks, specification_marks, specified_marks, type_named, variable_marks, virtual_marks, virtual_name_marks, is_written, protected_marks, protection_marks, prefix_marks, prefixed_marks}
 use Rattle.sim_scope.specs.Runs.{each}
 use Rattle.sim_scope.specs.Standard.{standard_prefix}
 use Rattle.sim_scope.specs.Walk.{arms_events, begin_of, block_events, declaration_events, declarations_events, program_events, statement_events, statements_events, whole_events}
 use Rattle.sim_meaning.specs.Texts.{BlockText, ClassText, ConnectionText, ProcedureText, Text, arms_texts, block_texts, declaration_texts, declarations_texts, program_texts, statement_texts, statements_texts, prefix_texts, PrefixedText, prefixed_texts, standard_texts}
-use Rattle.sim_tree.specs.Order.{Behind, Spot, Token, in_arms, in_block, in_bounds, in_declaration, in_declarations, in_each, in_element, in_expression, in_name, in_result, in_schedule, in_segment, in_side, in_statement, in_statements, in_type, in_variable, tokens, in_prefix}
-use Rattle.sim_agree.specs.Plain.{Each, Plain, PlainArms, PlainBlock, PlainDeclarations, PlainHeading, PlainInterface, PlainMode, PlainSpecification, PlainStatement, PlainStatements, PlainWord, PlainStart}
-use Rattle.sim_agree.proofs.Groups.{AreReferences, OfReferences, OwnEntry, PlainFormal, Quals, quals_of_result, quals_of_type, plain_prefix, only_protections, standard_marks_are, whole_prefix}
+use Rattle.sim_tree.specs.Order.{Behind, Spot, Token, in_bounds, in_each, in_element, in_expression, in_name, in_result, in_schedule, in_segment, in_side, in_type, in_variable, tokens, in_prefix}
+use Rattle.sim_agree.specs.Order.{in_arms, in_block, in_declaration, in_declarations, in_statement, in_statements, in_virtual}
+use Rattle.sim_agree.specs.Plain.{Each, Plain, PlainArms, PlainBlock, PlainDeclarations, PlainHeading, PlainMode, PlainSpecification, PlainStatement, PlainStatements, PlainWord, PlainStart}
+use Rattle.sim_agree.proofs.Groups.{AreReferences, Declarable, OfReferences, PlainFormal, Quals, quals_of_result, quals_of_type, plain_prefix, standard_marks_are, whole_prefix}
 use Rattle.sim_agree.proofs.StandardPrefixes.{Spells, brought_texts, no_texts, texts_of_standard}
 
 -- ---- what a text uses itself: tokens, sub-blocks and prefixed blocks by their first token, and connections by theirs, with what stands in them
@@ -237,7 +238,7 @@ mutual
   held_declaration (Variables type vs) p = refl
   held_declaration (Arrays type i segments) p = refl
   held_declaration (DeclareProcedure result i h a e) p = ap (λ z. ProcedureText result h a ∷ z) (held_statement a p.1)
-  held_declaration (DeclareClass prefix i h interface a end) p = held_class prefix i h interface a end p.2 (held_statement a p.2)
+  held_declaration (DeclareClass prefix i h interface a end) p = held_class prefix i h interface a end p.1 (held_statement a p.1)
 
   held_class : (prefix : Option Identifier) (i : ℕ) (h : Heading) (interface : Interface) (a : Statement) (end : ℕ) → PlainStatement a → map text_held (statement_held a) ≡ statement_texts a → map text_held (declaration_held (DeclareClass prefix i h interface a end)) ≡ declaration_texts (DeclareClass prefix i h interface a end)
   held_class prefix i h interface (syntax.Compound (Begin j ds ss e)) end p one =
@@ -288,7 +289,7 @@ pub data Laid : List Frame → List Mark → List Spot → List Held → Type 0 
   -- a token that is no use, and the end of what is no block
   passes : {os : List Frame} {ms : List Mark} {l : List Spot} {hs : List Held} (i : ℕ) → Laid os ms l hs → Laid os ms (Token i ∷ l) hs
   leaves : {os : List Frame} {ms : List Mark} {l : List Spot} {hs : List Held} (i : ℕ) → Laid os ms l hs → Laid os ms (Behind i ∷ l) hs
-  declares : {o : Frame} {os : List Frame} {ms : List Mark} {l : List Spot} {hs : List Held} (quals : List Mark) (x : Identifier) (e : Entry) → OwnEntry e → Quals (OfReferences e) quals → Laid (o ∷ os) ms l hs → Laid (o ∷ os) (Declares x e ∷ (quals ++ ms)) (Token x.token.0 ∷ l) hs
+  declares : {o : Frame} {os : List Frame} {ms : List Mark} {l : List Spot} {hs : List Held} (quals : List Mark) (x : Identifier) (e : Entry) → Declarable e → Quals (OfReferences e) quals → Laid (o ∷ os) ms l hs → Laid (o ∷ os) (Declares x e ∷ (quals ++ ms)) (Token x.token.0 ∷ l) hs
   parameter : {o : Frame} {os : List Frame} {ms : List Mark} {l : List Spot} {hs : List Held} (x : Identifier) → Laid (o ∷ os) ms l hs → Laid (o ∷ os) (Parameter x ∷ ms) (Token x.token.0 ∷ l) hs
   moded : {os : List Frame} {ms : List Mark} {l : List Spot} {hs : List Held} (x : Identifier) → Laid os ms l hs → Laid os (Moded x mode.ByValue ∷ ms) l hs
   specified : {os : List Frame} {ms : List Mark} {l : List Spot} {hs : List Held} (quals : List Mark) (x : Identifier) (k : FormalKind) (ty : Option SimType) → PlainFormal k ty → Quals (AreReferences ty) quals → Laid os ms l hs → Laid os (Specified x k ty ∷ (quals ++ ms)) l hs
@@ -411,8 +412,8 @@ module _ (x : Text) (os : List Frame) where
 
   -- ---- declarations of a block or a class
 
-  typed_lays : (type : TypeName) (y : Identifier) (e : Entry) (u : List Part) → OwnEntry e → Quals (OfReferences e) (qualified_marks type) → Lays (At u) (Declares y e ∷ qualified_marks type) (in_name y) [] (At u)
-  typed_lays type y e u own q = record { before = λ ms l hs h. declares (qualified_marks type) y e own q h }
+  typed_lays : (type : TypeName) (y : Identifier) (e : Entry) (u : List Part) → Declarable e → Quals (OfReferences e) (qualified_marks type) → Lays (At u) (Declares y e ∷ qualified_marks type) (in_name y) [] (At u)
+  typed_lays type y e u may q = record { before = λ ms l hs h. declares (qualified_marks type) y e may q h }
 
   variable_lays : (type : TypeName) (v : Variable) (u : List Part) → Lays (At u) (variable_marks type v) (in_variable v) [] (At u)
   unfolding variable_marks
@@ -619,23 +620,37 @@ protections_lay : (ps : List Protected) (os : List Frame) → Lays os (each prot
 protections_lay [] os = none
 protections_lay (p ∷ ps) os = both (λ l. l) (λ l. l) (guarded_lay (is_written p.hidden) (is_written p.protected) p.names os) (protections_lay ps os)
 
-interface_lays : (i : Interface) → PlainInterface i → (os : List Frame) → Lays os (interface_marks i) (λ l. l) [] os
-interface_lays i p os = as_marks (λ l. l) (each protection_marks i.protections) (interface_marks i) (sym (only_protections i p)) (protections_lay i.protections os)
+-- virtual parts
+module _ (o : Frame) (os : List Frame) where
+  virtual_one : (result : Option TypeName) (y : Identifier) → Lays (o ∷ os) (virtual_name_marks result y) (in_name y) [] (o ∷ os)
+  unfolding virtual_name_marks
+  virtual_one result y = record { before = λ ms l hs h. declares (qualified_result result) y (entry.Virtual (result_named result) None) tt (quals_of_result result) h }
 
-class_lays : (prefix : Option Identifier) (j : ℕ) (h : Heading) (i : Interface) (a : Statement) (e : ℕ) (o : Frame) (os : List Frame) → PlainHeading h → PlainInterface i
+  virtual_names : (result : Option TypeName) (ys : List Identifier) → Lays (o ∷ os) (each (virtual_name_marks result) ys) (in_each in_name ys) [] (o ∷ os)
+  virtual_names result [] = none
+  virtual_names result (y ∷ ys) = both (in_name y) (in_each in_name ys) (virtual_one result y) (virtual_names result ys)
+
+  virtuals_lay : (vs : List Virtual) → Lays (o ∷ os) (each virtual_marks vs) (in_each in_virtual vs) [] (o ∷ os)
+  virtuals_lay [] = none
+  virtuals_lay (v ∷ vs) = both (in_virtual v) (in_each in_virtual vs) (lead (in_result v.result) (in_each in_name v.names) (result_lays v.result (o ∷ os)) (virtual_names v.result v.names)) (virtuals_lay vs)
+
+  interface_lays : (i : Interface) → Lays (o ∷ os) (interface_marks i) (in_each in_virtual i.virtuals) [] (o ∷ os)
+  interface_lays i = both (λ l. l) (in_each in_virtual i.virtuals) (protections_lay i.protections (o ∷ os)) (virtuals_lay i.virtuals)
+
+class_lays : (prefix : Option Identifier) (j : ℕ) (h : Heading) (i : Interface) (a : Statement) (e : ℕ) (o : Frame) (os : List Frame) → PlainHeading h
     → Lays (frame (ClassText prefix h (body_declarations a) (body_statements a)) (text_used (ClassText prefix h (body_declarations a) (body_statements a))) ∷ o ∷ os) (statement_events declaring ClassBody a) (in_statement a) (declarations_held (body_declarations a) ++ statements_held (body_statements a))
     (frame (ClassText prefix h (body_declarations a) (body_statements a)) [] ∷ o ∷ os)
     → Lays (o ∷ os) (declaration_events declaring (DeclareClass prefix j h i a e)) (in_declaration (DeclareClass prefix j h i a e)) (declaration_held (DeclareClass prefix j h i a e)) (o ∷ os)
 unfolding declaring
-class_lays prefix j h i a e o os p q body =
+class_lays prefix j h i a e o os p body =
     let x : Text = ClassText prefix h (body_declarations a) (body_statements a) in
     let inside : List Held = declarations_held (body_declarations a) ++ statements_held (body_statements a) in
     as_held (in_declaration (DeclareClass prefix j h i a e)) (Whole x ∷ ((all_held (prefix_texts prefix) ++ []) ++ (inside ++ []))) (declaration_held (DeclareClass prefix j h i a e))
     (ap (λ z. Whole x ∷ (z ++ (inside ++ []))) (append-nil (all_held (prefix_texts prefix))) ∙ ap (λ z. Whole x ∷ (all_held (prefix_texts prefix) ++ z)) (append-nil inside) ∙ sym (class_held prefix j h i a e))
-    (lead (in_prefix prefix) (λ l. in_name h.name (in_each in_name h.formals (in_statement a (Behind e ∷ l)))) (prefix_lays prefix (o ∷ os))
-    (both (λ l. in_name h.name (in_each in_name h.formals l)) (λ l. in_statement a (Behind e ∷ l))
-    (both (in_name h.name) (in_each in_name h.formals) (begins_class prefix j h (body_declarations a) (body_statements a) o os)
-    (both (in_each in_name h.formals) (λ l. l) (heading_lays (frame x (text_used x)) (o ∷ os) h p) (interface_lays i q (frame x (text_used x) ∷ o ∷ os))))
+    (lead (in_prefix prefix) (λ l. in_name h.name (in_each in_name h.formals (in_each in_virtual i.virtuals (in_statement a (Behind e ∷ l))))) (prefix_lays prefix (o ∷ os))
+    (both (λ l. in_name h.name (in_each in_name h.formals (in_each in_virtual i.virtuals l))) (λ l. in_statement a (Behind e ∷ l))
+    (both (in_name h.name) (λ l. in_each in_name h.formals (in_each in_virtual i.virtuals l)) (begins_class prefix j h (body_declarations a) (body_statements a) o os)
+    (both (in_each in_name h.formals) (in_each in_virtual i.virtuals) (heading_lays (frame x (text_used x)) (o ∷ os) h p) (interface_lays (frame x (text_used x)) (o ∷ os) i)))
     (both (in_statement a) (λ l. Behind e ∷ l) body (ends x e (o ∷ os)))))
 
 -- a statement stands in the body of a class, or elsewhere
@@ -742,7 +757,7 @@ mutual
       (procedure_lays result j h a e (frame x (declarations_used ds u)) os p.0.0 (statement_lays false a (ProcedureText result h a) [] (frame x (declarations_used ds u) ∷ os) p.0.1)) (declarations_lay ds x u os p.1)
   declarations_lay (With (DeclareClass prefix j h i a e) ds) x u os p =
       both (in_declaration (DeclareClass prefix j h i a e)) (in_declarations ds)
-      (class_lays prefix j h i a e (frame x (declarations_used ds u)) os p.0.0 p.0.1 (class_body_lays prefix a h (frame x (declarations_used ds u) ∷ os) p.0.2 (λ y. statement_lays false a y [] (frame x (declarations_used ds u) ∷ os) p.0.2))) (declarations_lay ds x u os p.1)
+      (class_lays prefix j h i a e (frame x (declarations_used ds u)) os p.0.0 (class_body_lays prefix a h (frame x (declarations_used ds u) ∷ os) p.0.1 (λ y. statement_lays false a y [] (frame x (declarations_used ds u) ∷ os) p.0.1))) (declarations_lay ds x u os p.1)
 
 -- a plain program
 pub program_laid : (p : Program) → Plain p → Laid [] (program_events declaring p) (in_block p.block []) (program_held p.prefix p.block)

@@ -2,8 +2,10 @@ pub mod StandardPrefixes
 pub mod Unprefixed
 pub mod Groups
 pub mod Steps
+pub mod Marks
 pub mod Calm
 pub mod Fine
+pub mod FineBlocks
 pub mod Brought
 pub mod BroughtRows
 pub mod BroughtKnown
@@ -40,6 +42,7 @@ pub mod Chains
 pub mod Headings
 pub mod Insides
 pub mod Findings
+pub mod Matches
 pub mod Proper
 pub mod TextOrder
 pub mod Constants

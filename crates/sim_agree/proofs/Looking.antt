@@ -3,7 +3,7 @@ use Rattle.std.proofs.Common.{◌≡◌, ◌<◌, ◌≤◌, ◌+◌, ℕ, zero,
 use Rattle.std.specs.Prelude.{slice_get}
 use Rattle.std.proofs.lemmas.List.{length-append}
 use Rattle.std.proofs.lemmas.Option.{slice_get_within}
-use Rattle.sim_tree.specs.Order.{InOrder}
+use Rattle.sim_agree.specs.Order.{InOrder}
 use Rattle.sim_tree.specs.Syntax.{Also, Arms, Arrays, Begin, Block, Declaration, Declarations, DeclareClass, DeclareProcedure, NoArm, NoDeclaration, NoStatement, Statement, Statements, Variables, When, With, Expressions, Prefix}
 use Rattle.sim_tree.specs.Syntax as syntax
 use Rattle.sim_scope.specs.declared.types.Position.{Position}
@@ -308,8 +308,8 @@ module _ (s : Source) (of : TablesOf s) (plain : Plain s.program) (order : InOrd
         let S : List Connecting = statements_events connections ClassStatement ss in
         let r = both_stand (suc n) P (D ++ H) st.1 in
         let t = both_stand m D H r.1 in
-        let one = declarations_look n m own ds plainly.2.0 (statements_used ss []) (parts n x st.0) f.0 t.0 in
-        let two = statements_look n (m + length D) (further n m (length D) own) ClassStatement true ss tt plainly.2.1 [] one.1 f.1 t.1 in
+        let one = declarations_look n m own ds plainly.1.0 (statements_used ss []) (parts n x st.0) f.0 t.0 in
+        let two = statements_look n (m + length D) (further n m (length D) own) ClassStatement true ss tt plainly.1.1 [] one.1 f.1 t.1 in
         let all = both_walk s D H E S m one.0 two.0 in
         past_walk s (Whole x) P (D ++ H) ((E ++ S) ++ []) n (to_none s (E ++ S) m (m + length (D ++ H)) all)
     declaration_looks n (DeclareClass prefix i g interface a e) plainly st =
@@ -319,7 +319,7 @@ module _ (s : Source) (of : TablesOf s) (plain : Plain s.program) (order : InOrd
         let m : ℕ = suc n + length P in
         let own : n < suc n + length P = omega arith in
         let r = both_stand (suc n) P (statement_held a) st.1 in
-        let y = statement_looks n m own ClassBody true a tt plainly.2 [] (parts n x st.0) f.1.0 r.1 in
+        let y = statement_looks n m own ClassBody true a tt plainly.1 [] (parts n x st.0) f.1.0 r.1 in
         let A : List Connecting = statement_events connections ClassBody a in
         past_walk s (Whole x) P (statement_held a) (A ++ []) n (to_none s A m (m + length (statement_held a)) y.0)
 

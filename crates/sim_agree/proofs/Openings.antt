@@ -152,7 +152,7 @@ mutual
       let inner : Around = record { number = next; level = deeper kind.Procedure o.level } in
       nothing_behind (statement_events connections Inside a) _ (behind (statement_events connections Inside a) _ (statement_bodies inner a (next + 1)) (statement_begins false a p.1 inner (next + 1)))
   declaration_begins (DeclareClass prefix i h interface a e) p o next =
-      nothing_behind (statement_events connections ClassBody a) _ (class_begins prefix i h interface a e p.2 o next (λ inner m. statement_begins false a p.2 inner m))
+      nothing_behind (statement_events connections ClassBody a) _ (class_begins prefix i h interface a e p.1 o next (λ inner m. statement_begins false a p.1 inner m))
 
   -- the body of a class
   class_begins : (prefix : Option Identifier) (i : ℕ) (h : Heading) (interface : Interface) (a : Statement) (e : ℕ) → PlainStatement a → (o : Around) (next : ℕ) → ((inner : Around) (m : ℕ) → AllBegin (statement_events connections Inside a) (statement_bodies inner a m))

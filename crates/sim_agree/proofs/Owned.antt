@@ -10,6 +10,7 @@ use Rattle.sim_scope.specs.declared.scopes.Declaration.{Declaration}
 use Rattle.sim_scope.specs.declared.types.BlockKind.{BlockKind}
 use Rattle.sim_scope.specs.declared.types.Entry.{Entry}
 use Rattle.sim_scope.specs.declared.types.Entry.TheVariants as entry
+use Rattle.sim_scope.specs.declared.types.SimType.{SimType}
 use Rattle.sim_scope.specs.declared.types.WrittenMode.{WrittenMode}
 use Rattle.sim_scope.specs.Building.{BuildingOf, block_around, broken_if, closed, closed_at, level_in, most_levels, opened, owner_of, placed}
 use Rattle.sim_scope.specs.Declare.{result_named}
@@ -17,7 +18,8 @@ use Rattle.sim_scope.specs.Tables.{BlockOf}
 use Rattle.sim_scope.proofs.Kept.{kept_set, more_here, more_other}
 use Rattle.sim_meaning.specs.Texts.{BlockText, ClassText, ConnectionText, PrefixedText, ProcedureText, StandardText, Text}
 use Rattle.sim_agree.proofs.Fine.{owner_in, same_owner}
-use Rattle.sim_agree.proofs.Steps.{Becomes, Step, last_cases}
+use Rattle.sim_agree.proofs.Steps.{Becomes, Step}
+use Rattle.sim_agree.proofs.Marks.{last_cases}
 
 -- the declaration of the procedure or the class whose block this is
 abbrev pub OwnerIs : BuildingOf → (owner : Option DeclNo) → Entry → Type 0
@@ -32,17 +34,17 @@ OwnedText b owner n _ = Unit {0}
 abbrev pub Owned : BuildingOf → List Text → Type 0
 Owned b ts = (n : ℕ) (x : Text) → slice_get ts n ≡ Some x → OwnedText b (owner_in (slice_get b.tables.blocks n)) n x
 
--- what no specification changes
+-- what no specification and no match changes
 abbrev pub Firm : Entry → Type 0
-Firm e = (w : Option WrittenMode) → e ≡ entry.Unspecified w → ⊥
+Firm e = ((w : Option WrittenMode) → e ≡ entry.Unspecified w → ⊥) × ((result : Option SimType) → e ≡ entry.Virtual result None → ⊥)
 
 pub text_moves : (b c : BuildingOf) (o p : Option DeclNo) (n : ℕ) (x : Text) → ((e : Entry) → Firm e → OwnerIs b o e → OwnerIs c p e) → OwnedText b o n x → OwnedText c p n x
-text_moves b c o p n (ProcedureText result h a) f q = f (entry.Procedure (result_named result) n) (λ w e. cc) q
-text_moves b c o p n (ClassText prefix h ds ss) f q = f (entry.Class n) (λ w e. cc) q
+text_moves b c o p n (ProcedureText result h a) f q = f (entry.Procedure (result_named result) n) (λ w e. cc, λ given e. cc) q
+text_moves b c o p n (ClassText prefix h ds ss) f q = f (entry.Class n) (λ w e. cc, λ given e. cc) q
 text_moves b c o p n (BlockText i ds ss) f q = tt
 text_moves b c o p n ConnectionText f q = tt
 text_moves b c o p n (PrefixedText class es ds ss) f q = tt
-text_moves b c o p n (StandardText which) f q = f (entry.Class n) (λ w e. cc) q
+text_moves b c o p n (StandardText which) f q = f (entry.Class n) (λ w e. cc, λ given e. cc) q
 
 pub owned_step : (b c : BuildingOf) (New : ℕ → Declaration → Type 0) (ts : List Text) → Step b c New → Owned b ts → Owned c ts
 owned_step b c New ts s v n x is = text_moves b c _ _ n x owner (v n x is)
@@ -54,7 +56,8 @@ owned_step b c New ts s v n x is = text_moves b c _ _ n x owner (v n x is)
       where
         go : (old row : Declaration) → old.entry ≡ e → Becomes old.entry row.entry → row.entry ≡ e
         go old row f (inl g) = g ∙ f
-        go old row f (inr g) = absurd (firm g.0 (sym f ∙ g.1))
+        go old row f (inr (inl g)) = absurd (firm.0 g.0 (sym f ∙ g.1))
+        go old row f (inr (inr g)) = absurd (firm.1 g.0 (sym f ∙ g.2))
 
 owned_if : (a : Bool) (c : BuildingOf) (token : ℕ) (rule : Rule) (ts : List Text) → Owned c ts → Owned (broken_if a c token rule) ts
 owned_if true c token rule ts v = v

@@ -35,7 +35,7 @@ use Rattle.inspect_types.specs.Connecting.{connections}
 use Rattle.sim_static.specs.Check.{completed}
 use Rattle.sim_agree.proofs.Completing.{AllReferences, Completes, HasNext, Requalified, Rows, bare_row, prefixable_base, class_was, connections_complete, entry_is_class, kind_in, references_qualified, same_rows}
 use Rattle.sim_agree.proofs.Openings.{AllOpened, Opened}
-use Rattle.sim_agree.proofs.Unprefixed.{HasStandard, NoVirtuals, Showing, Shown, StandsIn, brought_of, extras_in, is_prefixable, is_wrong, shown_next, spelt_as, spelt_before}
+use Rattle.sim_agree.proofs.Unprefixed.{HasStandard, Showing, Shown, StandsIn, brought_of, extras_in, is_prefixable, is_wrong, shown_next, spelt_as, spelt_before}
 
 -- a block and the levels of its prefixes
 pub data Reaches (T : Tables) : (outer level : ℕ) → Type 0 where
@@ -114,10 +114,9 @@ brought_bare None = refl
 brought_bare (Some row) = refl
 
 -- tables with the same blocks, but for next levels and standard prefixes
-pub showing_kept : (D T : Tables) → Showing D → ((k : ℕ) → bare_row (slice_get T.blocks k) ≡ bare_row (slice_get D.blocks k)) → ((k : ℕ) (d : DeclNo) → StandsIn D k d → StandsIn T k d) → NoVirtuals T.declarations → Showing T
-showing_kept D T w same moved virtuals = record {
+pub showing_kept : (D T : Tables) → Showing D → ((k : ℕ) → bare_row (slice_get T.blocks k) ≡ bare_row (slice_get D.blocks k)) → ((k : ℕ) (d : DeclNo) → StandsIn D k d → StandsIn T k d) → Showing T
+showing_kept D T w same moved = record {
   right = λ k. sym (wrong_bare (slice_get T.blocks k)) ∙ ap (λ o. (extras_in o).wrong) (same k) ∙ wrong_bare (slice_get D.blocks k) ∙ w.right k;
-  virtuals = virtuals;
   lists = λ k d a. moved k d (w.lists k d (subst (λ z. Among d z) (sym (numbers_bare (slice_get T.blocks k)) ∙ ap numbers_in (same k) ∙ numbers_bare (slice_get D.blocks k)) a));
   brings = λ k d a. moved k d (w.brings k d (subst (λ z. Among d z) (sym (brought_bare (slice_get T.blocks k)) ∙ ap brought_of (same k) ∙ brought_bare (slice_get D.blocks k)) a));
 }
@@ -172,7 +171,7 @@ module _ (D : Tables) (bare : Showing D) (bottom : (k : ℕ) (row : BlockOf) →
     stands_back k d q = (q.0, ap (λ z. slice_get z d.0) (sym s.declarations) ∙ q.1, q.2)
 
     plainly : Showing T
-    plainly = showing_kept D T bare s.blocks stands_same (λ d row at. bare.virtuals d row (ap (λ z. slice_get z d) (sym s.declarations) ∙ at))
+    plainly = showing_kept D T bare s.blocks stands_same
 
     same_class : (d : DeclNo) → class_block T d ≡ class_block D d
     unfolding class_block

@@ -1,8 +1,8 @@
 -- What the declarations of an allowed plain program may be: where each reference has a qualification, its type is that of a class.
-use Rattle.std.proofs.Common.{◌≡◌, ◌+◌, ◌⊎◌, inl, inr, ℕ, true, false, List, Option, Some, None, sym, ap, ◌∙◌, subst}
+use Rattle.std.proofs.Common.{◌≡◌, ◌+◌, ◌⊎◌, inl, inr, ℕ, false, List, Option, Some, None, sym, ap, ◌∙◌, subst}
 use Rattle.std.specs.Prelude.{slice_get}
 use Rattle.sim_base.specs.declared.numbering.DeclNo.{DeclNo}
-use Rattle.sim_tree.specs.Order.{InOrder}
+use Rattle.sim_agree.specs.Order.{InOrder}
 use Rattle.sim_scope.specs.declared.scopes.Declaration.{Declaration}
 use Rattle.sim_scope.specs.declared.scopes.Denotation.TheVariants as denotation
 use Rattle.sim_scope.specs.declared.types.Entry.{Entry}
@@ -23,7 +23,7 @@ use Rattle.sim_scope.specs.Building.{place_of, typed_or_none}
 use Rattle.sim_scope.specs.Standard.{parameter_of, result_of}
 use Rattle.sim_scope.specs.Declare.{declared_by}
 use Rattle.sim_scope.specs.Levels.{class_block}
-use Rattle.sim_scope.specs.Scopes.{binding, entry_of, found_in, is_virtual}
+use Rattle.sim_scope.specs.Scopes.{binding, entry_of, found_in}
 use Rattle.sim_scope.specs.Source.{Source}
 use Rattle.virtual_match.specs.Qualifying.{entry_to, type_to}
 use Rattle.sim_static.specs.Check.{second_least}
@@ -57,6 +57,7 @@ abbrev TypesOf : Source → Entry → Type 0
 TypesOf s (entry.Variable ty) = ProperType s ty
 TypesOf s (entry.Array ty n) = ProperType s ty
 TypesOf s (entry.Procedure result k) = ProperResult s result
+TypesOf s (entry.Virtual result own) = ProperResult s result
 TypesOf s (entry.Formal f) = ProperResult s f.ty
 TypesOf s _ = Unit {0}
 
@@ -99,7 +100,12 @@ types_or s (entry.Formal f) = go f.ty
     go (Some ty) = one ty (references_or ty)
 types_or s (entry.Constant ty) = inr tt
 types_or s (entry.Class k) = inr tt
-types_or s (entry.Virtual result own) = inr tt
+types_or s (entry.Virtual None own) = inr tt
+types_or s (entry.Virtual (Some ty) own) = go (references_or ty)
+  where
+    go : IsReference ty ⊎ PlainType ty → IsReference ty ⊎ ProperType s ty
+    go (inl r) = inl r
+    go (inr p) = inr (plain_proper s ty p)
 types_or s (entry.Unspecified w) = inr tt
 types_or s (entry.Attribute name given result) = inr tt
 
@@ -117,7 +123,8 @@ types_to s class c (entry.Formal f) r = go f.ty r
     go (Some ty) q = c
     go None q = absurd q
 types_to s class c (entry.Class k) r = absurd r
-types_to s class c (entry.Virtual result own) r = absurd r
+types_to s class c (entry.Virtual (Some ty) own) r = c
+types_to s class c (entry.Virtual None own) r = absurd r
 types_to s class c (entry.Unspecified w) r = absurd r
 types_to s class c (entry.Attribute name given result) r = absurd r
 
@@ -170,9 +177,7 @@ module _ (s : Source) (of : TablesOf s) (plain : Plain s.program) (order : InOrd
   shaped d row at (entry.Array ty n) is en r = r
   shaped d row at (entry.Procedure result k) is en r = r
   shaped d row at (entry.Class k) is en r = tt
-  shaped d row at (entry.Virtual result own) is en r =
-      let v : is_virtual row.entry ≡ false = (t.shows s of plain order).virtuals d row at in
-      let w : true ≡ false = sym (ap is_virtual is) ∙ v in absurd (cc)
+  shaped d row at (entry.Virtual result own) is en r = r
   shaped d row at (entry.Formal f) is en r =
       let x = t.text_of_row s of plain order d row at in
       let p = subst Parametric is (h.param_in s of plain order x.0 d row x.2 (subst IsParameter (sym is) tt)) in formal_proper s f.mode f.kind f.ty p.0 p.1 r

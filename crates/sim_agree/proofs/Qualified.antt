@@ -3,7 +3,7 @@ use Rattle.std.proofs.Common.{◌≡◌, ◌<◌, ◌⊎◌, inl, inr, ℕ, zero
 use Rattle.std.specs.Prelude.{◌||◌, nat_eq, slice_get, slice_set}
 use Rattle.std.proofs.lemmas.Bool.Decides.{nat_tests}
 use Rattle.sim_base.specs.declared.numbering.DeclNo.{DeclNo}
-use Rattle.sim_tree.specs.Order.{InOrder}
+use Rattle.sim_agree.specs.Order.{InOrder}
 use Rattle.sim_scope.specs.declared.found.Fault.{Fault}
 use Rattle.sim_scope.specs.declared.scopes.Declaration.{Declaration}
 use Rattle.sim_scope.specs.declared.scopes.Denotation.{Denotation}
@@ -16,7 +16,7 @@ use Rattle.sim_scope.specs.Declare.{declared_by}
 use Rattle.sim_scope.specs.Found.{precedes}
 use Rattle.sim_scope.specs.Levels.{base, base_in, class_block, class_block_in, holds, is_for_prefixing, is_simulation, is_simulation_block, some_level_of, standard_in}
 use Rattle.sim_scope.specs.Runs.{each, run}
-use Rattle.sim_scope.specs.Scopes.{binding, entry_in, entry_of, found_in}
+use Rattle.sim_scope.specs.Scopes.{binding, entry_in, entry_is, entry_of, found_in, is_virtual}
 use Rattle.sim_scope.specs.Source.{Source}
 use Rattle.sim_scope.specs.Tables.{BlockOf, Tables, with_base_at, with_entry_at}
 use Rattle.sim_scope.specs.Walk.{program_events}
@@ -35,11 +35,11 @@ use Rattle.sim_agree.proofs.Groups.{OfReferences}
 use Rattle.sim_agree.proofs.Insides as ic
 use Rattle.sim_agree.proofs.Prefixing.{prefixed_is, with_blocks}
 use Rattle.sim_agree.proofs.Tables as t
-use Rattle.sim_agree.proofs.Tables.{IsClassText, all_references, program_agrees, program_clean}
-use Rattle.sim_agree.proofs.Retypes.{class_new, virtual_new}
+use Rattle.sim_agree.proofs.Tables.{IsClassText, all_references, program_clean}
+use Rattle.sim_agree.proofs.Retypes.{class_new}
 use Rattle.sim_agree.proofs.Accessible.{rows_stand, standing}
 use Rattle.sim_agree.proofs.Unconnected.{bound_alone}
-use Rattle.sim_agree.proofs.Unprefixed.{NoVirtuals}
+use Rattle.sim_agree.proofs.Unprefixed.{no_procedure_stands}
 use Rattle.sim_agree.proofs.ClassRows.{class_entry as class_text, no_class_connection}
 
 -- ---- no fault
@@ -146,6 +146,14 @@ connections_keep (Connects i ∷ es) c =
     let q = connections_keep es (connecting c (Connects i)) in
     let p = connection_keeps c.tables (block_at c.tables i) c.next in (q.0 ∙ p.0, q.1 ∙ p.1)
 
+class_in : (T : Tables) (d : DeclNo) (n : ℕ) → class_block T d ≡ Some n → entry_of T d ≡ Some (entry.Class n)
+unfolding class_block entry_of
+class_in T d n e = go (slice_get T.declarations d.0) e
+  where
+    go : (o : Option Declaration) → class_block_in (elim o [ None ↦ None | Some row ↦ Some row.entry ]) ≡ Some n → entry_in o ≡ Some (entry.Class n)
+    go None f = absurd (cc)
+    go (Some row) f = ap Some (entry_is_class n row.entry f)
+
 module _ (s : Source) (of : TablesOf s) (plain : Plain s.program) (order : InOrder s.program) where
   done : Completes (declared_by s.program).tables s.tables (IsClassText s.program)
   done = t.completed_tables s of plain order
@@ -166,12 +174,7 @@ module _ (s : Source) (of : TablesOf s) (plain : Plain s.program) (order : InOrd
   same_qualifications = rows_are.1 ∙ qualifications_keep (with_blocks (declared_by s.program).tables (prefixed (declared_by s.program).tables).blocks) (declared_by s.program).tables.qualifications
 
   pub class_entry : (d : DeclNo) (n : ℕ) → class_block s.tables d ≡ Some n → entry_of s.tables d ≡ Some (entry.Class n)
-  unfolding class_block entry_of
-  class_entry d n e = go (slice_get s.tables.declarations d.0) e
-    where
-      go : (o : Option Declaration) → class_block_in (elim o [ None ↦ None | Some row ↦ Some row.entry ]) ≡ Some n → entry_in o ≡ Some (entry.Class n)
-      go None f = absurd (cc)
-      go (Some row) f = ap Some (entry_is_class n row.entry f)
+  class_entry d n e = class_in s.tables d n e
 
   -- it is no connection
   class_other : (d : DeclNo) (n : ℕ) → class_block s.tables d ≡ Some n → is_kind is_connection_kind s.tables n ≡ false
@@ -184,9 +187,6 @@ module _ (s : Source) (of : TablesOf s) (plain : Plain s.program) (order : InOrd
   -- ---- tables in which some references have their classes
 
   module _ (T : Tables) (r : Requalified (with_blocks (declared_by s.program).tables (prefixed (declared_by s.program).tables).blocks) T) where
-    early : NoVirtuals T.declarations
-    early d row at = let w = r.rows.was d row at in virtual_new w.0.entry row.entry w.2.entry ((program_agrees s.program plain).fine.bare.virtuals d w.0 w.1)
-
     standards_early : (k : ℕ) → standard_in (slice_get T.blocks k) ≡ standard_in (slice_get (prefixed (declared_by s.program).tables).blocks k)
     standards_early k = ap (λ z. standard_in (slice_get z k)) r.blocks
 
@@ -257,7 +257,7 @@ module _ (s : Source) (of : TablesOf s) (plain : Plain s.program) (order : InOrd
         bound : (n : ℕ) → length T.blocks ≡ n → binding T x.class.token.0 x.class.name ≡ Some (denotation.Declared class)
         bound zero e = absurd (let lt : 0 < length s.tables.blocks = t.some_block s of plain order in omega (arith, lt, size, e))
         bound (suc more) e =
-            bound_alone T s.tables early (let u = t.shows s of plain order in u.virtuals) (λ k. done.blocks k ∙ sym ((t.P s of plain order).blocks k) ∙ ap (λ z. bare_row (slice_get z k)) (sym r.blocks)) size (done.places ∙ sym r.places) own_early none_early next_early stand_early (λ k. standards_early k ∙ sym (done.standards k)) more e x.class.token.0 x.class.name class w.binds alone
+            bound_alone T s.tables (λ k. done.blocks k ∙ sym ((t.P s of plain order).blocks k) ∙ ap (λ z. bare_row (slice_get z k)) (sym r.blocks)) size (done.places ∙ sym r.places) own_early none_early next_early stand_early (λ k. standards_early k ∙ sym (done.standards k)) more e x.class.token.0 x.class.name class (ap (entry_is is_virtual) (class_entry class w.block w.declares)) (no_procedure_stands T class (entry.Class w.block) (class_in T class w.block (class_early class w.block w.declares)) refl) w.binds alone
 
   -- ---- a reference has its class
 

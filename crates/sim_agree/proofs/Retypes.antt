@@ -1,5 +1,5 @@
 -- Rows without what the second round changes, and entries with their classes.
-use Rattle.std.proofs.Common.{◌≡◌, ◌⊎◌, inl, inr, ℕ, false, Option, Some, None, refl, sym, ap, ◌∙◌, subst}
+use Rattle.std.proofs.Common.{◌≡◌, ◌⊎◌, inl, inr, ℕ, Option, Some, None, refl, sym, ap, ◌∙◌, subst}
 use Rattle.sim_base.specs.declared.numbering.DeclNo.{DeclNo}
 use Rattle.sim_scope.specs.declared.types.Entry.{Entry}
 use Rattle.sim_scope.specs.declared.types.Entry.TheVariants as entry
@@ -9,7 +9,7 @@ use Rattle.sim_scope.specs.declared.types.SimType.{SimType}
 use Rattle.sim_scope.specs.declared.types.SimType.TheVariants as t
 use Rattle.sim_scope.specs.declared.types.WrittenMode.{WrittenMode}
 use Rattle.sim_scope.specs.Access.{around}
-use Rattle.sim_scope.specs.Scopes.{is_virtual}
+use Rattle.sim_scope.specs.Scopes.{is_procedure_entry, is_virtual}
 use Rattle.sim_scope.specs.Source.{level_in}
 use Rattle.sim_scope.specs.Tables.{BlockOf}
 use Rattle.virtual_match.specs.Qualifying.{entry_to, type_to}
@@ -67,6 +67,17 @@ alike_reference a t.Boolean class r e = absurd r
 alike_reference a t.Character class r e = absurd r
 alike_reference a t.Text class r e = absurd r
 
+pub like_virtual : (e : Entry) (result : Option SimType) (own : Option DeclNo) → Alike e (entry.Virtual result own) → ⊥
+like_virtual (entry.Variable ty) result own a = a
+like_virtual (entry.Constant ty) result own a = a
+like_virtual (entry.Array ty n) result own a = a
+like_virtual (entry.Procedure given k) result own a = a
+like_virtual (entry.Class k) result own a = a
+like_virtual (entry.Virtual given k) result own a = a
+like_virtual (entry.Formal f) result own a = a
+like_virtual (entry.Unspecified v) result own a = a
+like_virtual (entry.Attribute name parameter given) result own a = a
+
 alike_to : (e old : Entry) (class : DeclNo) → OfReferences old → Alike e old → Alike e (entry_to class old)
 unfolding entry_to
 alike_to (entry.Variable a) (entry.Variable b) class r e = alike_reference a b class r e
@@ -83,7 +94,7 @@ alike_to (entry.Formal f) (entry.Formal g) class r e = (e.0, e.1, of_type f.ty g
     of_type None (Some b) r e = absurd e
     of_type a None r e = absurd r
 alike_to e (entry.Unspecified w) class r a = absurd r
-alike_to e (entry.Virtual result own) class r a = absurd r
+alike_to e (entry.Virtual result own) class r a = absurd (like_virtual e result own a)
 alike_to e (entry.Attribute name given result) class r a = absurd r
 alike_to _ _ class r a = absurd a
 
@@ -178,28 +189,67 @@ module _ (old new : Entry) (e : (new ≡ old) ⊎ (OfReferences old × ((class :
       back (entry.Formal f) class r q = cc
       back (entry.Class n) class r q = r
       back (entry.Unspecified v) class r q = r
-      back (entry.Virtual result n) class r q = r
+      back (entry.Virtual result n) class r q = cc
       back (entry.Attribute name given result) class r q = r
 
       go : (new ≡ old) ⊎ (OfReferences old × ((class : DeclNo) × (new ≡ entry_to class old))) → old ≡ entry.Unspecified w
       go (inl q) = sym q ∙ is
       go (inr q) = absurd (back old q.1.0 q.0 (sym q.1.1 ∙ is))
 
-  pub virtual_new : is_virtual old ≡ false → is_virtual new ≡ false
+  pub virtual_new : is_virtual new ≡ is_virtual old
   unfolding entry_to
-  virtual_new v = go e
+  virtual_new = go e
     where
-      kept : (old : Entry) (class : DeclNo) → OfReferences old → is_virtual (entry_to class old) ≡ false
-      kept (entry.Variable ty) class r = refl
-      kept (entry.Constant ty) class r = refl
-      kept (entry.Array ty n) class r = refl
-      kept (entry.Procedure result n) class r = refl
-      kept (entry.Formal f) class r = refl
-      kept (entry.Class n) class r = absurd r
-      kept (entry.Unspecified w) class r = absurd r
-      kept (entry.Virtual result n) class r = absurd r
-      kept (entry.Attribute name given result) class r = absurd r
+      kept : (old : Entry) (class : DeclNo) → is_virtual (entry_to class old) ≡ is_virtual old
+      kept (entry.Variable ty) class = refl
+      kept (entry.Constant ty) class = refl
+      kept (entry.Array ty n) class = refl
+      kept (entry.Procedure result n) class = refl
+      kept (entry.Formal f) class = refl
+      kept (entry.Class n) class = refl
+      kept (entry.Unspecified w) class = refl
+      kept (entry.Virtual result n) class = refl
+      kept (entry.Attribute name given result) class = refl
 
-      go : (new ≡ old) ⊎ (OfReferences old × ((class : DeclNo) × (new ≡ entry_to class old))) → is_virtual new ≡ false
-      go (inl q) = ap is_virtual q ∙ v
-      go (inr q) = ap is_virtual q.1.1 ∙ kept old q.1.0 q.0
+      go : (new ≡ old) ⊎ (OfReferences old × ((class : DeclNo) × (new ≡ entry_to class old))) → is_virtual new ≡ is_virtual old
+      go (inl q) = ap is_virtual q
+      go (inr q) = ap is_virtual q.1.1 ∙ kept old q.1.0
+
+  -- what a virtual knows stays
+  pub virtual_was : (result : Option SimType) (own : Option DeclNo) → new ≡ entry.Virtual result own → (given : Option SimType) × (old ≡ entry.Virtual given own)
+  unfolding entry_to
+  virtual_was result own is = go e
+    where
+      back : (old : Entry) (class : DeclNo) → entry_to class old ≡ entry.Virtual result own → (given : Option SimType) × (old ≡ entry.Virtual given own)
+      back (entry.Virtual given k) class q = (given, ap (entry.Virtual given) (let h : k ≡ own = cc in h))
+      back (entry.Variable ty) class q = absurd (cc)
+      back (entry.Constant ty) class q = absurd (cc)
+      back (entry.Array ty n) class q = absurd (cc)
+      back (entry.Procedure given n) class q = absurd (cc)
+      back (entry.Formal f) class q = absurd (cc)
+      back (entry.Class n) class q = absurd (cc)
+      back (entry.Unspecified w) class q = absurd (cc)
+      back (entry.Attribute name parameter given) class q = absurd (cc)
+
+      go : (new ≡ old) ⊎ (OfReferences old × ((class : DeclNo) × (new ≡ entry_to class old))) → (given : Option SimType) × (old ≡ entry.Virtual given own)
+      go (inl q) = (result, sym q ∙ is)
+      go (inr q) = back old q.1.0 (sym q.1.1 ∙ is)
+
+  pub procedure_new : is_procedure_entry new ≡ is_procedure_entry old
+  unfolding entry_to
+  procedure_new = go e
+    where
+      kept : (old : Entry) (class : DeclNo) → is_procedure_entry (entry_to class old) ≡ is_procedure_entry old
+      kept (entry.Variable ty) class = refl
+      kept (entry.Constant ty) class = refl
+      kept (entry.Array ty n) class = refl
+      kept (entry.Procedure result n) class = refl
+      kept (entry.Formal f) class = refl
+      kept (entry.Class n) class = refl
+      kept (entry.Unspecified w) class = refl
+      kept (entry.Virtual result n) class = refl
+      kept (entry.Attribute name given result) class = refl
+
+      go : (new ≡ old) ⊎ (OfReferences old × ((class : DeclNo) × (new ≡ entry_to class old))) → is_procedure_entry new ≡ is_procedure_entry old
+      go (inl q) = ap is_procedure_entry q
+      go (inr q) = ap is_procedure_entry q.1.1 ∙ kept old q.1.0

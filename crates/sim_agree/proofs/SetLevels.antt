@@ -3,7 +3,7 @@ use Rattle.std.proofs.Common.{◌≡◌, ◌⊎◌, inl, inr, ℕ, zero, suc, Bo
 use Rattle.std.specs.Prelude.{◌&&◌, ◌||◌, nat_eq, not, slice_get}
 use Rattle.std.proofs.lemmas.Bool.Decides.{nat_tests}
 use Rattle.sim_tree.specs.declared.expr.Identifier.{Identifier}
-use Rattle.sim_tree.specs.Order.{InOrder}
+use Rattle.sim_agree.specs.Order.{InOrder}
 use Rattle.sim_tree.specs.Syntax.{Declarations, Expressions, Statements}
 use Rattle.sim_scope.specs.declared.types.BlockKind.TheVariants as kind
 use Rattle.sim_scope.specs.declared.types.StandardClass.{StandardClass}

@@ -20,12 +20,10 @@ use Rattle.sim_scope.specs.Calls.{attribute_in, detach_or_none}
 use Rattle.sim_scope.specs.Levels.{base, base_in, both_blocks, class_block, class_block_in, has_classes, has_level, has_standard, holds, holds_class, holds_class_in, is_for_prefixing, is_in_chain, is_simulation, is_simulation_block, is_standard, level_beyond, on_one_chain, owner_in, owner_of_level, shared_class, shared_level_of, shared_of, some_level_of, standard_in}
 use Rattle.sim_scope.specs.Operators.{common_type, misfit_of, reference_to}
 use Rattle.sim_scope.specs.References.{block_of_class, is_this, level_is, this_block, this_of}
-use Rattle.sim_scope.specs.Scopes.{beyond, binding, block_in, class_formal, class_formals, class_formals_of, declaration_from, declared_or_standard, detach_in, ends_search, entry_in, entry_of, formal_declared, formal_in, formal_of, formals_at, formals_beyond, formals_in, formals_of, found_in, if_found, is_detach, is_passed_over, is_shown, level_shows, outward, represented, searched, shown, shown_of, shows_detach, standard_at}
+use Rattle.sim_scope.specs.Scopes.{beyond, binding, block_in, class_formal, class_formals, class_formals_of, declaration_from, declared_in, declared_or_standard, detach_in, ends_search, entry_in, entry_is, entry_of, formal_declared, formal_in, formal_of, formals_at, formals_beyond, formals_in, formals_of, found_in, if_found, is_detach, is_passed_over, is_procedure_entry, is_shown, is_virtual, level_shows, lookup, or_itself, outward, represented, represented_row, searched, shown, shown_of, shows_detach, standard_at, virtual_among, virtual_of}
 use Rattle.sim_scope.specs.Standard.{standard_name}
 use Rattle.sim_scope.specs.Tables.{Tables}
 use Rattle.sim_agree.proofs.Completing.{bare_row}
-use Rattle.sim_agree.proofs.Unprefixed as u
-use Rattle.sim_agree.proofs.Unprefixed.{NoVirtuals}
 use Rattle.sim_agree.proofs.Accessible.{shows_same, standing}
 
 -- The same block: also what it connects.
@@ -45,8 +43,7 @@ pub record Alike (T C : Tables) (Here : ℕ → Type 0) : Type 0 where
   pub levels : (k j : ℕ) → Settled T C k → base T k ≡ Some j → Settled T C j
   pub bodies : (d : DeclNo) (k : ℕ) → block_in (entry_of T d) ≡ Some k → Settled T C k
   pub standards : (k : ℕ) → standard_in (slice_get T.blocks k) ≡ standard_in (slice_get C.blocks k)
-  pub first : NoVirtuals T.declarations
-  pub last : NoVirtuals C.declarations
+  pub stand : (d : DeclNo) (row : Declaration) → slice_get T.declarations d.0 ≡ Some row → Settled T C row.block
 
 module _ (T C : Tables) (Here : ℕ → Type 0) (a : Alike T C Here) where
   -- ---- declarations
@@ -241,8 +238,32 @@ module _ (T C : Tables) (Here : ℕ → Type 0) (a : Alike T C Here) where
   unfolding shown
   shown_same from k name e = ap (λ n. shown_of T n from k name) a.size ∙ shown_of_same (length C.blocks) from k name e
 
+  virtual_among_same : (o : Option DeclNo) → virtual_among T o ≡ virtual_among C o
+  virtual_among_same None = refl
+  virtual_among_same (Some d) = ap (λ z. if entry_is is_virtual z then Some d else None) (entry_same d)
+
+  lookup_same : (k : ℕ) (name : List ℕ) → Settled T C k → lookup T k name ≡ lookup C k name
+  unfolding lookup
+  lookup_same k name e = ap (λ o. declared_in o name) e
+
+  virtual_of_same : (n k : ℕ) (name : List ℕ) → Settled T C k → virtual_of T n k name ≡ virtual_of C n k name
+  unfolding virtual_of
+  virtual_of_same zero k name e = refl
+  virtual_of_same (suc n) k name e =
+      ap (λ z. option_or z (beyond (λ b. virtual_of T n b name) (base T k))) (virtual_among_same (lookup T k name) ∙ ap (virtual_among C) (lookup_same k name e))
+      ∙ ap (λ z. option_or (virtual_among C (lookup C k name)) z) (go (base T k) refl (λ j f. virtual_of_same n j name f) ∙ ap (λ z. beyond (λ b. virtual_of C n b name) z) (base_same k e))
+    where
+      go : (o : Option ℕ) → base T k ≡ o → ((j : ℕ) → Settled T C j → virtual_of T n j name ≡ virtual_of C n j name) → beyond (λ b. virtual_of T n b name) o ≡ beyond (λ b. virtual_of C n b name) o
+      go None at rest = refl
+      go (Some j) at rest = rest j (a.levels k j e at)
+
   represented_same : (d : DeclNo) → represented T d ≡ represented C d
-  represented_same d = u.stands_for_itself T a.first d ∙ sym (u.stands_for_itself C a.last d)
+  unfolding represented
+  represented_same d = go (slice_get T.declarations d.0) refl ∙ ap (λ (ds : List Declaration). represented_row C d (slice_get ds d.0)) a.declarations
+    where
+      go : (o : Option Declaration) → slice_get T.declarations d.0 ≡ o → represented_row T d o ≡ represented_row C d o
+      go None at = refl
+      go (Some row) at = ap (λ z. if is_procedure_entry row.entry then or_itself z d else d) (ap (λ n. virtual_of T n row.block row.name) a.size ∙ virtual_of_same (length C.blocks) row.block row.name (a.stand d row at))
 
   declared_same : (o : Option DeclNo) (k : Option StandardName) → declared_or_standard T o k ≡ declared_or_standard C o k
   declared_same (Some d) k = ap (λ z. Some (denotation.Declared z)) (represented_same d)

@@ -1,5 +1,5 @@
 -- What is found that `simulation` brought: its own attributes are those of a block that it is in front of, and the class `process` has its name.
-use Rattle.std.proofs.Common.{◌≡◌, ◌<◌, inl, inr, ℕ, suc, Bool, true, false, List, [], ◌∷◌, length, Option, Some, None, refl, sym, ap, ◌∙◌, subst, arith}
+use Rattle.std.proofs.Common.{◌≡◌, inl, inr, ℕ, true, false, List, length, Option, Some, None, refl, sym, ap, ◌∙◌, subst}
 use Rattle.std.proofs.lemmas.Slice.Eq.{bytes_eq-Decides}
 use Rattle.std.specs.Prelude.{position, slice_get}
 use Rattle.std.specs.Option.{option_or}
@@ -7,7 +7,7 @@ use Rattle.std.specs.Str.{bytes_eq}
 use Rattle.std.specs.List.{position_or_len}
 use Rattle.sim_base.specs.declared.numbering.DeclNo.{DeclNo}
 use Rattle.sim_values.specs.declared.standard.Standard.{Standard}
-use Rattle.sim_tree.specs.Order.{InOrder}
+use Rattle.sim_agree.specs.Order.{InOrder}
 use Rattle.sim_scope.specs.declared.scopes.Declaration.{Declaration}
 use Rattle.sim_scope.specs.declared.scopes.Denotation.TheVariants as denotation
 use Rattle.sim_scope.specs.declared.standard.StandardName.{StandardName}
@@ -20,7 +20,7 @@ use Rattle.sim_scope.specs.Access.{block_at}
 use Rattle.sim_scope.specs.Building.{name_of, typed_or_none}
 use Rattle.sim_scope.specs.Calls.{attribute_in, detach_or_none}
 use Rattle.sim_scope.specs.Levels.{is_simulation, is_simulation_block, standard_in}
-use Rattle.sim_scope.specs.Scopes.{binding, brought_by, brought_in, declared_or_standard, entry_of, level_shows, lookup, numbered, represented, seen, shown}
+use Rattle.sim_scope.specs.Scopes.{binding, brought_by, brought_in, declared_or_standard, entry_is, entry_of, is_virtual, level_shows, lookup, numbered, represented, seen, shown}
 use Rattle.sim_scope.specs.Source.{Source, block_of, block_of_row}
 use Rattle.sim_scope.specs.Standard.{parameter_of, result_of}
 use Rattle.sim_scope.specs.Tables.{BlockOf, Tables}
@@ -31,29 +31,17 @@ use Rattle.sim_agree.specs.Plain.{Plain}
 use Rattle.sim_agree.specs.TablesOf.{TablesOf}
 use Rattle.sim_agree.proofs.ClassBlocks as blocks
 use Rattle.sim_agree.proofs.ClassBlocks.{brought_standard, from_level, lookup_among, shown_level}
-use Rattle.sim_agree.proofs.Fine.{OfSimulation}
+use Rattle.sim_agree.proofs.Fine.{OfSimulation, name_there}
 use Rattle.sim_agree.proofs.StandardPrefixes.{InFront, one_in_front}
 use Rattle.sim_agree.proofs.StandardRows as rows
 use Rattle.sim_agree.proofs.StandardRows.{names_apart}
-use Rattle.sim_agree.proofs.Steps.{count_false, count_true, found_at}
+use Rattle.sim_agree.proofs.Steps.{found_at}
 use Rattle.sim_agree.proofs.Tables as t
 use Rattle.sim_agree.proofs.Tables.{Bs, Ts}
-use Rattle.sim_agree.proofs.Unprefixed.{Named, brings_of, brought_stands, declared_is, seen_there, stands_for_itself}
+use Rattle.sim_agree.proofs.Unprefixed.{Named, brings_of, brought_stands, declared_is, seen_there, stands_alone}
 
 some_same : {A : Type 0} (a b : A) → Some a ≡ Some b → a ≡ b
 some_same a b e = cc
-
--- the name at the place where it is found
-name_there : (p : List ℕ → Bool) (names : List (List ℕ)) → position_or_len p names < length names → (n : List ℕ) × (slice_get names (position_or_len p names) ≡ Some n) × (p n ≡ true)
-name_there p [] lt = absurd (omega (arith, lt))
-name_there p (n ∷ ns) lt = go (p n) refl (λ q. name_there p ns q)
-  where
-    go : (c : Bool) → p n ≡ c → (position_or_len p ns < length ns → (m : List ℕ) × (slice_get ns (position_or_len p ns) ≡ Some m) × (p m ≡ true)) → (m : List ℕ) × (slice_get (n ∷ ns) (position_or_len p (n ∷ ns)) ≡ Some m) × (p m ≡ true)
-    go true is rest = (n, ap (slice_get (n ∷ ns)) (count_true p n ns is), is)
-    go false is rest =
-        let e : position_or_len p (n ∷ ns) ≡ suc (position_or_len p ns) = count_false p n ns is in
-        let l : length (n ∷ ns) ≡ suc (length ns) = omega arith in
-        let q = rest (omega (arith, lt, e, l)) in (q.0, ap (slice_get (n ∷ ns)) e ∙ q.1, q.2)
 
 -- what is brought has the name by which it is found
 brought_name : (T : Tables) → ((k : ℕ) → Named T.declarations (brings_of (slice_get T.blocks k))) → (k : ℕ) (name : List ℕ) (d : DeclNo) → brought_by T k name ≡ Some d → (row : Declaration) × (slice_get T.declarations d.0 ≡ Some row) × (row.name ≡ name)
@@ -124,8 +112,7 @@ module _ (s : Source) (of : TablesOf s) (plain : Plain s.program) (order : InOrd
   pub found_simulates : (token : ℕ) (name : List ℕ) (d : DeclNo) (n : Standard) (given result : Option SimType) → binding s.tables token name ≡ Some (denotation.Declared d) → entry_of s.tables d ≡ Some (entry.Attribute n given result) → is_simulation_name n ≡ true
       → is_simulation_block s.tables (block_of s d) ≡ true
   found_simulates token name d n given result binds is is_name =
-      let u = t.shows s of plain order in
-      let l = from_level s.tables (Some token) name d (block_at s.tables token) (declared_is s.tables u.virtuals token name d binds) in
+      let l = from_level s.tables (Some token) name d (block_at s.tables token) (declared_is s.tables token name d (ap (entry_is is_virtual) is) binds) in
       level_simulates (Some token) l.0 name d n given result l.1 is is_name
 
   pub attribute_simulates : (token block : ℕ) (name : List ℕ) (d : DeclNo) (n : Standard) (given result : Option SimType) → attribute_in s.tables token block name ≡ Some (denotation.Declared d) → entry_of s.tables d ≡ Some (entry.Attribute n given result) → is_simulation_name n ≡ true
@@ -135,7 +122,7 @@ module _ (s : Source) (of : TablesOf s) (plain : Plain s.program) (order : InOrd
     where
       go : (o : Option DeclNo) (k : Option StandardName) → shown s.tables (Some token) block name ≡ o → declared_or_standard s.tables o k ≡ Some (denotation.Declared d) → is_simulation_block s.tables (block_of s d) ≡ true
       go (Some f) k at g =
-          let same : f ≡ d = sym (stands_for_itself s.tables (t.shows s of plain order).virtuals f) ∙ (let h : represented s.tables f ≡ d = cc in h) in
+          let same : f ≡ d = stands_alone s.tables f d (ap (entry_is is_virtual) is) (let h : represented s.tables f ≡ d = cc in h) in
           let l = shown_level s.tables (Some token) name d (length s.tables.blocks) block (at ∙ ap Some same) in
           level_simulates (Some token) l.0 name d n given result l.1 is is_name
       go None (Some k) at g = absurd (cc)
@@ -146,8 +133,7 @@ module _ (s : Source) (of : TablesOf s) (plain : Plain s.program) (order : InOrd
   -- a standard class that is found has its name
   pub found_named : (token : ℕ) (name : List ℕ) (d : DeclNo) (k : ℕ) (which : StandardClass) → binding s.tables token name ≡ Some (denotation.Declared d) → entry_of s.tables d ≡ Some (entry.Class k) → text s k ≡ Some (StandardText which) → name ≡ name_of which
   found_named token name d k which binds is at =
-      let u = t.shows s of plain order in
-      let l = from_level s.tables (Some token) name d (block_at s.tables token) (declared_is s.tables u.virtuals token name d binds) in
+      let l = from_level s.tables (Some token) name d (block_at s.tables token) (declared_is s.tables token name d (ap (entry_is is_virtual) is) binds) in
       let r = t.entry_row s of plain order d (entry.Class k) is in
       let own = rows.class_row_of s of plain order d.0 k which r.0 r.1 r.2 at in
       let by = level_brought (Some token) l.0 name d l.1 (λ row there. ap (λ (z : Declaration). z.listed) (some_same row r.0 (sym there ∙ r.1)) ∙ own.0) in

@@ -19,10 +19,7 @@ use Rattle.sim_scope.specs.Building.{BuildingOf, Mark, Opens, block_around, brok
 use Rattle.sim_scope.specs.Declare.{result_named}
 use Rattle.sim_scope.specs.Runs.{run}
 use Rattle.sim_scope.specs.Access.{around}
-use Rattle.sim_scope.specs.Scopes.{declared_in}
 use Rattle.sim_meaning.specs.Attributes.{first_in}
-use Rattle.sim_meaning.specs.Entries.{numbers_in}
-use Rattle.sim_sound.specs.Held.{Among}
 use Rattle.sim_scope.specs.Tables.{BlockOf}
 use Rattle.sim_scope.proofs.Kept.{kept_more, kept_set, more_here, more_other, set_here, set_other}
 use Rattle.sim_meaning.specs.Texts.{BlockText, ClassText, ProcedureText, Text, PrefixedText}
@@ -38,9 +35,12 @@ use Rattle.sim_agree.specs.TablesAgree.{IsOwn, is_attribute}
 use Rattle.sim_scope.specs.Levels.{is_standard_class}
 use Rattle.sim_scope.specs.declared.types.StandardPrefix.{StandardPrefix}
 use Rattle.sim_scope.specs.declared.types.StandardPrefix.TheVariants as prefixes
-use Rattle.sim_agree.proofs.Steps.{AllEven, Becomes, Changed, Declared, Fixed, Nothing, Step, class_step, declared_step, fixed, headed_step, inner_step, last_cases, met, moded_step, own_unmatched, parameter_step, procedure_unmatched, quals_step, rule_step, specified_met, prefix_step, guards_step}
+use Rattle.sim_agree.proofs.Steps as steps
+use Rattle.sim_agree.proofs.Steps.{Becomes, Changed, Fixed, Nothing, Step, fixed}
+use Rattle.sim_agree.proofs.Marks.{Declared, class_step, declared_step, headed_step, inner_step, last_cases, met, moded_step, declarable_unmatched, parameter_step, procedure_unmatched, quals_step, rule_step, specified_met, prefix_step, guards_step}
 use Rattle.sim_agree.proofs.Unprefixed.{Unprefixed, extras_in, no_extras, is_prefixable}
-use Rattle.sim_agree.proofs.Fine.{same_around, fresh}
+use Rattle.sim_agree.proofs.Fine.{same_around}
+use Rattle.sim_agree.proofs.FineBlocks.{fresh}
 use Rattle.sim_agree.proofs.FineRuns.{run_both}
 use Rattle.sim_agree.proofs.Groups.{AreReferences, OfReferences, whole_prefix}
 
@@ -123,7 +123,8 @@ own_was old row c o = (sym c.listed ∙ o.0, go c.entry)
   where
     go : Becomes old.entry row.entry → is_attribute old.entry ≡ false
     go (inl e) = ap is_attribute (sym e) ∙ o.1
-    go (inr q) = ap is_attribute q.1
+    go (inr (inl q)) = ap is_attribute q.1
+    go (inr (inr q)) = ap is_attribute q.2
 
 -- a connection begins at its first token, and stands in a text
 abbrev pub JoinsAt : List BlockOf → List Held → Type 0
@@ -220,7 +221,7 @@ row_is : (b c : BuildingOf) (New : ℕ → Declaration → Type 0) → Step b c 
     → (d : ℕ) (row : Declaration) → slice_get c.tables.declarations d ≡ Some row → RowIs b from to d row
 row_is b c New s from to new d row at = go (s.rows d row at)
   where
-    go : ((old : Declaration) × (slice_get b.tables.declarations d ≡ Some old) × Changed old row) ⊎ (New d row × Among (record { 0 = d }) (numbers_in (slice_get c.tables.blocks row.block)) × (AllEven b.tables.blocks → declared_in (slice_get c.tables.blocks row.block) row.name ≡ Some (record { 0 = d }))) → RowIs b from to d row
+    go : steps.RowIs b c New d row → RowIs b from to d row
     go (inl q) = inl (q.0, q.1, q.2.token, own_was q.0 row q.2)
     go (inr q) = inr (new d row q.0)
 
@@ -348,7 +349,7 @@ begun_laid b new first ts x os ps from high own le up around_is first_is without
   joins = λ n i a is. joins n i a (last_cases ts x n (Joined i a) is);
   below = λ d row is. (let lt : row.token.0 < high = l.below d row is in omega arith);
   rising = l.rising;
-  bare = record { blocks = λ k. kept_more extras_in bs new without k ∙ l.bare.blocks k; virtuals = l.bare.virtuals };
+  bare = record { blocks = λ k. kept_more extras_in bs new without k ∙ l.bare.blocks k };
 }
   where
     bs : List BlockOf
@@ -477,7 +478,7 @@ closed_row b end n (Some row) ts x os from le cur at found is l = record {
   joins = λ m i a is. joins_kept bs cs ts ts keep l.joins m i a is;
   below = λ d r is. (let lt : r.token.0 < from = l.below d r is in omega arith);
   rising = l.rising;
-  bare = record { blocks = λ j. kept_set extras_in bs n row new at refl j ∙ l.bare.blocks j; virtuals = l.bare.virtuals };
+  bare = record { blocks = λ j. kept_set extras_in bs n row new at refl j ∙ l.bare.blocks j };
 }
   where
     bs : List BlockOf
@@ -692,10 +693,10 @@ run_laid {os = os} b ts from (nothing e) a f = record { to = from; laid = subst 
 run_laid b ts from (uses {os = os} x u i g) a f = run_laid b ts (i + 1) g a.1 (use_laid b ts x u i os from a.0 f)
 run_laid {os = os} b ts from (passes i g) a f = run_laid b ts (i + 1) g a.1 (later_laid b ts os from from (i + 1) (let le : from ≤ i = a.0 in omega arith) (let le : from ≤ i = a.0 in omega arith) f)
 run_laid {os = os} b ts from (leaves i g) a f = run_laid b ts i g a.1 (later_laid b ts os from from i a.0 a.0 f)
-run_laid b ts from (declares {o = o} {os = os} {ms = ms} {hs = xs} quals x e own q g) a f =
+run_laid b ts from (declares {o = o} {os = os} {ms = ms} {hs = xs} quals x e may q g) a f =
     let n : ℕ = f.stack.0 in
     let c : BuildingOf = run marked (declared b x e) quals in
-    let s : Step b c (Declared (length b.tables.declarations) x e n) = quals_step b (declared b x e) (Declared (length b.tables.declarations) x e n) (OfReferences e) quals q (declared_step b x e n (own_unmatched b.tables e own) f.stack.1) in
+    let s : Step b c (Declared (length b.tables.declarations) x e n) = quals_step b (declared b x e) (Declared (length b.tables.declarations) x e n) (OfReferences e) quals q (declared_step b x e n (declarable_unmatched e may) f.stack.1) in
     subst (λ z. Final z (ts ++ xs)) (sym (run_both (declared b x e) quals ms))
     (run_laid c ts (x.token.0 + 1) g a.1
     (later_laid c ts (o ∷ os) from (x.token.0 + 1) (x.token.0 + 1) (let le : from ≤ x.token.0 = a.0 in omega arith) (let z : x.token.0 + 1 ≤ x.token.0 + 1 = omega arith in z)
@@ -751,7 +752,7 @@ run_laid b ts from (procedure {o = o} {os = os} {ms = ms} {hs = xs} text quals r
     let e : Entry = entry.Procedure (result_named result) (length b.tables.blocks) in
     let c0 : BuildingOf = declared b h.name (entry.Procedure (result_named result) (length b.tables.blocks)) in
     let c : BuildingOf = run marked c0 quals in
-    let s : Step b c (Declared (length b.tables.declarations) h.name e n) = quals_step b c0 (Declared (length b.tables.declarations) h.name e n) (AreReferences (result_named result)) quals q (declared_step b h.name e n (procedure_unmatched b.tables (result_named result) (length b.tables.blocks) f.bare.virtuals) f.stack.1) in
+    let s : Step b c (Declared (length b.tables.declarations) h.name e n) = quals_step b c0 (Declared (length b.tables.declarations) h.name e n) (AreReferences (result_named result)) quals q (declared_step b h.name e n (procedure_unmatched (result_named result) (length b.tables.blocks)) f.stack.1) in
     let k = named_laid b c h.name e n ts o os from s a.0 f in
     let p = run_laid (opened c kind.Procedure text i) (ts ++ x ∷ []) (i + 1) g a.1
     (opened_laid c kind.Procedure text i ts x (o ∷ os) (o ∷ os) from (i + 1) tt a.0 (let z : i + 1 ≤ i + 1 = omega arith in z) k k.stack (pop_none c x i (o ∷ os))) in

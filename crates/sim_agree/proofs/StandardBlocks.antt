@@ -130,7 +130,6 @@ module _ (b : BuildingOf) (ts : List Text) (os : List Open) (f : Fine b ts os) w
   pub showing : Showing b.tables
   showing = record {
     right = λ k. ap (λ (z : Extras). z.wrong) (f.bare.blocks k);
-    virtuals = f.bare.virtuals;
     lists = λ k d a. (let o = f.own k d a in (o.0, o.1, o.2));
     brings = f.brought;
   }

@@ -9,7 +9,7 @@ use Rattle.sim_values.specs.declared.standard.Standard.TheVariants as name
 use Rattle.sim_values.specs.declared.standard.StandardType.{StandardType}
 use Rattle.sim_values.specs.declared.standard.StandardType.TheVariants as of_type
 use Rattle.sim_values.specs.Standard.{row_of}
-use Rattle.sim_tree.specs.Order.{InOrder}
+use Rattle.sim_agree.specs.Order.{InOrder}
 use Rattle.sim_scope.specs.declared.scopes.Declaration.{Declaration}
 use Rattle.sim_scope.specs.declared.types.Entry.{Entry}
 use Rattle.sim_scope.specs.declared.types.Entry.TheVariants as entry
@@ -23,7 +23,7 @@ use Rattle.sim_scope.specs.Access.{around, encloser}
 use Rattle.sim_scope.specs.Building.{name_of, place_of, typed_or_none}
 use Rattle.sim_scope.specs.Declare.{declared_by, result_named}
 use Rattle.sim_scope.specs.Levels.{base, base_in, class_block, class_block_in, is_simulation, is_simulation_block, standard_in}
-use Rattle.sim_scope.specs.Scopes.{entry_in, entry_of}
+use Rattle.sim_scope.specs.Scopes.{entry_in, entry_of, is_procedure_entry, is_virtual}
 use Rattle.sim_scope.specs.Source.{Source, block_of, block_of_row}
 use Rattle.sim_scope.specs.Standard.{class_owning, parameter_of, result_of}
 use Rattle.sim_code.specs.Sets.{is_attribute_name}
@@ -39,7 +39,7 @@ use Rattle.sim_agree.specs.Plain.{Plain}
 use Rattle.sim_agree.specs.TablesAgree.{ProcessBrought, is_attribute}
 use Rattle.sim_agree.specs.TablesOf.{TablesOf}
 use Rattle.sim_agree.proofs.ArrayNames.{own_no_attribute}
-use Rattle.sim_agree.proofs.Fine.{Alike, InGroup, IsStandard, OfAttribute, OfClass, OfSimulation, RowIn, StandardGroup, attribute_row, class_row, formal_row, own_row, procedure_row, simulation_row}
+use Rattle.sim_agree.proofs.Fine.{Alike, InGroup, IsStandard, OfAttribute, OfClass, OfSimulation, RowIn, StandardGroup, attribute_row, class_row, formal_row, own_row, procedure_row, simulation_row, virtual_row}
 use Rattle.sim_agree.proofs.ClassRows.{own_no_class}
 use Rattle.sim_agree.proofs.Prefixing.{PrefixOf}
 use Rattle.sim_agree.proofs.Retypes.{class_new}
@@ -242,6 +242,7 @@ module _ (s : Source) (of : TablesOf s) (plain : Plain s.program) (order : InOrd
       go x (procedure_row y p) = absurd (no_attribute (entry.Procedure (result_named p.result) p.number) row.entry n given result is p.entry (λ a. a))
       go x (class_row y p) = absurd (let z : entry.Class p.number ≡ entry.Attribute n given result = sym p.entry ∙ is in cc)
       go x (formal_row y p l) = absurd (parametric_none row.entry n given result is p)
+      go x (virtual_row y p l) = absurd (let z : false ≡ true = sym (ap is_virtual is) ∙ p in cc)
       go x (attribute_row y p) = inl p
       go x (simulation_row y p) = inr p
 
@@ -299,20 +300,32 @@ module _ (s : Source) (of : TablesOf s) (plain : Plain s.program) (order : InOrd
             subst (λ z. SetType s (row.block + 1) (result_of n) z) (ap (λ z. typed_or_none (Some p.first) (result_of z)) (sym same.0) ∙ same.2) (type_of prefix.Simulation row.block p.first p.group (result_of n) types.1),
           )
 
-  -- what is not listed is a class, or an attribute
-  pub unlisted : (d : DeclNo) (row : Declaration) → slice_get s.tables.declarations d.0 ≡ Some row → row.listed ≡ false → ((k : ℕ) × (row.entry ≡ entry.Class k)) ⊎ (is_attribute row.entry ≡ true)
+  procedure_alike : (result : Option SimType) (k : ℕ) (e : Entry) → Alike (entry.Procedure result k) e → is_procedure_entry e ≡ true
+  procedure_alike result k (entry.Procedure r n) a = refl
+  procedure_alike result k (entry.Variable ty) a = absurd a
+  procedure_alike result k (entry.Constant ty) a = absurd a
+  procedure_alike result k (entry.Array ty n) a = absurd a
+  procedure_alike result k (entry.Class n) a = absurd a
+  procedure_alike result k (entry.Virtual r n) a = absurd a
+  procedure_alike result k (entry.Formal g) a = absurd a
+  procedure_alike result k (entry.Unspecified w) a = absurd a
+  procedure_alike result k (entry.Attribute name given r) a = absurd a
+
+  -- what is not listed is a class, an attribute, or a procedure
+  pub unlisted : (d : DeclNo) (row : Declaration) → slice_get s.tables.declarations d.0 ≡ Some row → row.listed ≡ false → ((k : ℕ) × (row.entry ≡ entry.Class k)) ⊎ ((is_attribute row.entry ≡ true) ⊎ (is_procedure_entry row.entry ≡ true))
   unlisted d row at hidden = let w = t.text_of_row s of plain order d.0 row at in go w.0 w.2
     where
       shown : row.listed ≡ true → ⊥
       shown e = let z : true ≡ false = sym e ∙ hidden in cc
 
-      go : (x : Text) → RowIn (Bs s of plain order) (Ts s of plain order) x d.0 row → ((k : ℕ) × (row.entry ≡ entry.Class k)) ⊎ (is_attribute row.entry ≡ true)
+      go : (x : Text) → RowIn (Bs s of plain order) (Ts s of plain order) x d.0 row → ((k : ℕ) × (row.entry ≡ entry.Class k)) ⊎ ((is_attribute row.entry ≡ true) ⊎ (is_procedure_entry row.entry ≡ true))
       go x (own_row y p) = absurd (shown p.listed)
-      go x (procedure_row y p) = absurd (shown p.listed)
+      go x (procedure_row y p) = inr (inr (procedure_alike (result_named p.result) p.number row.entry p.entry))
       go x (class_row y p) = inl (p.number, p.entry)
       go x (formal_row y p l) = absurd (shown l)
+      go x (virtual_row y p l) = absurd (shown l)
       go x (attribute_row y p) = absurd (shown p.listed)
-      go x (simulation_row y p) = inr (ap is_attribute p.entry)
+      go x (simulation_row y p) = inr (inl (ap is_attribute p.entry))
 
   -- a standard class declares nothing but attributes
   pub bare : (d : DeclNo) (row : Declaration) (which : StandardClass) → slice_get s.tables.declarations d.0 ≡ Some row → text s row.block ≡ Some (StandardText which) → is_attribute row.entry ≡ true
@@ -324,6 +337,7 @@ module _ (s : Source) (of : TablesOf s) (plain : Plain s.program) (order : InOrd
       in_class (procedure_row y p) = absurd y
       in_class (class_row y p) = absurd y
       in_class (formal_row y p l) = absurd y
+      in_class (virtual_row y p l) = absurd y
       in_class (attribute_row y p) = ap is_attribute p.entry
       in_class (simulation_row y p) = absurd y
 
@@ -389,6 +403,7 @@ module _ (s : Source) (of : TablesOf s) (plain : Plain s.program) (order : InOrd
       go x (own_row y p) = absurd (own_no_class p.entry k p.fits (subst (Alike p.entry) is_entry p.alike))
       go x (procedure_row y p) = absurd (subst (Alike (entry.Procedure (result_named p.result) p.number)) is_entry p.entry)
       go x (formal_row y p l) = absurd (subst Parametric is_entry p)
+      go x (virtual_row y p l) = absurd (let z : false ≡ true = sym (ap is_virtual is_entry) ∙ p in cc)
       go x (attribute_row y p) = absurd (let z : entry.Attribute p.name (typed_or_none (Some p.first) (parameter_of p.name)) (typed_or_none (Some p.first) (result_of p.name)) ≡ entry.Class k = sym p.entry ∙ is_entry in cc)
       go x (simulation_row y p) = absurd (let z : entry.Attribute p.name (typed_or_none (Some p.first) (parameter_of p.name)) (typed_or_none (Some p.first) (result_of p.name)) ≡ entry.Class k = sym p.entry ∙ is_entry in cc)
 

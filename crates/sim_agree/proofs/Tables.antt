@@ -3,7 +3,7 @@ use Rattle.std.proofs.Common.{◌≡◌, ◌<◌, ◌≤◌, ◌+◌, ◌⊎◌,
 use Rattle.std.specs.Prelude.{slice_get}
 use Rattle.std.proofs.lemmas.Option.{slice_get_within}
 use Rattle.sim_base.specs.declared.numbering.DeclNo.{DeclNo}
-use Rattle.sim_tree.specs.Order.{InOrder}
+use Rattle.sim_agree.specs.Order.{InOrder}
 use Rattle.sim_tree.specs.Syntax.{Begin, Block, Prefix, Program}
 use Rattle.sim_scope.specs.declared.scopes.Declaration.{Declaration}
 use Rattle.sim_scope.specs.declared.scopes.Qualification.{Qualification}
@@ -19,7 +19,7 @@ use Rattle.sim_scope.specs.Access.{around, encloser, joined}
 use Rattle.sim_scope.specs.Building.{attribute_entry, place_of}
 use Rattle.sim_scope.specs.Declare.{declared_by, declaring, empty, result_named}
 use Rattle.sim_scope.specs.Levels.{standard_in, base, base_in, class_block, class_block_in, is_standard_class}
-use Rattle.sim_scope.specs.Scopes.{entry_in, entry_of}
+use Rattle.sim_scope.specs.Scopes.{declared_in, entry_in, entry_of, lookup}
 use Rattle.sim_scope.specs.Source.{Source, block_of, block_of_row, level_in, level_of}
 use Rattle.sim_scope.specs.Tables.{BlockOf, Tables, deeper}
 use Rattle.sim_scope.specs.Walk.{program_events}
@@ -37,17 +37,17 @@ use Rattle.sim_agree.proofs.Owned.{Owned}
 use Rattle.sim_agree.proofs.CleanRuns.{run_clean}
 use Rattle.sim_agree.proofs.Completing.{AllReferences, Completes, HasNext, Retyped, bare_row, entry_is_class, has_base, kind_in, prefixable_base}
 use Rattle.sim_agree.proofs.Prefixing.{Based, PrefixOf, complete, prefix_more, prefixed_tables, showing_kept}
-use Rattle.sim_agree.proofs.Fine.{Agree, Headed, IsStandard, StandardGroup, attribute_row, simulation_row, first_or_none, own_base, KindIs, Rising, RowIn, RowOf, class_row, deeper_in, formal_row, own_row, owner_in, procedure_row}
+use Rattle.sim_agree.proofs.Fine.{Agree, Headed, IsStandard, StandardGroup, attribute_row, simulation_row, first_or_none, own_base, KindIs, Rising, RowIn, RowOf, names_found, class_row, deeper_in, formal_row, own_row, owner_in, procedure_row, virtual_row}
 use Rattle.sim_agree.proofs.FineRuns.{run_agrees}
 use Rattle.sim_agree.proofs.Groups.{NoBreaks, OfReferences, PlainKind, program_grouped, Declaring}
 use Rattle.sim_agree.proofs.Laid.{program_held, program_laid}
 use Rattle.sim_agree.proofs.Openings.{Opened, program_opened}
 use Rattle.sim_agree.proofs.Spots.{Final, Here, Lay, run_laid}
 use Rattle.sim_agree.proofs.StandardBlocks.{no_base, no_standard, showing, standard_base_of}
-use Rattle.sim_agree.proofs.Unprefixed.{Brings, Named, Showing, brings_of, StandsIn, is_prefixable, nothing_bare}
+use Rattle.sim_agree.proofs.Unprefixed.{Brings, Known, Named, NamesFound, Showing, brings_of, StandsIn, is_prefixable, nothing_bare}
 use Rattle.sim_agree.proofs.ClassRows.{class_entry, class_of_kind, class_stands, levels_of_kind, no_connection}
 use Rattle.sim_meaning.specs.Levels.{has_levels, is_class}
-use Rattle.sim_agree.proofs.Retypes.{alike_new, bare_around, bare_deeper, bare_first, bare_kind, bare_level, bare_numbers, bare_owner, class_new, kind_bare, param_now, param_was, parametric_new, unspecified_was, virtual_new}
+use Rattle.sim_agree.proofs.Retypes.{alike_new, bare_around, bare_deeper, bare_first, bare_kind, bare_level, bare_numbers, bare_owner, class_new, kind_bare, param_now, param_was, parametric_new, procedure_new, unspecified_was, virtual_new, virtual_was}
 
 -- ---- the whole program, as it is declared
 
@@ -72,6 +72,7 @@ nothing_agrees = record {
     rising = λ k n m d e at to lt. absurd (cc);
     based = λ k. nothing_based k;
     bare = nothing_bare;
+    known = λ v row result d at e. absurd (cc);
     standards = λ k which is. absurd (cc);
     headed = λ n p e. absurd (cc);
     textless = λ k. nothing_textless k;
@@ -299,9 +300,36 @@ module _ (s : Source) (of : TablesOf s) (plain : Plain s.program) (order : InOrd
 
   -- what is looked for in them
   pub shows : Showing s.tables
-  shows =
-      showing_kept (declared_by s.program).tables s.tables (showing (declared_by s.program) (program_texts s.program.prefix s.program.block) [] agree.fine) C.blocks stands_now
-      (λ d row at. (let w = C.rows.was d row at in virtual_new w.0.entry row.entry w.2.entry (agree.fine.bare.virtuals d w.0 w.1)))
+  shows = showing_kept (declared_by s.program).tables s.tables (showing (declared_by s.program) (program_texts s.program.prefix s.program.block) [] agree.fine) C.blocks stands_now
+
+  found_bare : (name : List ℕ) (o : Option BlockOf) → declared_in (bare_row o) name ≡ declared_in o name
+  found_bare name None = refl
+  found_bare name (Some row) = refl
+
+  same_found : (k : ℕ) (name : List ℕ) → declared_in (slice_get s.tables.blocks k) name ≡ declared_in (slice_get (declared_by s.program).tables.blocks k) name
+  same_found k name = sym (found_bare name (slice_get s.tables.blocks k)) ∙ ap (λ o. declared_in o name) (C.blocks k) ∙ found_bare name (slice_get (declared_by s.program).tables.blocks k)
+
+  -- what is listed is found by its name, and what is found has that name
+  pub finds_now : (d : DeclNo) (row : Declaration) → slice_get s.tables.declarations d.0 ≡ Some row → row.listed ≡ true → lookup s.tables row.block row.name ≡ Some d
+  unfolding lookup
+  finds_now d row at l =
+      let w = C.rows.was d.0 row at in
+      same_found row.block row.name ∙ ap (λ k. declared_in (slice_get (declared_by s.program).tables.blocks k) row.name) w.2.block
+      ∙ ap (λ n. declared_in (slice_get (declared_by s.program).tables.blocks w.0.block) n) w.2.name ∙ agree.fine.finds d.0 w.0 w.1 (sym w.2.listed ∙ l)
+
+  pub names_now : NamesFound s.tables
+  names_now k name d e =
+      let q = names_found (declared_by s.program) (program_texts s.program.prefix s.program.block) [] agree.fine k name d (sym (same_found k name) ∙ e) in
+      let n = C.rows.stays d.0 q.0 q.1 in (n.0, n.1, n.2.name ∙ q.2, n.2.block ∙ q.3)
+
+  -- the match that a virtual knows
+  pub known : Known s.tables.declarations
+  known v row result d at is =
+      let w = C.rows.was v row at in
+      let u = virtual_was w.0.entry row.entry w.2.entry result (Some d) is in
+      let m = agree.fine.known v w.0 u.0 d w.1 u.1 in
+      let n = C.rows.stays d.0 m.row m.at in
+      record { row = n.0; at = n.1; name = n.2.name ∙ m.name ∙ sym w.2.name; block = n.2.block ∙ m.block ∙ sym w.2.block; procedure = procedure_new m.row.entry n.0.entry n.2.entry ∙ m.procedure }
 
   pub nesting : (t u : ℕ) → encloser s.tables t ≡ Some u → u < t
   unfolding encloser
@@ -451,7 +479,6 @@ module _ (s : Source) (of : TablesOf s) (plain : Plain s.program) (order : InOrd
         body = p.body;
         number = p.number;
         entry = alike_new old.entry new.entry r.entry (entry.Procedure (result_named p.result) p.number) p.entry;
-        listed = r.listed ∙ p.listed;
         text = p.text;
         around = same_around p.number ∙ p.around ∙ ap Some (sym r.block);
         owner = same_owner p.number ∙ p.owner;
@@ -463,6 +490,7 @@ module _ (s : Source) (of : TablesOf s) (plain : Plain s.program) (order : InOrd
       still (inl l) = inl (r.listed ∙ l)
       still (inr q) = inr q
   row_in x d old new r (formal_row y p l) = formal_row y (parametric_new old.entry new.entry r.entry p) (r.listed ∙ l)
+  row_in x d old new r (virtual_row y p l) = virtual_row y (virtual_new old.entry new.entry r.entry ∙ p) (r.listed ∙ l)
   row_in x d old new r (attribute_row y p) =
       attribute_row y (record { name = p.name; class = p.class; owner = p.owner; is_attribute = p.is_attribute; prefix = p.prefix; block = p.block; first = p.first; group = group_now p.prefix p.block p.first p.group; is = p.is; entry = go r.entry; listed = r.listed ∙ p.listed; stands = r.block ∙ p.stands })
     where
@@ -626,6 +654,7 @@ module _ (s : Source) (of : TablesOf s) (plain : Plain s.program) (order : InOrd
       none ConnectionText e (procedure_row y p) = y
       none ConnectionText e (class_row y p) = y
       none ConnectionText e (formal_row y p l) = y
+      none ConnectionText e (virtual_row y p l) = y
       none ConnectionText e (attribute_row y p) = y
       none ConnectionText e (simulation_row y p) = y
       none (BlockText i ds ss) e q = cc

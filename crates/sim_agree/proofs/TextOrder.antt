@@ -8,7 +8,7 @@ use Rattle.sim_tree.specs.declared.stmt.TypeName.{TypeName}
 use Rattle.sim_tree.specs.declared.stmt.TypeName.TheVariants as type_name
 use Rattle.sim_tree.specs.declared.stmt.Variable.{Variable}
 use Rattle.sim_tree.specs.Named.{named}
-use Rattle.sim_tree.specs.Syntax.{Also, Arms, Arrayed, Arrays, Begin, Block, BoundPair, Declarations, DeclareClass, DeclareProcedure, Element, Expression, Heading, Interface, NoArm, NoDeclaration, NoStatement, Prefix, Schedule, Statement, Statements, Variables, When, With, Expressions}
+use Rattle.sim_tree.specs.Syntax.{Also, Arms, Arrayed, Arrays, Begin, Block, BoundPair, Declarations, DeclareClass, DeclareProcedure, Element, Expression, Heading, Interface, NoArm, NoDeclaration, NoStatement, Prefix, Schedule, Statement, Statements, Variables, Virtual, When, With, Expressions}
 use Rattle.sim_tree.specs.Syntax as syntax
 use Rattle.sim_scope.specs.declared.types.StandardPrefix.{StandardPrefix}
 use Rattle.sim_scope.specs.declared.types.StandardPrefix.TheVariants as prefixes
@@ -17,7 +17,8 @@ use Rattle.sim_scope.specs.Source.{Source}
 use Rattle.sim_meaning.specs.Texts.{BlockText, ClassText, Text, arms_texts, block_texts, declaration_texts, declarations_texts, declared_at, number_from, program_texts, statement_texts, statements_texts, text, prefix_texts, PrefixedText, prefixed_texts}
 use Rattle.sim_sound.specs.Held.{Among, first, later}
 use Rattle.sim_sound.specs.Typed.{Distinct, arrays_in_segments, arrays_named, arrays_of_block, of_option}
-use Rattle.sim_tree.specs.Order.{Ascends, Behind, InOrder, Spot, Token, in_arms, in_block, in_bounds, in_declarations, in_each, in_element, in_expression, in_name, in_result, in_schedule, in_segment, in_side, in_statement, in_statements, in_type, in_variable, tokens, in_prefix}
+use Rattle.sim_tree.specs.Order.{Ascends, Behind, Spot, Token, in_bounds, in_each, in_element, in_expression, in_name, in_result, in_schedule, in_segment, in_side, in_type, in_variable, tokens, in_prefix}
+use Rattle.sim_agree.specs.Order.{InOrder, in_arms, in_block, in_declarations, in_statement, in_statements, in_virtual}
 use Rattle.sim_agree.specs.Plain.{Plain, PlainArms, PlainBlock, PlainDeclarations, PlainStatement, PlainStatements, PlainStart}
 use Rattle.sim_agree.proofs.StandardPrefixes.{behind_prefix, brought_texts}
 
@@ -142,6 +143,13 @@ unfolding Past
 result_past None i l a = (i, (let z : i ≤ i = omega arith in z), a)
 result_past (Some type) i l a = type_past type i l a
 
+name_past : (x : Identifier) → Past (in_name x)
+unfolding Past
+name_past x i l a = (x.token.0 + 1, (let lo : i ≤ x.token.0 = a.0 in omega arith), a.1)
+
+virtual_past : (v : Virtual) → Past (in_virtual v)
+virtual_past v = two_past (in_result v.result) (in_each in_name v.names) (result_past v.result) (each_past in_name name_past v.names)
+
 names_between : (xs : List Identifier) (i : ℕ) (l : List Spot) → Ascends i (in_each in_name xs l) → (j : ℕ) × Between i (name_tokens xs) j × Ascends j l
 names_between [] i l a = (i, (let z : i ≤ i = omega arith in z), a)
 names_between (x ∷ xs) i l a = let q = names_between xs (x.token.0 + 1) l a.1 in (q.0, (a.0, q.1), q.2)
@@ -265,14 +273,16 @@ mutual
       let three : r.0 ≤ e = r.2.0 in
       (t.0, between_lower (own_tokens ds) i e t.0 (omega arith) t.1, t.2, (tt, all_both (statement_texts x) (declarations_texts ds) r.3 t.3))
   declarations_past (With (DeclareClass prefix n h interface x e) ds) p i l a =
-      let u = prefix_past prefix i (in_name h.name (in_each in_name h.formals (in_statement x (Behind e ∷ in_declarations ds l)))) a in
-      let q = names_between h.formals (h.name.token.0 + 1) (in_statement x (Behind e ∷ in_declarations ds l)) u.2.1 in
-      let r = class_past prefix n h interface x e p.0.2 q.0 (Behind e ∷ in_declarations ds l) q.2 (λ j m b. statement_past x p.0.2 j m b) in
+      let u = prefix_past prefix i (in_name h.name (in_each in_name h.formals (in_each in_virtual interface.virtuals (in_statement x (Behind e ∷ in_declarations ds l))))) a in
+      let q = names_between h.formals (h.name.token.0 + 1) (in_each in_virtual interface.virtuals (in_statement x (Behind e ∷ in_declarations ds l))) u.2.1 in
+      let v = each_past in_virtual virtual_past interface.virtuals q.0 (in_statement x (Behind e ∷ in_declarations ds l)) q.2 in
+      let r = class_past prefix n h interface x e p.0.1 v.0 (Behind e ∷ in_declarations ds l) v.2 (λ j m b. statement_past x p.0.1 j m b) in
       let t = declarations_past ds p.1 e l r.2.1 in
       let first_ : i ≤ u.0 = u.1 in
       let zero_ : u.0 ≤ h.name.token.0 = u.2.0 in
       let one : h.name.token.0 + 1 ≤ q.0 = between_le (name_tokens h.formals) (h.name.token.0 + 1) q.0 q.1 in
-      let two : q.0 ≤ r.0 = r.1 in
+      let past : q.0 ≤ v.0 = v.1 in
+      let two : v.0 ≤ r.0 = r.1 in
       let three : r.0 ≤ e = r.2.0 in
       (t.0, between_lower (own_tokens ds) i e t.0 (omega arith) t.1, t.2, all_both (declaration_texts (DeclareClass prefix n h interface x e)) (declarations_texts ds) r.3 t.3)
 

@@ -9,10 +9,10 @@ use Rattle.sim_scope.specs.declared.types.BlockKind.TheVariants as kind
 use Rattle.sim_scope.specs.Access.{around, block_at, encloser, joined, is_connection, is_kind}
 use Rattle.sim_scope.specs.Along.{first_along, from_next}
 use Rattle.sim_scope.specs.Levels.{base, base_in, level_beyond, standard_in}
-use Rattle.sim_scope.specs.Scopes.{beyond, binding, declaration_from, declared_or_standard, detach_in, ends_search, found_in, has_detach, if_found, is_connected, is_detach, is_shown, outward, searched, shown, shown_of, shows_detach, standard_at, level_shows}
+use Rattle.sim_scope.specs.Scopes.{beyond, binding, declaration_from, declared_or_standard, detach_in, ends_search, entry_is, entry_of, found_in, has_detach, if_found, is_connected, is_detach, is_shown, is_virtual, outward, represented, searched, shown, shown_of, shows_detach, standard_at, level_shows}
 use Rattle.sim_scope.specs.Tables.{BlockOf, Tables}
 use Rattle.sim_agree.proofs.Completing.{bare_row}
-use Rattle.sim_agree.proofs.Unprefixed.{NoVirtuals, declared_is, or_none, stands_for_itself}
+use Rattle.sim_agree.proofs.Unprefixed.{declared_is, or_none}
 use Rattle.sim_agree.proofs.Accessible.{shows_same, standing}
 
 bare_around : (o : Option BlockOf) → around (bare_row o) ≡ around o
@@ -48,7 +48,7 @@ no_first None p e = refl
 no_first (Some d) p e = absurd (cc)
 
 -- the blocks are the same but for what is connected, and in the one tables nothing is connected; what is no connection has a level alike
-module _ (T C : Tables) (w : NoVirtuals T.declarations) (v : NoVirtuals C.declarations) (blocks : (k : ℕ) → bare_row (slice_get C.blocks k) ≡ bare_row (slice_get T.blocks k)) (size : length C.blocks ≡ length T.blocks) (places : C.places ≡ T.places) (own : (k : ℕ) → is_kind is_connection C k ≡ false → base T k ≡ base C k)
+module _ (T C : Tables) (blocks : (k : ℕ) → bare_row (slice_get C.blocks k) ≡ bare_row (slice_get T.blocks k)) (size : length C.blocks ≡ length T.blocks) (places : C.places ≡ T.places) (own : (k : ℕ) → is_kind is_connection C k ≡ false → base T k ≡ base C k)
     (none_yet : (k : ℕ) → is_kind is_connection C k ≡ true → base T k ≡ None) (next : (k c : ℕ) → base C k ≡ Some c → is_kind is_connection C c ≡ false) (stand : (d : ℕ) → standing (slice_get T.declarations d) ≡ standing (slice_get C.declarations d))
     (standards : (k : ℕ) → standard_in (slice_get T.blocks k) ≡ standard_in (slice_get C.blocks k)) where
   level_same : (from : Option ℕ) (k : ℕ) (name : List ℕ) → level_shows T from k name ≡ level_shows C from k name
@@ -129,10 +129,10 @@ module _ (T C : Tables) (w : NoVirtuals T.declarations) (v : NoVirtuals C.declar
     unfolding block_at
     same_places token = ap (λ z. joined (slice_get z token)) (sym places)
 
-    pub bound_alone : (token : ℕ) (name : List ℕ) (d : DeclNo) → binding C token name ≡ Some (denotation.Declared d) → ((u : ℕ) → found_in C token name ≡ Some u → is_kind is_connection C u ≡ false) → binding T token name ≡ Some (denotation.Declared d)
+    pub bound_alone : (token : ℕ) (name : List ℕ) (d : DeclNo) → entry_is is_virtual (entry_of C d) ≡ false → represented T d ≡ d → binding C token name ≡ Some (denotation.Declared d) → ((u : ℕ) → found_in C token name ≡ Some u → is_kind is_connection C u ≡ false) → binding T token name ≡ Some (denotation.Declared d)
     unfolding binding declaration_from found_in
-    bound_alone token name d e alone =
-        ap (λ o. declared_or_standard T o (standard_at T token name)) (go (block_at C token) refl (declared_is C v token name d e) alone) ∙ ap (λ z. Some (denotation.Declared z)) (stands_for_itself T w d)
+    bound_alone token name d plain itself e alone =
+        ap (λ o. declared_or_standard T o (standard_at T token name)) (go (block_at C token) refl (declared_is C token name d plain e) alone) ∙ ap (λ z. Some (denotation.Declared z)) itself
       where
         go : (o : Option ℕ) → block_at C token ≡ o → declaration_from C (Some token) o name ≡ Some d → ((u : ℕ) → level_beyond (first_along (encloser C) (length C.blocks) (if_found C token name)) o ≡ Some u → is_kind is_connection C u ≡ false)
             → declaration_from T (Some token) (block_at T token) name ≡ Some d

@@ -1,5 +1,5 @@
--- Tables without virtuals. What is looked for in them is found by the blocks, by the levels of their prefixes, and by the classes that are
--- connected.
+-- What is looked for in tables is found by the blocks, by the levels of their prefixes, and by the classes that are connected. A procedure that
+-- matches a virtual stands for that.
 use Rattle.std.proofs.Common.{◌≡◌, ◌⊎◌, inl, inr, ℕ, zero, suc, Bool, true, false, List, [], ◌∷◌, length, Option, Some, None, refl, sym, ap, ◌∙◌, subst, if◌then◌else◌}
 use Rattle.std.specs.Prelude.{◌&&◌, not, position, slice_get}
 use Rattle.std.specs.Option.{option_or}
@@ -11,6 +11,9 @@ use Rattle.sim_scope.specs.declared.scopes.Denotation.TheVariants as denotation
 use Rattle.sim_scope.specs.declared.standard.StandardName.{StandardName}
 use Rattle.sim_scope.specs.declared.types.BlockKind.{BlockKind}
 use Rattle.sim_scope.specs.declared.types.BlockKind.TheVariants as kind
+use Rattle.sim_scope.specs.declared.types.Entry.{Entry}
+use Rattle.sim_scope.specs.declared.types.Entry.TheVariants as entry
+use Rattle.sim_scope.specs.declared.types.SimType.{SimType}
 use Rattle.sim_scope.specs.declared.types.StandardPrefix.{StandardPrefix}
 use Rattle.sim_scope.specs.Access.{block_at, encloser, some_around}
 use Rattle.sim_scope.specs.Declare.{empty}
@@ -56,12 +59,23 @@ extras_in (Some row) = record { wrong = is_wrong row.kind row.prefix; standard =
 abbrev pub NoExtras : List BlockOf → Type 0
 NoExtras bs = (k : ℕ) → extras_in (slice_get bs k) ≡ no_extras
 
-abbrev pub NoVirtuals : List Declaration → Type 0
-NoVirtuals ds = (d : ℕ) (row : Declaration) → slice_get ds d ≡ Some row → is_virtual row.entry ≡ false
-
 pub record Unprefixed (s : Tables) : Type 0 where
   pub blocks : NoExtras s.blocks
-  pub virtuals : NoVirtuals s.declarations
+
+-- The match that a virtual knows: a procedure of its name that is declared in its block.
+pub record MatchOf (ds : List Declaration) (virtual : Declaration) (d : DeclNo) : Type 0 where
+  pub row : Declaration
+  pub at : slice_get ds d.0 ≡ Some row
+  pub name : row.name ≡ virtual.name
+  pub block : row.block ≡ virtual.block
+  pub procedure : is_procedure_entry row.entry ≡ true
+
+abbrev pub Known : List Declaration → Type 0
+Known ds = (v : ℕ) (row : Declaration) (result : Option SimType) (d : DeclNo) → slice_get ds v ≡ Some row → row.entry ≡ entry.Virtual result (Some d) → MatchOf ds row d
+
+-- what a block finds by a name has that name, and is declared in it
+abbrev pub NamesFound : Tables → Type 0
+NamesFound s = (k : ℕ) (name : List ℕ) (d : DeclNo) → declared_in (slice_get s.blocks k) name ≡ Some d → (row : Declaration) × (slice_get s.declarations d.0 ≡ Some row) × (row.name ≡ name) × (row.block ≡ k)
 
 -- what a standard prefix brings into a block
 abbrev pub brought_of : Option BlockOf → List DeclNo
@@ -97,10 +111,9 @@ HasStandard s k = (which : StandardPrefix) × (standard_in (slice_get s.blocks k
 abbrev pub Shown : Tables → (block : ℕ) → DeclNo → Type 0
 Shown s k d = StandsIn s k d × (Among d (numbers_in (slice_get s.blocks k)) ⊎ HasStandard s k)
 
--- What is looked for in tables without virtuals: what a block lists is declared in it, and so is what its standard prefix brings.
+-- What is looked for in tables: what a block lists is declared in it, and so is what its standard prefix brings.
 pub record Showing (s : Tables) : Type 0 where
   pub right : (k : ℕ) → (extras_in (slice_get s.blocks k)).wrong ≡ false
-  pub virtuals : NoVirtuals s.declarations
   pub lists : (k : ℕ) (d : DeclNo) → Among d (numbers_in (slice_get s.blocks k)) → StandsIn s k d
   pub brings : (k : ℕ) (d : DeclNo) → Among d (brought_of (slice_get s.blocks k)) → StandsIn s k d
 
@@ -112,7 +125,7 @@ none_there zero = refl
 none_there (suc k) = refl
 
 pub nothing_bare : Unprefixed empty.tables
-nothing_bare = record { blocks = λ k. ap extras_in (none_there k); virtuals = λ d row is. absurd (cc) }
+nothing_bare = record { blocks = λ k. ap extras_in (none_there k) }
 
 -- ---- what is looked for
 
@@ -128,7 +141,7 @@ numbered_among (m ∷ ns) (Some zero) d e = subst (λ z. Among d (z ∷ ns)) (le
 numbered_among (m ∷ ns) (Some (suc n)) d e = later (numbered_among ns (Some n) d e)
 
 module _ (s : Tables) (w : Showing s) where
-  lookup_stands : (k : ℕ) (name : List ℕ) (d : DeclNo) → lookup s k name ≡ Some d → Shown s k d
+  pub lookup_stands : (k : ℕ) (name : List ℕ) (d : DeclNo) → lookup s k name ≡ Some d → Shown s k d
   unfolding lookup
   lookup_stands k name d e = go (slice_get s.blocks k) refl e
     where
@@ -201,47 +214,91 @@ module _ (s : Tables) (w : Showing s) where
   unfolding outward ends_search
   goes_outward k name other = ap (λ z. if z && shows_detach s k then None else encloser s k) other
 
--- no procedure is a match
-module _ (s : Tables) (virtuals : NoVirtuals s.declarations) where
-  none_virtual : (o : Option DeclNo) → virtual_among s o ≡ None
-  unfolding entry_of
-  none_virtual None = refl
-  none_virtual (Some d) = ap (λ z. if z then Some d else None) (go (slice_get s.declarations d.0) refl)
-    where
-      go : (o : Option Declaration) → slice_get s.declarations d.0 ≡ o → entry_is is_virtual (entry_in o) ≡ false
-      go None e = refl
-      go (Some row) e = virtuals d.0 row e
+-- ---- what stands for what
 
-  no_virtual : (n k : ℕ) (name : List ℕ) → virtual_of s n k name ≡ None
+module _ (s : Tables) where
+  among_is : (o : Option DeclNo) (v : DeclNo) → virtual_among s o ≡ Some v → (o ≡ Some v) × (entry_is is_virtual (entry_of s v) ≡ true)
+  among_is None v e = absurd (cc)
+  among_is (Some d) v e = go (entry_is is_virtual (entry_of s d)) refl e
+    where
+      go : (c : Bool) → entry_is is_virtual (entry_of s d) ≡ c → (if c then Some d else None) ≡ Some v → (Some d ≡ Some v) × (entry_is is_virtual (entry_of s v) ≡ true)
+      go true is f = let same : d ≡ v = cc in (f, ap (λ z. entry_is is_virtual (entry_of s z)) (sym same) ∙ is)
+      go false is f = absurd (cc)
+
+  -- the virtual that is found in some of the levels of a block: it is declared in one of them
+  pub data FoundIn (name : List ℕ) (v : DeclNo) : (steps block : ℕ) → Type 0 where
+    here : {n b : ℕ} → lookup s b name ≡ Some v → FoundIn name v (suc n) b
+    behind : {n b c : ℕ} → virtual_among s (lookup s b name) ≡ None → base s b ≡ Some c → FoundIn name v n c → FoundIn name v (suc n) b
+
+  pub virtual_found : (n b : ℕ) (name : List ℕ) (v : DeclNo) → virtual_of s n b name ≡ Some v → FoundIn name v n b × (entry_is is_virtual (entry_of s v) ≡ true)
   unfolding virtual_of
-  no_virtual zero k name = refl
-  no_virtual (suc n) k name = ap (λ z. option_or z (beyond (λ b. virtual_of s n b name) (base s k))) (none_virtual (lookup s k name)) ∙ further (base s k) (λ b. no_virtual n b name)
+  virtual_found zero b name v e = absurd (cc)
+  virtual_found (suc n) b name v e = go (virtual_among s (lookup s b name)) refl (base s b) refl e (λ c f. virtual_found n c name v f)
     where
-      further : (o : Option ℕ) → ((b : ℕ) → virtual_of s n b name ≡ None) → beyond (λ b. virtual_of s n b name) o ≡ None
-      further None h = refl
-      further (Some b) h = h b
+      go : (o : Option DeclNo) → virtual_among s (lookup s b name) ≡ o → (p : Option ℕ) → base s b ≡ p → option_or o (beyond (λ c. virtual_of s n c name) p) ≡ Some v
+          → ((c : ℕ) → virtual_of s n c name ≡ Some v → FoundIn name v n c × (entry_is is_virtual (entry_of s v) ≡ true)) → FoundIn name v (suc n) b × (entry_is is_virtual (entry_of s v) ≡ true)
+      go (Some d) at p out f rest = let q = among_is (lookup s b name) v (at ∙ f) in (here q.0, q.1)
+      go None at None out f rest = absurd (cc)
+      go None at (Some c) out f rest = let q = rest c f in (behind at out q.0, q.1)
 
-  pub stands_for_itself : (d : DeclNo) → represented s d ≡ d
+  -- A declaration that is found stands for itself, or it is a procedure and stands for a virtual of its name that is found from its block outward.
+  pub data Stands (d : DeclNo) : DeclNo → Type 0 where
+    itself : Stands d d
+    matches : {v : DeclNo} (row : Declaration) → slice_get s.declarations d.0 ≡ Some row → is_procedure_entry row.entry ≡ true → entry_is is_virtual (entry_of s v) ≡ true → FoundIn row.name v (length s.blocks) row.block → Stands d v
+
+  pub stands : (d v : DeclNo) → represented s d ≡ v → Stands d v
   unfolding represented
-  stands_for_itself d = go (slice_get s.declarations d.0)
+  stands d v e = go (slice_get s.declarations d.0) refl e
     where
-      either : (c : Bool) → (if c then d else d) ≡ d
-      either true = refl
-      either false = refl
+      itself_then : d ≡ v → Stands d v
+      itself_then same = subst (Stands d) same itself
 
-      go : (o : Option Declaration) → represented_row s d o ≡ d
-      go None = refl
-      go (Some row) = ap (λ z. if is_procedure_entry row.entry then or_itself z d else d) (no_virtual (length s.blocks) row.block row.name) ∙ either (is_procedure_entry row.entry)
+      of_virtual : (row : Declaration) → slice_get s.declarations d.0 ≡ Some row → is_procedure_entry row.entry ≡ true → (o : Option DeclNo) → virtual_of s (length s.blocks) row.block row.name ≡ o → or_itself o d ≡ v → Stands d v
+      of_virtual row at proc None is f = itself_then f
+      of_virtual row at proc (Some w) is f = let q = virtual_found (length s.blocks) row.block row.name v (is ∙ ap Some f) in matches row at proc q.1 q.0
+
+      of_entry : (row : Declaration) → slice_get s.declarations d.0 ≡ Some row → (c : Bool) → is_procedure_entry row.entry ≡ c → (if c then or_itself (virtual_of s (length s.blocks) row.block row.name) d else d) ≡ v → Stands d v
+      of_entry row at true proc f = of_virtual row at proc (virtual_of s (length s.blocks) row.block row.name) refl f
+      of_entry row at false proc f = itself_then f
+
+      go : (o : Option Declaration) → slice_get s.declarations d.0 ≡ o → represented_row s d o ≡ v → Stands d v
+      go None at f = itself_then f
+      go (Some row) at f = of_entry row at (is_procedure_entry row.entry) refl f
+
+  plain_stands : {d v : DeclNo} → entry_is is_virtual (entry_of s v) ≡ false → Stands d v → d ≡ v
+  plain_stands plain itself = refl
+  plain_stands plain (matches row at proc is found) = absurd (let z : true ≡ false = sym is ∙ plain in cc)
+
+  -- what is no virtual stands for itself alone
+  pub stands_alone : (d v : DeclNo) → entry_is is_virtual (entry_of s v) ≡ false → represented s d ≡ v → d ≡ v
+  stands_alone d v plain e = plain_stands plain (stands d v e)
+
+  -- what is no procedure stands for itself
+  pub no_procedure_stands : (d : DeclNo) (e : Entry) → entry_of s d ≡ Some e → is_procedure_entry e ≡ false → represented s d ≡ d
+  unfolding represented entry_of
+  no_procedure_stands d e at other = go (slice_get s.declarations d.0) refl
+    where
+      same_entry : (x y : Entry) → Some x ≡ Some y → x ≡ y
+      same_entry x y f = cc
+
+      go : (o : Option Declaration) → slice_get s.declarations d.0 ≡ o → represented_row s d o ≡ d
+      go None is = refl
+      go (Some row) is =
+          let plain : is_procedure_entry row.entry ≡ false = ap is_procedure_entry (same_entry row.entry e (sym (ap entry_in is) ∙ at)) ∙ other in
+          ap (λ c. if c then or_itself (virtual_of s (length s.blocks) row.block row.name) d else d) plain
 
   -- what a name denotes
-  pub declared_is : (token : ℕ) (name : List ℕ) (d : DeclNo) → binding s token name ≡ Some (denotation.Declared d) → declaration_from s (Some token) (block_at s token) name ≡ Some d
+  pub denoted_by : (token : ℕ) (name : List ℕ) (d : DeclNo) → binding s token name ≡ Some (denotation.Declared d) → (f : DeclNo) × (declaration_from s (Some token) (block_at s token) name ≡ Some f) × (represented s f ≡ d)
   unfolding binding
-  declared_is token name d is = go (declaration_from s (Some token) (block_at s token) name) (standard_at s token name) is
+  denoted_by token name d is = go (declaration_from s (Some token) (block_at s token) name) (standard_at s token name) refl is
     where
-      go : (o : Option DeclNo) (k : Option StandardName) → declared_or_standard s o k ≡ Some (denotation.Declared d) → o ≡ Some d
-      go (Some f) k e = ap Some (sym (stands_for_itself f) ∙ (let h : represented s f ≡ d = cc in h))
-      go None (Some k) e = absurd (cc)
-      go None None e = absurd (cc)
+      go : (o : Option DeclNo) (k : Option StandardName) → declaration_from s (Some token) (block_at s token) name ≡ o → declared_or_standard s o k ≡ Some (denotation.Declared d) → (f : DeclNo) × (declaration_from s (Some token) (block_at s token) name ≡ Some f) × (represented s f ≡ d)
+      go (Some f) k at e = (f, at, (let h : represented s f ≡ d = cc in h))
+      go None (Some k) at e = absurd (cc)
+      go None None at e = absurd (cc)
+
+  pub declared_is : (token : ℕ) (name : List ℕ) (d : DeclNo) → entry_is is_virtual (entry_of s d) ≡ false → binding s token name ≡ Some (denotation.Declared d) → declaration_from s (Some token) (block_at s token) name ≡ Some d
+  declared_is token name d plain is = let q = denoted_by token name d is in q.1 ∙ ap Some (stands_alone q.0 d plain q.2)
 
 -- a standard name that is denoted is one that is written alone
 pub standard_is : (s : Tables) (token : ℕ) (name : List ℕ) (k : StandardName) → binding s token name ≡ Some (denotation.Standard k) → standard_name name ≡ Some k

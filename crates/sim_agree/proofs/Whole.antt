@@ -1,6 +1,6 @@
 -- The tables of an allowed plain program agree with its texts.
 use Rattle.std.proofs.Common.{ap}
-use Rattle.sim_tree.specs.Order.{InOrder}
+use Rattle.sim_agree.specs.Order.{InOrder}
 use Rattle.sim_scope.specs.Source.{Source}
 use Rattle.sim_meaning.specs.Levels.{has_levels}
 use Rattle.sim_meaning.specs.Texts.{BlockText, ClassText, PrefixedText, StandardText}
@@ -13,6 +13,7 @@ use Rattle.sim_agree.proofs.Chains as c
 use Rattle.sim_agree.proofs.Findings as f
 use Rattle.sim_agree.proofs.Headings as h
 use Rattle.sim_agree.proofs.Insides as i
+use Rattle.sim_agree.proofs.Matches as m
 use Rattle.sim_agree.proofs.SetLevels as l
 use Rattle.sim_agree.proofs.StandardRows as r
 use Rattle.sim_agree.proofs.Tables as t
@@ -43,6 +44,7 @@ tables_agree s of plain order =
       tokens = n.token_declared s of plain order;
       different = h.different s of plain order;
       parameters = h.parameters_formal s of plain order;
+      virtuals = m.virtuals s of plain order;
       procedures = h.procedures s of plain order;
       classes = h.classes s of plain order;
       class_levels = t.class_levels s of plain order;

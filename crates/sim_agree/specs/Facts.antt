@@ -14,11 +14,12 @@ use Rattle.sim_scope.specs.declared.types.SimType.TheVariants as t
 use Rattle.sim_scope.specs.declared.types.StandardClass.{StandardClass}
 use Rattle.sim_scope.specs.declared.types.StandardPrefix.{StandardPrefix}
 use Rattle.sim_scope.specs.Building.{name_of}
-use Rattle.sim_scope.specs.Calls.{attribute_in, is_inside}
+use Rattle.sim_scope.specs.Calls.{attribute_in, is_inside, match_seen}
 use Rattle.sim_scope.specs.Access.{block_at, has_text_of_levels, is_connection as is_connection_kind, is_kind}
 use Rattle.sim_scope.specs.Levels.{base, has_classes, has_level, is_simulation_block, owner_of_level}
 use Rattle.sim_scope.specs.Scopes.{binding, class_formals, entry_of, found_in}
 use Rattle.sim_scope.specs.Source.{Source, block_of}
+use Rattle.virtual_match.specs.Matching.{results_fit}
 use Rattle.sim_values.specs.declared.standard.Standard.{Standard}
 use Rattle.sim_values.specs.Plain.{Plain, kind_of}
 use Rattle.sim_code.specs.Sets.{is_attribute_name}
@@ -95,6 +96,7 @@ ProperEntry s (entry.Constant type) = PlainType type
 ProperEntry s (entry.Array element dimensions) = ProperType s element
 ProperEntry s (entry.Procedure result k) = ProperResult s result
 ProperEntry s (entry.Class k) = Unit {0}
+ProperEntry s (entry.Virtual result own) = ProperResult s result
 ProperEntry s (entry.Formal f) = ProperFormal s f.mode f.kind f.ty
 ProperEntry s (entry.Attribute name parameter result) = IsAttribute name × ProperResult s parameter × ProperResult s result
 ProperEntry s _ = ⊥
@@ -116,6 +118,13 @@ pub record Found (s : Source) (token block : ℕ) (name : List ℕ) (d : DeclNo)
   pub around : Around s.tables block found
   pub through : FoundThrough s (is_connection (text s found)) found (block_of s d)
 
+-- what matches a virtual is a procedure whose result fits
+pub record MatchFits (s : Source) (result : Option SimType) (match : DeclNo) : Type 0 where
+  pub given : Option SimType
+  pub block : ℕ
+  pub declares : entry_of s.tables match ≡ Some (entry.Procedure given block)
+  pub fits : results_fit s.tables result given ≡ true
+
 pub record Tabled (s : Source) : Type 0 where
   -- there is a block
   pub some_block : 0 < length s.tables.blocks
@@ -131,7 +140,11 @@ pub record Tabled (s : Source) : Type 0 where
   pub constants : (d : DeclNo) (type : SimType) → entry_of s.tables d ≡ Some (entry.Constant type) → ConstantIs s d type
   -- an attribute of a standard class is declared in a class, one of `simulation` itself in a class or a block that has levels
   pub attribute_owners : (d : DeclNo) (name : Standard) (parameter result : Option SimType) → entry_of s.tables d ≡ Some (entry.Attribute name parameter result) → is_attribute_name name ≡ true → is_class (text s (block_of s d)) ≡ true
-  -- it is found in a block around
+  -- a virtual is declared in a class
+  pub virtuals : (d : DeclNo) (result : Option SimType) (own : Option DeclNo) → entry_of s.tables d ≡ Some (entry.Virtual result own) → is_class (text s (block_of s d)) ≡ true
+  -- the match to which the search for the identifier of a virtual comes
+  pub matches : (x : Identifier) (v match : DeclNo) (result : Option SimType) (own : Option DeclNo) → binding s.tables x.token.0 x.name ≡ Some (denotation.Declared v) → entry_of s.tables v ≡ Some (entry.Virtual result own) → match_seen s.tables x ≡ Some match → MatchFits s result match
+  -- what an identifier denotes is found in a block around
   pub around : (token k : ℕ) (name : List ℕ) (d : DeclNo) → block_at s.tables token ≡ Some k → binding s.tables token name ≡ Some (denotation.Declared d) → Found s token k name d
   -- a token inside the text of a block
   pub inside : (token k j : ℕ) → block_at s.tables token ≡ Some k → is_inside s.tables token j ≡ true → Around s.tables k j

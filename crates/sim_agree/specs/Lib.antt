@@ -5,3 +5,4 @@ pub mod Inners
 pub mod TablesOf
 pub mod TablesAgree
 pub mod ConstantAt
+pub mod Order

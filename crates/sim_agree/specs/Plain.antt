@@ -1,12 +1,12 @@
--- Programs that have no form that is not built: no class has virtual procedures, no parameter is called by name or is a procedure, and no object
--- is generated of a class that is spelt `process`.
+-- Programs that have no form that is not built: no parameter is called by name or is a procedure, and no object is generated of a class that is
+-- spelt `process`.
 use Rattle.std.specs.Prelude.{◌≡◌, false, List, [], ◌∷◌, Option, Some, None}
 use Rattle.sim_tree.specs.declared.expr.Identifier.{Identifier}
 use Rattle.sim_tree.specs.declared.stmt.Mode.{Mode as Word}
 use Rattle.sim_tree.specs.declared.stmt.Mode.TheVariants as word
 use Rattle.sim_static.specs.UnbuiltNames.{is_unbuilt_name}
 use Rattle.sim_tree.specs.Syntax as s
-use Rattle.sim_tree.specs.Syntax.{Expression, Expressions, Statement, Statements, Arms, Block, Declarations, Declaration, RightSide, Element, Schedule, BoundPair, Arrayed, Heading, Interface, Moded, Specification, Specified, Prefix, Program}
+use Rattle.sim_tree.specs.Syntax.{Expression, Expressions, Statement, Statements, Arms, Block, Declarations, Declaration, RightSide, Element, Schedule, BoundPair, Arrayed, Heading, Moded, Specification, Specified, Prefix, Program}
 
 -- a class of which an object is generated
 abbrev pub PlainClass : Identifier → Type 0
@@ -77,10 +77,6 @@ PlainSpecification x = PlainSpecified x.kind
 abbrev pub PlainHeading : Heading → Type 0
 PlainHeading h = Each PlainMode h.modes × Each PlainSpecification h.specifications
 
--- without virtual parts
-abbrev pub PlainInterface : Interface → Type 0
-PlainInterface x = x.virtuals ≡ []
-
 abbrev mutual
   pub PlainStatement : Statement → Type 0
   PlainStatement (s.Empty i) = Unit {0}
@@ -115,7 +111,7 @@ abbrev mutual
   PlainDeclaration (s.Variables t vs) = Unit {0}
   PlainDeclaration (s.Arrays t i segments) = Each PlainSegment segments
   PlainDeclaration (s.DeclareProcedure result i heading x end) = PlainHeading heading × PlainStatement x
-  PlainDeclaration (s.DeclareClass prefix i heading interface x end) = PlainHeading heading × PlainInterface interface × PlainStatement x
+  PlainDeclaration (s.DeclareClass prefix i heading interface x end) = PlainHeading heading × PlainStatement x
 
 -- a prefix of the program itself
 abbrev pub PlainStart : Option Prefix → Type 0

@@ -12,7 +12,7 @@ use Rattle.sim_scope.specs.declared.types.StandardClass.TheVariants as standard
 use Rattle.sim_scope.specs.Calls.{attribute_in, is_inside}
 use Rattle.sim_scope.specs.Access.{block_at, encloser, has_text_of_levels, is_connection as is_connection_kind, is_kind}
 use Rattle.sim_scope.specs.Levels.{base, has_level, is_simulation_block, is_standard_class, owner_of_level}
-use Rattle.sim_scope.specs.Scopes.{binding, class_formals, entry_of, formals_in}
+use Rattle.sim_scope.specs.Scopes.{binding, class_formals, entry_of, formals_in, is_procedure_entry}
 use Rattle.sim_scope.specs.Source.{Source, block_of, level_of}
 use Rattle.sim_scope.specs.Tables.{BlockOf}
 use Rattle.prefix_bind.specs.Prefixes.{is_prefixed_block}
@@ -94,15 +94,17 @@ pub record TablesAgree (s : Source) : Type 0 where
   pub nothing_in_connections : (k : ℕ) → is_connection (text s k) ≡ true → (d : DeclNo) → Among d (numbers_of s k) → ⊥
   -- what is around a text that lasts lasts too
   pub outward : (t u : ℕ) → encloser s.tables t ≡ Some u → is_class_free s t ≡ false → is_class_free s u ≡ false
-  -- A block lists what is declared in it, each once, at tokens of their own. The classes of SIMSET are not listed, and they and their attributes
-  -- have no tokens of their own.
+  -- A block lists what is declared in it, each once, at tokens of their own. A procedure that matches a virtual of its own class is not listed;
+  -- nor are the classes of SIMSET, and they and their attributes have no tokens of their own.
   pub listed : (d : DeclNo) (row : Declaration) → slice_get s.tables.declarations d.0 ≡ Some row → row.listed ≡ true → Among d (numbers_of s row.block)
-  pub unlisted : (d : DeclNo) (row : Declaration) → slice_get s.tables.declarations d.0 ≡ Some row → row.listed ≡ false → ((k : ℕ) × (row.entry ≡ entry.Class k)) ⊎ (is_attribute row.entry ≡ true)
+  pub unlisted : (d : DeclNo) (row : Declaration) → slice_get s.tables.declarations d.0 ≡ Some row → row.listed ≡ false → ((k : ℕ) × (row.entry ≡ entry.Class k)) ⊎ ((is_attribute row.entry ≡ true) ⊎ (is_procedure_entry row.entry ≡ true))
   pub owned : (k : ℕ) (d : DeclNo) → Among d (numbers_of s k) → block_of s d ≡ k
   pub tokens : (d : DeclNo) (row : Declaration) → slice_get s.tables.declarations d.0 ≡ Some row → IsOwn row → declared_at s row.token.0 ≡ Some d
   pub different : (k : ℕ) → Distinct (numbers_of s k)
   -- the first of these are its formal parameters, as many as it has
   pub parameters : (k n : ℕ) (d : DeclNo) → slice_get (formals_in (slice_get s.tables.blocks k)) n ≡ Some d → (f : Formal) × (entry_of s.tables d ≡ Some (entry.Formal f))
+  -- a virtual is declared in a class
+  pub virtuals : (d : DeclNo) (result : Option SimType) (own : Option DeclNo) → entry_of s.tables d ≡ Some (entry.Virtual result own) → is_class (text s (block_of s d)) ≡ true
   -- the text of a procedure and of a class stands in that of its declaration, and belongs to it
   pub procedures : (d : DeclNo) (result : Option SimType) (k : ℕ) → entry_of s.tables d ≡ Some (entry.Procedure result k) → ProcedureThere s d k
   pub classes : (d : DeclNo) (k : ℕ) → entry_of s.tables d ≡ Some (entry.Class k) → ClassThere s d k × (owner_of_level s.tables (Some k) ≡ Some d)

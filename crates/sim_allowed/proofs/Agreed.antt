@@ -22,7 +22,7 @@ use Rattle.sim_scope.specs.Access.{around as around_in, block_at, encloser, is_c
 use Rattle.sim_scope.specs.Declare.{declared_by}
 use Rattle.sim_scope.specs.Found.{lesser_of, precedes}
 use Rattle.sim_scope.specs.Levels.{is_standard_class}
-use Rattle.sim_scope.specs.Scopes.{binding, class_formals, entry_of, found_in}
+use Rattle.sim_scope.specs.Scopes.{binding, class_formals, entry_of, found_in, is_procedure_entry}
 use Rattle.sim_scope.specs.Source.{Source, block_around, block_of}
 use Rattle.sim_scope.specs.Tables.{BlockOf}
 use Rattle.sim_scope.specs.Walk.{program_events}
@@ -38,8 +38,9 @@ use Rattle.sim_meaning.specs.Closing.{class_parameters}
 use Rattle.sim_meaning.specs.Entries.{formals_of, is_held, numbers_of}
 use Rattle.sim_meaning.specs.Levels.{is_class, qualification}
 use Rattle.sim_meaning.specs.Texts.{BlockText, ClassText, ConnectionText, ProcedureText, StandardText, Text, is_class_free, text, PrefixedText}
+use Rattle.sim_meaning.specs.Virtuals.{match_in_text}
 use Rattle.sim_sound.specs.Held.{Among, ArrayOf, Holds, entry_holds, first, held_by, later, reference_to}
-use Rattle.sim_sound.specs.Typed.{ConnectionTyped, FormalsAre, IsAttribute, NoFormal, NoFormals, SetClasses, SetProcedureThere, owner_place}
+use Rattle.sim_sound.specs.Typed.{ConnectionTyped, FormalsAre, IsAttribute, NoFormal, NoFormals, SetClasses, SetProcedureThere, owner_place, MatchThere}
 use Rattle.sim_agree.specs.Facts.{Tabled}
 use Rattle.sim_agree.specs.Plain.{Plain}
 use Rattle.sim_agree.specs.TablesAgree.{TablesAgree, is_attribute}
@@ -47,22 +48,28 @@ use Rattle.sim_agree.specs.TablesOf.{TablesOf}
 use Rattle.sim_agree.proofs.Connected.{connections_connect}
 use Rattle.sim_agree.proofs.Enclosed.{connection_enclosed}
 use Rattle.sim_agree.proofs.Fitted.{AllConnect}
+use Rattle.sim_agree.proofs.Matches.{match_found, seen_fits}
 use Rattle.sim_agree.proofs.Placing.{block_placed, body_placed, class_placed, prefixed_placed}
 use Rattle.sim_agree.proofs.Proper.{proper}
 use Rattle.sim_agree.proofs.Results.{result_written}
 use Rattle.sim_agree.proofs.Simulating.{attribute_simulates, found_named, found_simulates}
+use Rattle.sim_agree.proofs.Tables.{row_entry}
 use Rattle.sim_agree.proofs.Whole.{tables_agree}
+use Rattle.sim_allowed.specs.MatchParameters.{has_match_with_parameters}
 use Rattle.sim_allowed.proofs.Allowed.{AllowedIs}
 use Rattle.sim_allowed.proofs.Bounds.{ArraysNamed}
 use Rattle.sim_allowed.proofs.Constants.{constant_is, constant_plain}
+use Rattle.sim_allowed.proofs.Matching.{no_parameters, result_given}
 use Rattle.sim_allowed.proofs.Outside.{connected_fine, outside}
 use Rattle.sim_allowed.proofs.Whole.{Agreed}
 
--- What of the texts is known beside: the names of one array declaration are of one type, and a procedure that is not class-free keeps no instances.
+-- What of the texts is known beside: the names of one array declaration are of one type, no match of a virtual has parameters, and a procedure that is
+-- not class-free keeps no instances.
 pub record Written (s : Source) : Type 0 where
   pub arrays : (k i : ℕ) (ds : Declarations) (ss : Statements) → text s k ≡ Some (BlockText i ds ss) → ArraysNamed s ds
   pub class_arrays : (k : ℕ) (prefix : Option Identifier) (h : Heading) (ds : Declarations) (ss : Statements) → text s k ≡ Some (ClassText prefix h ds ss) → ArraysNamed s ds
   pub prefixed_arrays : (k : ℕ) (class : Identifier) (es : Expressions) (ds : Declarations) (ss : Statements) → text s k ≡ Some (PrefixedText class es ds ss) → ArraysNamed s ds
+  pub alone : has_match_with_parameters s ≡ false
   pub keeps_none : (k : ℕ) (result : Option TypeName) (h : Heading) (a : Statement) → text s k ≡ Some (ProcedureText result h a) → is_class_free s k ≡ false → list_any is_held (formals_of s k) ≡ false
 
 -- nothing in a list without formal parameters is one
@@ -130,7 +137,7 @@ no_standard block_kind.Class e = refl
 no_standard block_kind.Prefixed e = refl
 no_standard (block_kind.StandardClass which) e = absurd (false≢true e)
 
--- neither a class nor a standard attribute has a cell, and all else is listed
+-- neither a class, a standard attribute nor a procedure has a cell, and all else is listed
 class_no_cell : (s : Source) (e : Entry) (k : ℕ) (h : Holds) → e ≡ entry.Class k → entry_holds s true (Some e) ≡ Some h → ⊥
 class_no_cell s e k h is holds = let none : None ≡ Some h = sym (ap (λ z. entry_holds s true (Some z)) is) ∙ holds in cc
 
@@ -144,6 +151,17 @@ attribute_no_cell s (entry.Class k) h is holds = false≢true is
 attribute_no_cell s (entry.Virtual result own) h is holds = false≢true is
 attribute_no_cell s (entry.Formal f) h is holds = false≢true is
 attribute_no_cell s (entry.Unspecified w) h is holds = false≢true is
+
+procedure_no_cell : (s : Source) (e : Entry) (h : Holds) → is_procedure_entry e ≡ true → entry_holds s true (Some e) ≡ Some h → ⊥
+procedure_no_cell s (entry.Procedure result k) h is holds = cc
+procedure_no_cell s (entry.Variable type) h is holds = false≢true is
+procedure_no_cell s (entry.Constant type) h is holds = false≢true is
+procedure_no_cell s (entry.Array element n) h is holds = false≢true is
+procedure_no_cell s (entry.Class k) h is holds = false≢true is
+procedure_no_cell s (entry.Virtual result own) h is holds = false≢true is
+procedure_no_cell s (entry.Formal f) h is holds = false≢true is
+procedure_no_cell s (entry.Unspecified w) h is holds = false≢true is
+procedure_no_cell s (entry.Attribute name w result) h is holds = false≢true is
 
 attribute_entry_is : (e : Entry) → is_attribute e ≡ true → IsAttribute (Some e)
 attribute_entry_is (entry.Attribute name w result) is = tt
@@ -163,9 +181,10 @@ cells_listed s g d row h at holds = go row.listed refl
     go true is = g.listed d row at is
     go false is = absurd (unlisted (g.unlisted d row at is))
       where
-        unlisted : ((k : ℕ) × (row.entry ≡ entry.Class k)) ⊎ (is_attribute row.entry ≡ true) → ⊥
+        unlisted : ((k : ℕ) × (row.entry ≡ entry.Class k)) ⊎ ((is_attribute row.entry ≡ true) ⊎ (is_procedure_entry row.entry ≡ true)) → ⊥
         unlisted (inl q) = class_no_cell s row.entry q.0 h q.1 holds
-        unlisted (inr q) = attribute_no_cell s row.entry h q holds
+        unlisted (inr (inl q)) = attribute_no_cell s row.entry h q holds
+        unlisted (inr (inr q)) = procedure_no_cell s row.entry h q holds
 
 -- the standard class in which an attribute is declared
 attribute_class : (s : Source) (d : DeclNo) (name : Standard) (parameter result : Option SimType) → SetProcedureThere s d name parameter result → is_class (text s (block_of s d)) ≡ true
@@ -233,6 +252,8 @@ module _ (s : Source) (a : AllowedIs s) (plain : Plain s.program) where
     owners = g.owners;
     constants = constant_is s tables_of plain a.filled a.order a.says;
     attribute_owners = λ d name parameter result e is. attribute_class s d name parameter result (g.set_procedures d name parameter result e is);
+    virtuals = g.virtuals;
+    matches = λ x v match result own binds is seen. seen_fits s tables_of plain a.order a.second v result own is x match binds seen;
     around = g.around;
     inside = g.inside;
     outside = not_found_outside;
@@ -272,6 +293,25 @@ module _ (s : Source) (a : AllowedIs s) (plain : Plain s.program) where
         begins (Some row) at = begins_at k row at (ap is_connection is)
         begins None at = absurd (let f : None ≡ Some out.0 = sym (ap around_in at) ∙ out.1 in cc)
 
+    -- what matches a virtual
+    match_there : (v : DeclNo) (result : Option SimType) (own : Option DeclNo) (k match : ℕ) → entry_of s.tables v ≡ Some (entry.Virtual result own) → match_in_text s v.0 (Some k) ≡ Some (Some match) → MatchThere s result k match
+    match_there v result own k match is found =
+        let m = match_found s tables_of plain a.order a.second v result own is k match found in
+        let declares : entry_of s.tables m.declaration ≡ Some (entry.Procedure m.given match) = row_entry s tables_of plain a.order m.declaration m.row m.at ∙ ap Some m.entry in
+        let p = agrees.procedures m.declaration m.given match declares in
+        record {
+          given = p.given;
+          heading = p.heading;
+          body = p.body;
+          is = p.is;
+          declaration = m.declaration;
+          own = m.given;
+          declares = declares;
+          level = m.level;
+          alone = no_parameters s written.alone m.declaration.0 m.row m.given match v m.at m.entry m.matches;
+          gives = result_given s result m.given (tabled.proper v (entry.Virtual result own) is) (tabled.proper m.declaration (entry.Procedure m.given match) declares) m.fits;
+        }
+
     pub agreed_where : Agreed s
     agreed_where = let g = agrees in record {
       tabled = tabled;
@@ -280,6 +320,7 @@ module _ (s : Source) (a : AllowedIs s) (plain : Plain s.program) where
       levels = g.levels;
       listed = cells_listed s g;
       procedures = g.procedures;
+      matches = match_there;
       classes = λ d k e. (g.classes d k e).0;
       set_classes = g.set_classes;
       set_procedures = g.set_procedures;

@@ -14,17 +14,18 @@ use Rattle.sim_scope.specs.Tables.{Tables}
 use Rattle.sim_scope.specs.Walk.{program_events}
 use Rattle.sim_tree.specs.declared.program.Program.{Program as Tree}
 use Rattle.sim_tree.specs.Filled.{Filled}
-use Rattle.sim_tree.specs.Order.{AllBelow, Ascends, Behind, InOrder, Spot, Token}
+use Rattle.sim_tree.specs.Order.{AllBelow, Ascends, Behind, Spot, Token}
 use Rattle.sim_tree.specs.Syntax.{Program}
 use Rattle.sim_tree.specs.SyntaxOfProgram.{program_syntax}
 use Rattle.sim_tree.specs.Tree.{IsTree, line}
 use Rattle.sim_tree.proofs.Filled.{filled as program_filled}
-use Rattle.sim_tree.proofs.Order.{in_order}
 use Rattle.sim_static.specs.Check.{Allowed, answer, check_of, completed, first_answer, first_least, judged, last_answer, second_answer, second_least}
 use Rattle.sim_sound.specs.Typed.{Typed}
+use Rattle.sim_agree.specs.Order.{InOrder}
 use Rattle.sim_agree.specs.Plain.{Plain}
 use Rattle.sim_allowed.proofs.Counts.{About, told}
 use Rattle.sim_allowed.proofs.LastRound.{round_says}
+use Rattle.sim_allowed.proofs.Ordered.{in_order}
 use Rattle.sim_allowed.proofs.ToldProgram.{Fills, among}
 use Rattle.sim_allowed.proofs.ToldStatements.{program_fills, told_once}
 use Rattle.sim_allowed.proofs.Said.{AllSay}

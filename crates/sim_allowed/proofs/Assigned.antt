@@ -12,6 +12,7 @@ use Rattle.sim_scope.specs.declared.outcome.Outcome.{Outcome}
 use Rattle.sim_scope.specs.declared.outcome.Outcome.TheVariants as is
 use Rattle.sim_scope.specs.declared.outcome.Side.{Side}
 use Rattle.sim_scope.specs.declared.standard.StandardName.{StandardName}
+use Rattle.sim_scope.specs.declared.types.Entry.{Entry}
 use Rattle.sim_scope.specs.declared.types.Entry.TheVariants as entry
 use Rattle.sim_scope.specs.declared.types.SimType.{SimType}
 use Rattle.sim_scope.specs.declared.types.SimType.TheVariants as t
@@ -24,29 +25,33 @@ use Rattle.sim_scope.specs.Found.{fault}
 use Rattle.sim_scope.specs.Judged.{Judged, bars, gives, next, telling}
 use Rattle.sim_scope.specs.Operators.{misfit_of}
 use Rattle.sim_scope.specs.Outcomes.{called, is_stream, side_of}
-use Rattle.sim_scope.specs.Scopes.{entry_of}
+use Rattle.sim_scope.specs.Scopes.{entry_of, entry_is, is_virtual}
 use Rattle.sim_scope.specs.Source.{Source, denoted, type_at}
 use Rattle.sim_scope.specs.Standard.{signature}
 use Rattle.sim_scope.specs.Tables.{Tables}
 use Rattle.sim_tree.specs.declared.stmt.Assignment.{Assignment}
 use Rattle.sim_tree.specs.declared.stmt.Assignment.TheVariants as assignment
-use Rattle.sim_tree.specs.Syntax.{Expression, Expressions, first_of}
+use Rattle.sim_tree.specs.declared.expr.Identifier.{Identifier}
+use Rattle.sim_tree.specs.Syntax.{Expression, Expressions, NoMore, Then, first_of}
 use Rattle.sim_tree.specs.Syntax as syntax
 use Rattle.sim_meaning.specs.Attributes.{connection_at}
-use Rattle.sim_meaning.specs.Closing.{is_text, is_text_type, result_meant, typed_token}
+use Rattle.sim_meaning.specs.Closing.{is_text, is_text_type, result_meant, typed_token, left_type, own_match, type_of_left}
 use Rattle.sim_meaning.specs.Levels.{qualification}
 use Rattle.sim_meaning.specs.Texts.{kind_of_type}
+use Rattle.sim_meaning.specs.Virtuals.{text_of_procedure}
+use Rattle.virtual_match.specs.Matching.{results_fit}
 use Rattle.sim_sound.specs.Held.{Holds, In, Refers, Simply, held_by}
 use Rattle.sim_sound.specs.Expressions.{AreIntegers, ExprIs, KnownAt}
-use Rattle.sim_sound.specs.Statements.{LeftIs, LeftNamed, LeftOf, LeftsAre, OwnText, PlaceIs, PlaceNamed, ReferenceAt, ResultIs, TextLeft}
-use Rattle.sim_agree.specs.Facts.{ProperType, Tabled}
+use Rattle.sim_sound.specs.Statements.{LeftIs, LeftNamed, LeftOf, LeftsAre, OwnText, PlaceIs, PlaceNamed, ReferenceAt, ResultIs, TextLeft, PlaceDeclared}
+use Rattle.sim_agree.specs.Facts.{ProperType, Tabled, ProperResult}
 use Rattle.sim_allowed.proofs.Actuals.{Known, both_true, neither}
 use Rattle.sim_allowed.proofs.Calls.{called_means}
 use Rattle.sim_allowed.proofs.Classes.{class_held, class_qualifies, simply}
-use Rattle.sim_allowed.proofs.Meant.{Means, ProcedureIs, SetIs, StandardIs, TypeThere, ValueIs}
+use Rattle.sim_allowed.proofs.Matching.{Typed, typed_alike}
+use Rattle.sim_allowed.proofs.Meant.{Means, ProcedureIs, SetIs, StandardIs, TypeThere, ValueIs, MatchLeft, NoOwn, VirtualIs}
 use Rattle.sim_allowed.proofs.Operators.{no_misfit}
 use Rattle.sim_allowed.proofs.Said.{AllSay, next_says}
-use Rattle.sim_allowed.proofs.Uses.{left_there}
+use Rattle.sim_allowed.proofs.Uses.{left_there, no_match, left_or}
 
 -- ---- a left side
 
@@ -63,8 +68,29 @@ left_denoted s t c None es h a = absurd a
 left_denoted s t c (Some (denotation.Standard name)) es h a = absurd a
 left_denoted s t c (Some (denotation.Declared d)) es h a = left_there s (KnownAt s (In t) c d) (AreIntegers s (In t) es) (OwnText s t c) es (entry_of s.tables d) h a
 
+-- where something lies is no virtual
+no_virtual_place : (s : Source) (Known Indices : Type 0) (es : Expressions) (o : Option Entry) (h : Holds) → PlaceDeclared s Known es Indices o h → entry_is is_virtual o ≡ false
+no_virtual_place s K I es None h a = refl
+no_virtual_place s K I es (Some (entry.Procedure result k)) h a = refl
+no_virtual_place s K I es (Some (entry.Variable type)) h a = refl
+no_virtual_place s K I es (Some (entry.Constant type)) h a = refl
+no_virtual_place s K I es (Some (entry.Array type m)) h a = refl
+no_virtual_place s K I es (Some (entry.Class k)) h a = refl
+no_virtual_place s K I NoMore (Some (entry.Virtual result own)) h a = absurd a
+no_virtual_place s K I (Then e es) (Some (entry.Virtual result own)) h a = absurd a
+no_virtual_place s K I es (Some (entry.Formal f)) h a = refl
+no_virtual_place s K I es (Some (entry.Unspecified w)) h a = refl
+no_virtual_place s K I es (Some (entry.Attribute name w result)) h a = refl
+
+place_no_match : (s : Source) (t : ℕ) (x : Identifier) (es : Expressions) (o : Option Denotation) (h : Holds) → denoted s x.token.0 ≡ o → PlaceNamed s t (connection_at s x.token.0) o es (AreIntegers s (In t) es) h → own_match s (syntax.Named x es) ≡ None
+place_no_match s t x es None h says a = absurd a
+place_no_match s t x es (Some (denotation.Standard name)) h says a = absurd a
+place_no_match s t x es (Some (denotation.Declared d)) h says a = no_match s x d es says (no_virtual_place s (KnownAt s (In t) (connection_at s x.token.0) d) (AreIntegers s (In t) es) es (entry_of s.tables d) h a)
+
 pub place_is_left : (s : Source) (t : ℕ) (e : Expression) (h : Holds) → PlaceIs s t e h → LeftIs s t e h
-place_is_left s t (syntax.Named x es) h a = left_denoted s t (connection_at s x.token.0) (denoted s x.token.0) es h a
+place_is_left s t (syntax.Named x es) h a =
+    left_or s t (connection_at s x.token.0) (text_of_procedure s (own_match s (syntax.Named x es))) h (LeftNamed s t (connection_at s x.token.0) (denoted s x.token.0) es (AreIntegers s (In t) es) h)
+    (ap (text_of_procedure s) (place_no_match s t x es (denoted s x.token.0) h refl a)) (left_denoted s t (connection_at s x.token.0) (denoted s x.token.0) es h a)
 place_is_left s t (syntax.Dot i b x es) h a = a
 place_is_left s t (syntax.If i a b c) h f = absurd f
 place_is_left s t (syntax.Binary o i a b) h f = absurd f
@@ -80,10 +106,14 @@ place_is_left s t (syntax.Parentheses i a) h f = absurd f
 -- a variable, or the result of a procedure
 pub record Assignable (s : Source) (k : ℕ) (e : Expression) (ty : SimType) : Type 0 where
   pub proper : ProperType s ty
-  pub typed : type_at s (typed_token e) ≡ Some ty
+  pub typed : left_type s e ≡ Some ty
   pub left : LeftIs s k e (held_by s ty)
   pub text : ty ≡ t.Text → TextLeft s k e (result_meant s e)
   pub reference : (d : DeclNo) → ty ≡ t.Ref d → (class : ℕ) → held_by s (t.Ref d) ≡ Refers class → ReferenceAt s k e (result_meant s e) class
+
+-- what is the result of no match has the type of its token
+pub left_typed : (s : Source) (e : Expression) (ty : SimType) → own_match s e ≡ None → type_at s (typed_token e) ≡ Some ty → left_type s e ≡ Some ty
+left_typed s e ty none typed = ap (λ m. type_of_left s m (type_at s (typed_token e))) none ∙ typed
 
 left_of : (s : Source) (k : ℕ) (sign : Assignment) (e : Expression) (ty : SimType) → Assignable s k e ty → takes sign ty ≡ true → LeftOf (is_text_type (Some ty)) sign s k e (kind_of_type ty)
 left_of s k assignment.Value e t.Integer l h = l.left
@@ -128,11 +158,11 @@ module _ (s : Source) (known : Tabled s) (k : ℕ) (e : Expression) (sign : Assi
       record { ty = ty; is = ap (λ (z : Side). z.ty) h.is; texts = texts; left = left h.taken h.same }
 
   -- a text that is assigned to, and is no result
-  text_value : (ty : SimType) → ValueIs s (In k) e ty → result_meant s e ≡ None → AllSay s (value_assigned sign first ty).events → TargetIs s k sign e (value_assigned sign first ty).value
+  text_value : (ty : SimType) → ValueIs s (In k) e ty → NoOwn s e → AllSay s (value_assigned sign first ty).events → TargetIs s k sign e (value_assigned sign first ty).value
   text_value ty v own said = target_of (is_text_copied sign ty) ty v.texts (copied sign ty v) said
     where
       copied : (g : Assignment) (b : SimType) → ValueIs s (In k) e b → takes g b ≡ true → is_text_copied g b ≡ true → LeftOf (is_text_type (Some b)) g s k e (kind_of_type b)
-      copied assignment.Value t.Text v taken copy = (refl, subst (λ z. TextLeft s k e z) (sym own) (simply s (In k) e t.Text v))
+      copied assignment.Value t.Text v taken copy = (refl, subst (λ z. TextLeft s k e z) (sym own.0) (simply s (In k) e t.Text v))
       copied assignment.Value t.Integer v taken copy = absurd (false≢true copy)
       copied assignment.Value t.Boolean v taken copy = absurd (false≢true copy)
       copied assignment.Value t.Character v taken copy = absurd (false≢true copy)
@@ -141,21 +171,21 @@ module _ (s : Source) (known : Tabled s) (k : ℕ) (e : Expression) (sign : Assi
       copied assignment.Reference b v taken copy = absurd (false≢true copy)
 
   -- what is assigned to, where no procedure is
-  variable_left : (ty : SimType) → ValueIs s (In k) e ty → ProperType s ty → PlaceIs s k e (held_by s ty) → result_meant s e ≡ None → AllSay s (targets sign first true ty).events → TargetIs s k sign e (targets sign first true ty).value
+  variable_left : (ty : SimType) → ValueIs s (In k) e ty → ProperType s ty → PlaceIs s k e (held_by s ty) → NoOwn s e → AllSay s (targets sign first true ty).events → TargetIs s k sign e (targets sign first true ty).value
   variable_left ty v proper place own said =
       target_of true ty v.texts (λ taken is. left_of s k sign e ty (record {
         proper = proper;
-        typed = v.typed;
+        typed = left_typed s e ty own.1 v.typed;
         left = place_is_left s k e (held_by s ty) place;
-        text = λ is. subst (λ z. TextLeft s k e z) (sym own) (subst (λ z. ExprIs s (In k) e (Simply (kind_of_type z))) is (simply s (In k) e ty v));
-        reference = λ d is class held. subst (λ z. ReferenceAt s k e z class) (sym own) (subst (λ z. PlaceIs s k e z) (ap (held_by s) is ∙ held) place);
+        text = λ is. subst (λ z. TextLeft s k e z) (sym own.0) (subst (λ z. ExprIs s (In k) e (Simply (kind_of_type z))) is (simply s (In k) e ty v));
+        reference = λ d is class held. subst (λ z. ReferenceAt s k e z class) (sym own.0) (subst (λ z. PlaceIs s k e z) (ap (held_by s) is ∙ held) place);
       }) taken) said
 
   -- no declared constant
   no_variable : (ty : SimType) → AllSay s (targets sign first false ty).events → ⊥
   no_variable ty said = false≢true (targeted s sign first false ty said).same
 
-  assigned_is : (o : Outcome) → Means false s (In k) e o → (result_meant s e ≡ None) → AllSay s (assigned_to sign first o).events → TargetIs s k sign e (assigned_to sign first o).value
+  assigned_is : (o : Outcome) → Means false s (In k) e o → (NoOwn s e) → AllSay s (assigned_to sign first o).events → TargetIs s k sign e (assigned_to sign first o).value
   unfolding assigned_to no_target gives telling
   assigned_is (is.Variable ty) m own said = variable_left ty m.0 m.1 m.2 own said
   assigned_is (is.Value ty) m own said = text_value ty m.0 own said
@@ -171,13 +201,13 @@ module _ (s : Source) (known : Tabled s) (k : ℕ) (e : Expression) (sign : Assi
   assigned_is (is.Standard name token) m own said = absurd m
 
   -- the value of a call
-  call_is : (o : Outcome) → Means true s (In k) e o → result_meant s e ≡ None → AllSay s (call_assigned s.tables sign first o).events → TargetIs s k sign e (call_assigned s.tables sign first o).value
+  call_is : (o : Outcome) → Means true s (In k) e o → NoOwn s e → AllSay s (call_assigned s.tables sign first o).events → TargetIs s k sign e (call_assigned s.tables sign first o).value
   unfolding call_assigned next
   call_is o m own said =
       let parts = next_says s (called s.tables o) (assigned_to sign first) said in
       assigned_is (called s.tables o).value (called_means s known (In k) e o m parts.0) own parts.1
 
-  result_is : (o : Outcome) → Means true s (In k) e o → result_meant s e ≡ None → (w : Option SimType) → AllSay s (result_assigned s.tables sign first o w).events → TargetIs s k sign e (result_assigned s.tables sign first o w).value
+  result_is : (o : Outcome) → Means true s (In k) e o → NoOwn s e → (w : Option SimType) → AllSay s (result_assigned s.tables sign first o w).events → TargetIs s k sign e (result_assigned s.tables sign first o w).value
   unfolding no_target telling
   result_is o m own None said = absurd said.0
   result_is o m own (Some ty) said = go (is_text_copied sign ty) said
@@ -200,10 +230,10 @@ module _ (s : Source) (known : Tabled s) (k : ℕ) (e : Expression) (sign : Assi
   result_left d q p None same said = absurd said.0
   result_left d q p (Some ty) same said =
       let own = p.inside in
-      let both = own.2 ty same in
+      let both = own.3 ty same in
       target_of true ty there.1 (λ taken is. left_of s k sign e ty (record {
         proper = there.0;
-        typed = there.3;
+        typed = left_typed s e ty own.2 there.3;
         left = both.0;
         text = λ is. subst (λ z. TextLeft s k e z) (sym own.1) (subst (λ z. ResultIs s k p.block (held_by s z)) is both.1);
         reference = λ c is class held. subst (λ z. ReferenceAt s k e z class) (sym own.1) (subst (λ z. ResultIs s k p.block z) (ap (held_by s) is ∙ held) both.1);
@@ -225,16 +255,56 @@ module _ (s : Source) (known : Tabled s) (k : ℕ) (e : Expression) (sign : Assi
       there = ap (entry_of s.tables) same ∙ p.declared
   procedure_is d token None p said = result_is (is.Procedure d token None) (inl p) p.inside (result_in (entry_of s.tables d)) said
 
+  -- the result of a match is that of the identifier of its virtual, inside its text
+  match_left : (result : Option SimType) (q : DeclNo) (m : MatchLeft s k e result q) → ProperResult s result → TypeThere s e result → (w : Option SimType) → m.there.given ≡ w → AllSay s (own_result_assigned sign first w).events → TargetIs s k sign e (own_result_assigned sign first w).value
+  unfolding no_target telling
+  match_left result q m p there None same said = absurd said.0
+  match_left result q m p there (Some ty) same said =
+      let both = m.left ty same in
+      target_of true ty texts (λ taken is. left_of s k sign e ty (record {
+        proper = own;
+        typed = m.typed ∙ same;
+        left = both.0;
+        text = λ is. subst (λ z. TextLeft s k e z) (sym m.meant) (subst (λ z. ResultIs s k m.there.block (held_by s z)) is both.1);
+        reference = λ c is class held. subst (λ z. ReferenceAt s k e z class) (sym m.meant) (subst (λ z. ResultIs s k m.there.block z) (ap (held_by s) is ∙ held) both.1);
+      }) taken) said
+    where
+      own : ProperType s ty
+      own = subst (ProperResult s) same (known.proper q (entry.Procedure m.there.given m.there.block) m.there.declares)
+
+      like : Typed s result ty
+      like = typed_alike s result ty p own (subst (λ z. results_fit s.tables result z ≡ true) same m.there.fits)
+
+      typed : TypeThere s e (Some like.wanted_type)
+      typed = subst (λ z. TypeThere s e z) like.is there
+
+      texts : is_text s e ≡ is_text_type (Some ty)
+      texts = typed.1 ∙ like.texts
+
+  virtual_is : (d : DeclNo) (token : TokenNo) (own : Option DeclNo) → VirtualIs s (In k) e d own
+      → AllSay s (procedure_assigned s.tables sign first (is.Procedure d token own) d own).events → TargetIs s k sign e (procedure_assigned s.tables sign first (is.Procedure d token own) d own).value
+  virtual_is d token (Some q) p said =
+      subst (λ z. TargetIs s k sign e (own_result_assigned sign first (result_in z)).value) (sym there)
+      (match_left p.result q p.inside (known.proper d (entry.Virtual p.result p.known) p.declared) p.typed m.there.given refl (subst (λ z. AllSay s (own_result_assigned sign first (result_in z)).events) there said))
+    where
+      m : MatchLeft s k e p.result q
+      m = p.inside
+
+      there : entry_of s.tables q ≡ Some (entry.Procedure m.there.given m.there.block)
+      there = m.there.declares
+  virtual_is d token None p said = result_is (is.Procedure d token None) (inr (inr p)) p.inside (result_in (entry_of s.tables d)) said
+
   -- a procedure of SIMSET is no left side
   set_is : (d : DeclNo) (token : TokenNo) (own : Option DeclNo) → SetIs s (In k) e d own
       → AllSay s (procedure_assigned s.tables sign first (is.Procedure d token own) d own).events → TargetIs s k sign e (procedure_assigned s.tables sign first (is.Procedure d token own) d own).value
   set_is d token (Some q) p said = absurd (let f : Some q ≡ None = p.no_own in cc)
-  set_is d token None p said = result_is (is.Procedure d token None) (inr p) p.unowned (result_in (entry_of s.tables d)) said
+  set_is d token None p said = result_is (is.Procedure d token None) (inr (inl p)) p.unowned (result_in (entry_of s.tables d)) said
 
   pub target_is : (o : Outcome) → Means true s (In k) e o → AllSay s (target s.tables sign first o).events → TargetIs s k sign e (target s.tables sign first o).value
   unfolding target assigned_to no_target gives telling
   target_is (is.Procedure d token own) (inl p) said = procedure_is d token own p said
-  target_is (is.Procedure d token own) (inr p) said = set_is d token own p said
+  target_is (is.Procedure d token own) (inr (inl p)) said = set_is d token own p said
+  target_is (is.Procedure d token own) (inr (inr p)) said = virtual_is d token own p said
   target_is (is.Standard name token) m said = standard_is name token m said
   target_is (is.Variable ty) m said = variable_left ty m.0 m.1 m.2 m.3 said
   target_is (is.Value ty) m said = text_value ty m.0 m.1 said

@@ -21,7 +21,7 @@ use Rattle.sim_tree.specs.Syntax.{Expression, NoMore}
 use Rattle.sim_tree.specs.Syntax as syntax
 use Rattle.sim_code.specs.Transfers.{Transfer}
 use Rattle.sim_meaning.specs.Attributes.{transfer_at}
-use Rattle.sim_meaning.specs.Closing.{is_text, result_meant, stream_of}
+use Rattle.sim_meaning.specs.Closing.{is_text, result_meant, stream_of, own_match}
 use Rattle.sim_meaning.specs.Entries.{formals_of as meant_formals}
 use Rattle.sim_meaning.specs.Statements.{leaves}
 use Rattle.sim_sound.specs.Held.{Holds, Place}
@@ -30,7 +30,7 @@ use Rattle.sim_sound.specs.Statements.{OrTransferIs, is_given}
 use Rattle.sim_agree.specs.Facts.{Tabled}
 use Rattle.sim_allowed.proofs.Headings.{HeadingIs, heading}
 use Rattle.sim_allowed.proofs.Classes.{proper_value}
-use Rattle.sim_allowed.proofs.Meant.{CallsFor, DotAs, Means, NamedAs, ProcedureIs, SetIs, StandardIs, Takes, TypeThere, Unowned, ValueIs}
+use Rattle.sim_allowed.proofs.Meant.{CallsFor, DotAs, Means, NamedAs, ProcedureIs, SetIs, StandardIs, Takes, TypeThere, Unowned, ValueIs, VirtualIs}
 use Rattle.sim_allowed.proofs.Said.{AllSay, next_says}
 
 -- ---- calls
@@ -96,6 +96,12 @@ set_means s from e d token own alone p none said =
     go None is said = call_means s from e p.result p.typed (p.calls is) alone none
     go (Some ty) is said = absurd said.0
 
+virtual_means : (s : Source) (from : Place) (e : Expression) (d : DeclNo) (token : TokenNo) (own : Option DeclNo) (alone : Bool) (p : VirtualIs s from e d own) → Unowned alone s e
+    → AllSay s (called s.tables (is.Procedure d token own)).events → Means alone s from e (called s.tables (is.Procedure d token own)).value
+unfolding called breaks gives telling
+virtual_means s from e d token own alone p none said =
+    subst (λ z. Means alone s from e (procedure_called token.0 (length (formals_of s.tables d)) z).value) (sym p.declared) (call_means s from e p.result p.typed p.calls alone none)
+
 standard_means : (s : Source) (from : Place) (e : Expression) (name : StandardName) (token : TokenNo) (alone : Bool) → StandardIs s from e name → Unowned alone s e
     → AllSay s (called s.tables (is.Standard name token)).events → Means alone s from e (called s.tables (is.Standard name token)).value
 unfolding called breaks gives telling
@@ -123,7 +129,8 @@ called_means s known from e (is.Variable ty) m said = (m.0, m.1, m.2, tt)
 called_means s known from e (is.Constant ty) m said = m
 called_means s known from e (is.Array ty) m said = m
 called_means s known from e (is.Procedure d token own) (inl p) said = procedure_means s known from e d token own false p tt said
-called_means s known from e (is.Procedure d token own) (inr p) said = set_means s from e d token own false p tt said
+called_means s known from e (is.Procedure d token own) (inr (inl p)) said = set_means s from e d token own false p tt said
+called_means s known from e (is.Procedure d token own) (inr (inr p)) said = virtual_means s from e d token own false p tt said
 called_means s known from e (is.Standard name token) m said = standard_means s from e name token false m tt said
 called_means s known from e is.Class m said = tt
 called_means s known from e (is.Barred b) m said = absurd m
@@ -172,13 +179,13 @@ side_means s known from e first o m said =
 -- an expression in parentheses
 pub parentheses_mean : (s : Source) → Tabled s → (from : Place) (e : Expression) (token first : ℕ) (o : Outcome) → Means true s from e o → AllSay s (in_parentheses s.tables first o).events
     → Means true s from (syntax.Parentheses token e) (in_parentheses s.tables first o).value
-unfolding in_parentheses next is_text result_meant stream_of parenthesized gives value_of breaks telling
+unfolding in_parentheses next is_text own_match result_meant stream_of parenthesized gives value_of breaks telling
 parentheses_mean s known from e token first o m said =
     let parts = next_says s (called s.tables o) (parenthesized first) said in
     go (called s.tables o).value (called_means s known from e o m parts.0) parts.1
   where
     inside : (o : Outcome) → Valued s from e o → Means true s from (syntax.Parentheses token e) o
-    inside o v = subst (λ z. Means true s from (syntax.Parentheses token e) z) (sym v.is) (record { proper = v.value.proper; texts = v.value.texts; stream = refl; typed = v.value.typed; value = v.value.value }, refl)
+    inside o v = subst (λ z. Means true s from (syntax.Parentheses token e) z) (sym v.is) (record { proper = v.value.proper; texts = v.value.texts; stream = refl; typed = v.value.typed; value = v.value.value }, (refl, refl))
 
     go : (o : Outcome) → Means false s from e o → AllSay s (parenthesized first o).events → Means true s from (syntax.Parentheses token e) (parenthesized first o).value
     go is.NoValue m said = tt

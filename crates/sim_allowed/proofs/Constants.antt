@@ -19,7 +19,7 @@ use Rattle.sim_tree.specs.declared.stmt.TypeName.{TypeName}
 use Rattle.sim_tree.specs.declared.stmt.TypeName.TheVariants as type_name
 use Rattle.sim_tree.specs.declared.stmt.Variable.{Variable}
 use Rattle.sim_tree.specs.Filled.{Filled}
-use Rattle.sim_tree.specs.Order.{InOrder}
+use Rattle.sim_agree.specs.Order.{InOrder}
 use Rattle.sim_tree.specs.Syntax.{Declarations, NoDeclaration, Variables, With}
 use Rattle.sim_values.specs.declared.kind.Kind.{Kind}
 use Rattle.sim_values.specs.declared.kind.Kind.TheVariants as kind

@@ -20,7 +20,7 @@ use Rattle.sim_scope.specs.declared.types.Mode.TheVariants as mode
 use Rattle.sim_scope.specs.declared.types.SimType.{SimType}
 use Rattle.sim_scope.specs.declared.types.SimType.TheVariants as t
 use Rattle.sim_scope.specs.Actuals.{attribute_parameter, formal_or_none, of_formal_procedure, parameter_at, parameter_of}
-use Rattle.sim_scope.specs.Calls.{attribute_count, declared_alone, declared_applied, element_of, formal_alone, is_undotted, own_undotted, procedure_alone, resulting, typed_if}
+use Rattle.sim_scope.specs.Calls.{attribute_count, declared_alone, declared_applied, element_of, formal_alone, is_undotted, match_seen, own_undotted, procedure_alone, resulting, typed_if}
 use Rattle.sim_scope.specs.Found.{Typed}
 use Rattle.sim_scope.specs.Judged.{Judged, gives, telling}
 use Rattle.sim_scope.specs.Outcomes.{breaks, call_of, varies}
@@ -30,7 +30,7 @@ use Rattle.sim_tree.specs.declared.expr.Identifier.{Identifier}
 use Rattle.sim_tree.specs.Syntax.{Expression, Expressions, NoMore, Then}
 use Rattle.sim_values.specs.declared.standard.Standard.{Standard}
 use Rattle.sim_meaning.specs.Attributes.{attribute_formals}
-use Rattle.sim_meaning.specs.Closing.{has_type, is_text, is_text_type, result_meant, stream_of, typed_token}
+use Rattle.sim_meaning.specs.Closing.{has_type, is_text, is_text_type, stream_of, typed_token}
 use Rattle.sim_meaning.specs.Entries.{formals_of as meant_formals}
 use Rattle.sim_meaning.specs.Levels.{qualification}
 use Rattle.sim_meaning.specs.Statements.{denoted_leaves, entry_leaves}
@@ -43,7 +43,7 @@ use Rattle.sim_allowed.proofs.Actuals.{AllFit, FitsAs, all_formals, all_integers
 use Rattle.sim_allowed.proofs.Calls.{call_means}
 use Rattle.sim_allowed.proofs.Classes.{plain_proper, plain_value, proper_takes, proper_value}
 use Rattle.sim_allowed.proofs.Headings.{heading}
-use Rattle.sim_allowed.proofs.Meant.{CallGiven, CallsFor, Means, OwnResult, Takes, TypeThere, ValueIs, Varies}
+use Rattle.sim_allowed.proofs.Meant.{CallGiven, CallsFor, Means, OwnResult, Takes, TypeThere, ValueIs, Varies, MatchResult, NoOwn}
 use Rattle.sim_allowed.proofs.Said.{AllSay}
 
 -- ---- what is held
@@ -75,9 +75,10 @@ variable_left s K I t.NoneType k = (refl, k)
 
 -- ---- uses
 
--- the result of no procedure
+-- the result of no procedure and of no match
 abbrev pub NoResult : Option Entry → Expressions → Type 0
 NoResult (Some (entry.Procedure result k)) NoMore = ⊥
+NoResult (Some (entry.Virtual result own)) NoMore = ⊥
 NoResult _ es = Unit {0}
 
 -- what calls give that have a result of this type, or none
@@ -98,7 +99,7 @@ pub record UseIs (s : Source) (from : Place) (e : Expression) (naming : ℕ) (d 
   pub call : (h : Option Holds) → UseGives s Known d es (AreIntegers s from es) (λ fs. ActualsFit s from es fs) (entry_of s.tables d) h → denoted_leaves s (Some (denotation.Declared d)) ≡ is_given h → CallGiven s from e h
   pub calls : (result : Option SimType) → GivenFor s (CallGiven s from e) result → CallsFor s from e result
   pub place : (type : SimType) → PlaceDeclared s Known es (AreIntegers s from es) (entry_of s.tables d) (held_by s type) → Varies s from e type
-  pub unowned : NoResult (entry_of s.tables d) es → result_meant s e ≡ None
+  pub unowned : NoResult (entry_of s.tables d) es → NoOwn s e
 
 typed_is : (token : ℕ) (result : Option SimType) (o : Outcome) → (typed_if token result o).value ≡ o
 unfolding telling gives
@@ -109,6 +110,10 @@ typed_is token (Some type) o = refl
 leaves_result : (s : Source) (d : DeclNo) (result : Option SimType) (k : ℕ) → entry_of s.tables d ≡ Some (entry.Procedure result k) → denoted_leaves s (Some (denotation.Declared d)) ≡ has_type result
 unfolding result_of
 leaves_result s d result k e = ap (entry_leaves s d) e ∙ ap (λ z. has_type (result_in z)) e
+
+virtual_leaves : (s : Source) (d : DeclNo) (result : Option SimType) (own : Option DeclNo) → entry_of s.tables d ≡ Some (entry.Virtual result own) → denoted_leaves s (Some (denotation.Declared d)) ≡ has_type result
+unfolding result_of
+virtual_leaves s d result own e = ap (entry_leaves s d) e ∙ ap (λ z. has_type (result_in z)) e
 
 set_leaves : (s : Source) (d : DeclNo) (name : Standard) (w result : Option SimType) → entry_of s.tables d ≡ Some (entry.Attribute name w result) → denoted_leaves s (Some (denotation.Declared d)) ≡ has_type result
 set_leaves s d name w result e = ap (entry_leaves s d) e
@@ -216,28 +221,38 @@ module _ (s : Source) (known : Tabled s) (from : Place) (e : Expression) (naming
   type_there None o p said = tt
   type_there (Some type) o p said = let typed = ap (type_at s) it.at ∙ said.0 in (p, ap is_text_type typed, it.stream, typed)
 
+  virtual_given : (result : Option SimType) (own : Option DeclNo) → ProperResult s result → entry_of s.tables d ≡ Some (entry.Virtual result own) → GivenFor s (CallGiven s from e) result
+  virtual_given None own p there =
+      it.call None (subst (λ z. UseGives s Known d NoMore (AreIntegers s from NoMore) (λ fs. ActualsFit s from NoMore fs) z None) (sym there) (tt, sees)) (virtual_leaves s d None own there)
+  virtual_given (Some type) own p there = λ h f.
+      it.call (Some h) (subst (λ z. UseGives s Known d NoMore (AreIntegers s from NoMore) (λ fs. ActualsFit s from NoMore fs) z (Some h)) (sym there) (proper_takes s type h p f, sees)) (virtual_leaves s d (Some type) own there)
+
   pub alone_means : (x : Identifier) (b : Entry) → entry_of s.tables d ≡ Some b → ProperEntry s b
       → ((result : Option SimType) (k : ℕ) → entry_of s.tables d ≡ Some (entry.Procedure result k) → OwnResult s from e (own_undotted s.tables x (is_undotted naming x) (Some d)) d result k)
+      → ((result : Option SimType) (own : Option DeclNo) → entry_of s.tables d ≡ Some (entry.Virtual result own) → MatchResult s from e result (own_undotted s.tables x (is_undotted naming x) (match_seen s.tables x)))
       → AllSay s (declared_alone s.tables naming x d (Some b)).events → Means true s from e (declared_alone s.tables naming x d (Some b)).value
   unfolding telling gives
-  alone_means x (entry.Variable type) there p own said =
+  alone_means x (entry.Variable type) there p own match said =
       varies_alone (entry.Variable type) there type p (λ h f. variable_names s Known (AreIntegers s from NoMore) type h f sees) (variable_left s Known (AreIntegers s from NoMore) type sees) tt said
-  alone_means x (entry.Constant type) there p own said =
+  alone_means x (entry.Constant type) there p own match said =
       let c = known.constants d type there in
       value_there type (plain_proper s type p) said.0 (plain_value s from e type p (gives_at (entry.Constant type) there (Simply (kind_of_type type)) (c.value, c.is, ap Simply c.of_type, sees)))
-  alone_means x (entry.Array element dimensions) there p own said = (p, gives_at (entry.Array element dimensions) there (ArrayOf (held_by s element)) (refl, sees))
-  alone_means x (entry.Procedure result k) there p own said =
+  alone_means x (entry.Array element dimensions) there p own match said = (p, gives_at (entry.Array element dimensions) there (ArrayOf (held_by s element)) (refl, sees))
+  alone_means x (entry.Procedure result k) there p own match said =
       let o = procedure_alone d x (own_undotted s.tables x (is_undotted naming x) (Some d)) in
       subst (λ z. Means true s from e z) (sym (typed_is naming result o))
       (inl (record { result = result; block = k; declared = there; typed = type_there result o p said; calls = λ fit. it.calls result (given result k p there fit); inside = own result k there }))
-  alone_means x (entry.Class k) there p own said = tt
-  alone_means x (entry.Virtual result o) there p own said = absurd p
-  alone_means x (entry.Formal f) there p own said = formal_means f there p (procedure_alone d x None) said
-  alone_means x (entry.Unspecified w) there p own said = absurd p
-  alone_means x (entry.Attribute name w result) there p own said =
+  alone_means x (entry.Class k) there p own match said = tt
+  alone_means x (entry.Virtual result known) there p own match said =
+      let o = procedure_alone d x (own_undotted s.tables x (is_undotted naming x) (match_seen s.tables x)) in
+      subst (λ z. Means true s from e z) (sym (typed_is naming result o))
+      (inr (inr (record { result = result; known = known; declared = there; typed = type_there result o p said; calls = it.calls result (virtual_given result known p there); inside = match result known there })))
+  alone_means x (entry.Formal f) there p own match said = formal_means f there p (procedure_alone d x None) said
+  alone_means x (entry.Unspecified w) there p own match said = absurd p
+  alone_means x (entry.Attribute name w result) there p own match said =
       let o = procedure_alone d x None in
       subst (λ z. Means true s from e z) (sym (typed_is naming result o))
-      (inr (record {
+      (inr (inl (record {
         name = name;
         parameter = w;
         result = result;
@@ -246,7 +261,7 @@ module _ (s : Source) (known : Tabled s) (from : Place) (e : Expression) (naming
         calls = λ none. it.calls result (set_given name w result p.2 there none);
         no_own = refl;
         unowned = it.unowned (subst (λ z. NoResult z NoMore) (sym there) tt);
-      }))
+      })))
 
 -- ---- with operands
 
@@ -302,6 +317,19 @@ module _ (s : Source) (known : Tabled s) (from : Place) (e : Expression) (naming
       head.proper (sym count ∙ sym same ∙ head.count) (fits is) in
       subst (λ z. Means true s from e z) (sym (typed_is naming result (call_of result)))
       (call_means s from e result (result_there result (call_of result) p said) (it.calls result (call_given result k p there fit)) true (it.unowned (subst (λ z. NoResult z Them) (sym there) tt)))
+
+  -- a virtual, whose actual parameters are held against its match when it is called
+  virtual_call : (result : Option SimType) (own : Option DeclNo) → ProperResult s result → entry_of s.tables d ≡ Some (entry.Virtual result own) → GivenFor s (CallGiven s from e) result
+  virtual_call None own p there = it.call None (subst (λ z. UseGives s Known d Them (AreIntegers s from Them) (λ fs. ActualsFit s from Them fs) z None) (sym there) (tt, sees)) (virtual_leaves s d None own there)
+  virtual_call (Some type) own p there = λ h f.
+      it.call (Some h) (subst (λ z. UseGives s Known d Them (AreIntegers s from Them) (λ fs. ActualsFit s from Them fs) z (Some h)) (sym there) (proper_takes s type h p f, sees)) (virtual_leaves s d (Some type) own there)
+
+  virtual_with : (result : Option SimType) (own : Option DeclNo) → entry_of s.tables d ≡ Some (entry.Virtual result own) → ProperResult s result → (m : Option Fault) → AllSay s (resulting naming m result).events → Means true s from e (resulting naming m result).value
+  unfolding resulting breaks telling
+  virtual_with result own there p (Some f) said = absurd said.0
+  virtual_with result own there p None said =
+      subst (λ z. Means true s from e z) (sym (typed_is naming result (call_of result)))
+      (call_means s from e result (result_there result (call_of result) p said) (it.calls result (virtual_call result own p there)) true (it.unowned (subst (λ z. NoResult z Them) (sym there) tt)))
 
   -- an attribute, with the actual parameter of its formal parameter
   set_fits : (name : Standard) (w result : Option SimType) → entry_of s.tables d ≡ Some (entry.Attribute name w result) → attribute_count w ≡ size Them → AllFit s from (Some (denotation.Declared d)) 0 Them → ActualsFit s from Them (attribute_formals w)
@@ -370,7 +398,7 @@ module _ (s : Source) (known : Tabled s) (from : Place) (e : Expression) (naming
       go true same said = call_with result k there p (grind (arith, nat_tests)) a.misfit refl said
       go false same said = absurd said.0
   with_means token (entry.Class k) there p said = absurd said.0
-  with_means token (entry.Virtual result own) there p said = absurd p
+  with_means token (entry.Virtual result own) there p said = virtual_with result own there p a.misfit said
   with_means token (entry.Unspecified w) there p said = absurd p
   with_means token (entry.Attribute name w result) there p said = go (nat_eq (attribute_count w) a.count) refl said
     where

@@ -7,7 +7,7 @@ use Rattle.sim_scope.specs.declared.types.BlockKind.TheVariants as kind
 use Rattle.sim_scope.specs.Source.{Source}
 use Rattle.sim_scope.specs.Tables.{BlockOf}
 use Rattle.sim_tree.specs.declared.stmt.TypeName.{TypeName}
-use Rattle.sim_tree.specs.Order.{InOrder}
+use Rattle.sim_agree.specs.Order.{InOrder}
 use Rattle.sim_tree.specs.Syntax.{Heading, Statement}
 use Rattle.sim_meaning.specs.Entries.{formals_from, formals_of, is_held}
 use Rattle.sim_meaning.specs.Texts.{ProcedureText, has_class_in, is_class_free, text}

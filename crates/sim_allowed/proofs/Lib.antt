@@ -6,6 +6,7 @@ pub mod Classes
 pub mod Names
 pub mod Calls
 pub mod Operators
+pub mod Matching
 pub mod Actuals
 pub mod Declared
 pub mod Uses
@@ -32,6 +33,8 @@ pub mod ToldStatements
 pub mod LastRound
 pub mod Constants
 pub mod Whole
+pub mod Spots
+pub mod Ordered
 pub mod Allowed
 pub mod Outside
 pub mod Agreed

@@ -15,14 +15,14 @@ use Rattle.sim_tree.specs.declared.expr.Identifier.{Identifier}
 use Rattle.sim_tree.specs.Syntax.{Expression, Expressions, NoMore}
 use Rattle.sim_tree.specs.Syntax as syntax
 use Rattle.sim_meaning.specs.Attributes.{connection_at, own_attribute, transfer_at}
-use Rattle.sim_meaning.specs.Closing.{is_text, is_text_type, result_meant, stream_of, typed_token}
+use Rattle.sim_meaning.specs.Closing.{is_text, is_text_type, result_meant, stream_of, typed_token, left_type, own_match}
 use Rattle.sim_meaning.specs.Entries.{formals_of}
 use Rattle.sim_meaning.specs.Names.{stream_named}
 use Rattle.sim_meaning.specs.Statements.{leaves}
 use Rattle.sim_sound.specs.Held.{ArrayOf, Fits, Holds, In, InBound, Place, Refers, Simply, held_by}
 use Rattle.sim_sound.specs.Expressions.{ActualsFit, AreIntegers, AreOf, DotGives, ExprIs, IdentifierGives, IsReference}
 use Rattle.sim_sound.specs.Statements.{LeftIs, OrTransferIs, PlaceIs, ResultIs, TransferIs, is_given}
-use Rattle.sim_agree.specs.Facts.{ProperType}
+use Rattle.sim_agree.specs.Facts.{ProperType, MatchFits}
 use Rattle.sim_values.specs.declared.kind.Kind.TheVariants as kind
 use Rattle.sim_values.specs.declared.standard.Standard.{Standard}
 
@@ -81,9 +81,12 @@ abbrev pub Varies : Source → Place → Expression → SimType → Type 0
 Varies s (InBound t) e type = Unit {0}
 Varies s (In t) e type = PlaceIs s t e (held_by s type)
 
--- it is not the result of the procedure in whose text it stands
+-- it is the result of no procedure in whose text it stands
+abbrev pub NoOwn : Source → Expression → Type 0
+NoOwn s e = (result_meant s e ≡ None) × (own_match s e ≡ None)
+
 abbrev pub Unowned : (alone : Bool) → Source → Expression → Type 0
-Unowned true s e = result_meant s e ≡ None
+Unowned true s e = NoOwn s e
 Unowned false s e = Unit {0}
 
 -- what is known of a type that an expression may have
@@ -93,9 +96,21 @@ TypeThere s e (Some type) = ProperType s type × (is_text s e ≡ is_text_type (
 
 -- an expression from the inside of the text of a procedure, as a left side
 abbrev pub OwnResult : Source → Place → Expression → (own : Option DeclNo) → DeclNo → (result : Option SimType) → (block : ℕ) → Type 0
-OwnResult s from e None d result block = result_meant s e ≡ None
+OwnResult s from e None d result block = NoOwn s e
 OwnResult s (InBound t) e (Some q) d result block = q ≡ d
-OwnResult s (In t) e (Some q) d result block = (q ≡ d) × (result_meant s e ≡ Some block) × ((type : SimType) → result ≡ Some type → LeftIs s t e (held_by s type) × ResultIs s t block (held_by s type))
+OwnResult s (In t) e (Some q) d result block = (q ≡ d) × (result_meant s e ≡ Some block) × (own_match s e ≡ None) × ((type : SimType) → result ≡ Some type → LeftIs s t e (held_by s type) × ResultIs s t block (held_by s type))
+
+-- an expression from the inside of the match of a virtual, as a left side: the result of the match, of its own type
+pub record MatchLeft (s : Source) (t : ℕ) (e : Expression) (result : Option SimType) (match : DeclNo) : Type 0 where
+  pub there : MatchFits s result match
+  pub meant : result_meant s e ≡ Some there.block
+  pub typed : left_type s e ≡ there.given
+  pub left : (type : SimType) → there.given ≡ Some type → LeftIs s t e (held_by s type) × ResultIs s t there.block (held_by s type)
+
+abbrev pub MatchResult : Source → Place → Expression → (result : Option SimType) → (own : Option DeclNo) → Type 0
+MatchResult s from e result None = NoOwn s e
+MatchResult s (InBound t) e result (Some q) = Unit {0}
+MatchResult s (In t) e result (Some q) = MatchLeft s t e result q
 
 -- the identifier of a procedure alone
 pub record ProcedureIs (s : Source) (from : Place) (e : Expression) (d : DeclNo) (own : Option DeclNo) : Type 0 where
@@ -119,14 +134,25 @@ pub record SetIs (s : Source) (from : Place) (e : Expression) (d : DeclNo) (own 
   pub calls : parameter ≡ None → CallsFor s from e result
   -- it has no text from whose inside it is a left side
   pub no_own : own ≡ None
-  pub unowned : result_meant s e ≡ None
+  pub unowned : NoOwn s e
+
+-- the identifier of a virtual alone
+pub record VirtualIs (s : Source) (from : Place) (e : Expression) (d : DeclNo) (own : Option DeclNo) : Type 0 where
+  pub result : Option SimType
+  pub known : Option DeclNo
+  pub declared : entry_of s.tables d ≡ Some (entry.Virtual result known)
+  pub typed : TypeThere s e result
+  -- it is a call
+  pub calls : CallsFor s from e result
+  -- as a left side it is the result inside the text of the match
+  pub inside : MatchResult s from e result own
 
 -- a standard name alone
 pub record StandardIs (s : Source) (from : Place) (e : Expression) (standard : StandardName) : Type 0 where
   pub calls : is_stream standard ≡ false → (signature standard).first ≡ None → CallsFor s from e (signature standard).result
   pub typed : is_stream standard ≡ false → TypeThere s e (signature standard).result
   pub stream : stream_of s e ≡ stream_named standard
-  pub unowned : result_meant s e ≡ None
+  pub unowned : NoOwn s e
 
 -- what is so only before calls are made
 abbrev pub Only : (alone : Bool) → Type 0 → Type 0
@@ -143,7 +169,7 @@ Means alone s from e (is.Called type) = ValueIs s from e type × CallsFor s from
 Means alone s from e (is.Variable type) = ValueIs s from e type × ProperType s type × Varies s from e type × Unowned alone s e
 Means alone s from e (is.Constant type) = ValueIs s from e type
 Means alone s from e (is.Array type) = ProperType s type × ExprIs s from e (ArrayOf (held_by s type))
-Means alone s from e (is.Procedure d token own) = Only alone (ProcedureIs s from e d own ⊎ SetIs s from e d own)
+Means alone s from e (is.Procedure d token own) = Only alone (ProcedureIs s from e d own ⊎ (SetIs s from e d own ⊎ VirtualIs s from e d own))
 Means alone s from e (is.Standard name token) = Only alone (StandardIs s from e name)
 Means alone s from e is.Class = Unit {0}
 Means alone s from e (is.Barred b) = ⊥

@@ -18,14 +18,14 @@ use Rattle.sim_scope.specs.declared.types.Entry.{Entry}
 use Rattle.sim_scope.specs.declared.types.Entry.TheVariants as entry
 use Rattle.sim_scope.specs.declared.types.SimType.{SimType}
 use Rattle.sim_scope.specs.declared.types.SimType.TheVariants as t
-use Rattle.sim_scope.specs.Actuals.{no_actuals}
+use Rattle.sim_scope.specs.Actuals.{no_actuals, result_in as given_in}
 use Rattle.sim_scope.specs.Access.{block_at}
-use Rattle.sim_scope.specs.Calls.{alone, applied, applied_untyped, attribute, attribute_by_value, attribute_found, attribute_in, attribute_of_type, attribute_of_value, barred_if, declared_alone, declared_applied, if_own, is_barred, is_connection_at, is_inside, is_undotted, occurs, own_of, own_undotted, remote, remote_as, remote_at, remote_in, through_connection, used, used_or_barred}
+use Rattle.sim_scope.specs.Calls.{alone, applied, applied_untyped, attribute, attribute_by_value, attribute_found, attribute_in, attribute_of_type, attribute_of_value, barred_if, declared_alone, declared_applied, if_own, is_barred, is_connection_at, is_inside, is_undotted, occurs, own_of, own_undotted, remote, remote_as, remote_at, remote_in, through_connection, used, used_or_barred, inside_match, match_seen}
 use Rattle.sim_scope.specs.Judged.{Judged, bars, gives, next, telling}
 use Rattle.sim_scope.specs.Levels.{class_block, has_classes}
 use Rattle.sim_scope.specs.Outcomes.{side}
-use Rattle.sim_scope.specs.Scopes.{binding, block_in, declared_or_standard, entry_of, formals_of, found_in, is_detach, result_in, result_of, shown}
-use Rattle.sim_scope.specs.Source.{Source, block_of, denoted, found_at}
+use Rattle.sim_scope.specs.Scopes.{binding, block_in, declared_or_standard, entry_of, formals_of, found_in, is_detach, result_in, result_of, shown, entry_is, is_virtual}
+use Rattle.sim_scope.specs.Source.{Source, block_of, denoted, found_at, type_at}
 use Rattle.sim_scope.specs.Standard.{signature, sysin_attribute, sysout_attribute, text_attribute}
 use Rattle.sim_tree.specs.declared.expr.Identifier.{Identifier}
 use Rattle.sim_tree.specs.Syntax.{Expression, Expressions, NoMore, Then}
@@ -34,26 +34,28 @@ use Rattle.sim_values.specs.declared.kind.Kind.TheVariants as kind
 use Rattle.sim_values.specs.declared.standard.Standard.TheVariants as detach
 use Rattle.sim_code.specs.Transfers.{Detaching}
 use Rattle.sim_meaning.specs.Attributes.{connection_at, connection_in, is_connection, own_attribute, transfer_named}
-use Rattle.sim_meaning.specs.Closing.{block_if, own_block, own_block_denoted, own_result, result_meant, stream_denoted, stream_of, unless_connected}
+use Rattle.sim_meaning.specs.Closing.{block_if, own_block, own_block_denoted, own_result, result_meant, stream_denoted, stream_of, unless_connected, is_virtual_denoted, match_if_virtual, own_match, result_or_own, type_of_left}
 use Rattle.sim_meaning.specs.Names.{procedure_named, stream_named}
 use Rattle.sim_meaning.specs.Statements.{denoted_leaves}
 use Rattle.sim_meaning.specs.Texts.{text}
+use Rattle.sim_meaning.specs.Virtuals.{procedure_text, text_of_procedure}
 use Rattle.sim_sound.specs.Held.{Around, Fits, In, InBound, Place, Refers, Simply, given_by as held_given, held_by, result_declared, result_holds}
 use Rattle.sim_sound.specs.Expressions.{ActualsFit, AreIntegers, AreOf, BehindGives, DotGives, ExprIs, KnownAt, ObjectHas, ThisFound}
-use Rattle.sim_sound.specs.Statements.{LeftDeclared, LeftIs, LeftNamed, OwnText, ResultIs}
-use Rattle.sim_agree.specs.Facts.{IsClass, PlainGiven, Tabled}
+use Rattle.sim_sound.specs.Statements.{LeftDeclared, LeftIs, LeftNamed, OwnText, ResultIs, LeftResultOr}
+use Rattle.sim_agree.specs.Facts.{IsClass, PlainGiven, Tabled, MatchFits}
 use Rattle.sim_allowed.proofs.Actuals.{AllActuals, AllFit, size}
 use Rattle.sim_allowed.proofs.Calls.{side_means}
 use Rattle.sim_allowed.proofs.Classes.{class_held, class_row, own_level, simply}
 use Rattle.sim_allowed.proofs.Declared.{UseIs, alone_means, with_means}
 use Rattle.sim_allowed.proofs.Detached.{detach_stands}
-use Rattle.sim_allowed.proofs.Meant.{CallGiven, CallsFor, InText, Means, OwnResult, ValueIs}
+use Rattle.sim_allowed.proofs.Matching.{result_kept}
+use Rattle.sim_allowed.proofs.Meant.{CallGiven, CallsFor, InText, Means, OwnResult, ValueIs, MatchResult, NoOwn}
 use Rattle.sim_allowed.proofs.Names.{IsProcedure, OfTexts, alone_proper, attribute_gives, attribute_proper, attribute_transfers_none, detach_alone, given_by, kinds_of, procedure_proper, procedure_transfers_none, standard_gives, standard_left, sysin_name, sysout_name, text_name}
 use Rattle.sim_allowed.proofs.Nowhere.{is_nowhere}
 use Rattle.sim_allowed.proofs.Said.{AllSay, next_says}
 use Rattle.sim_allowed.proofs.Sights.{Sight, text_of}
 use Rattle.sim_allowed.proofs.Simulations.{AttributeThere, attribute_there, either_attribute, level_classes}
-use Rattle.sim_allowed.proofs.Uses.{BoundIs, KnownHere, bound_name, dot_calls, dot_detaches, dot_given, dot_use, known_here, named_use, own_declared, plain_given, standard_call, standard_transfers, standard_with, standard_without, unconnected_none}
+use Rattle.sim_allowed.proofs.Uses.{BoundIs, KnownHere, bound_name, dot_calls, dot_detaches, dot_given, dot_use, known_here, named_use, own_declared, plain_given, standard_call, standard_transfers, standard_with, standard_without, unconnected_none, meant_without, no_match, standard_no_match, left_or}
 
 pub from_zero : (n m : ℕ) → n ≡ 0 + m → n ≡ m
 from_zero n m e = omega (arith, e)
@@ -111,32 +113,34 @@ module _ (s : Source) (known : Tabled s) (from : Place) (x : Identifier) (placed
     unfolding result_of
     result_there type same = ap (λ z. held_given s (result_declared s z)) (known.owned d result k there) ∙ ap (λ z. held_given s (result_in z)) there ∙ ap (held_given s) same
 
-    -- where it is outside, or seen through a connection, it is no result
-    none_meant : (b : Bool) → is_inside s.tables x.token.0 k ≡ b → b ≡ false → result_meant s Alone ≡ None
-    unfolding result_meant
-    none_meant b inside outside = ap (unless_connected (connection_at s x.token.0)) (meant ∙ ap (λ z. block_if z k) (inside ∙ outside)) ∙ unconnected_none (connection_at s x.token.0)
+    -- it is no match
+    unmatched : own_match s Alone ≡ None
+    unmatched = no_match s x d NoMore says (ap (entry_is is_virtual) there)
 
-    none_connected : (j : ℕ) → connection_at s x.token.0 ≡ Some j → result_meant s Alone ≡ None
-    unfolding result_meant
-    none_connected j is = ap (λ z. unless_connected z (own_result s Alone)) is
+    -- where it is outside, or seen through a connection, it is no result
+    none_meant : (b : Bool) → is_inside s.tables x.token.0 k ≡ b → b ≡ false → NoOwn s Alone
+    none_meant b inside outside = (meant_without s x NoMore unmatched ∙ ap (unless_connected (connection_at s x.token.0)) (meant ∙ ap (λ z. block_if z k) (inside ∙ outside)) ∙ unconnected_none (connection_at s x.token.0), unmatched)
+
+    none_connected : (j : ℕ) → connection_at s x.token.0 ≡ Some j → NoOwn s Alone
+    none_connected j is = (meant_without s x NoMore unmatched ∙ ap (λ z. unless_connected z (own_result s Alone)) is, unmatched)
 
     result_inside : is_inside s.tables x.token.0 k ≡ true → connection_at s x.token.0 ≡ None → result_meant s Alone ≡ Some k
-    unfolding result_meant
-    result_inside inside none = ap (λ z. unless_connected z (own_result s Alone)) none ∙ meant ∙ ap (λ z. block_if z k) inside
+    result_inside inside none = meant_without s x NoMore unmatched ∙ ap (λ z. unless_connected z (own_result s Alone)) none ∙ meant ∙ ap (λ z. block_if z k) inside
 
     left_inside : (t : ℕ) → Around s.tables t k → connection_at s x.token.0 ≡ None → (type : SimType) → result ≡ Some type → LeftIs s t Alone (held_by s type) × ResultIs s t k (held_by s type)
     left_inside t around none type same = (
-      subst (λ c. LeftNamed s t c (denoted s x.token.0) NoMore (AreIntegers s (In t) NoMore) (held_by s type)) (sym none)
+      left_or s t (connection_at s x.token.0) (text_of_procedure s (own_match s Alone)) (held_by s type) (LeftNamed s t (connection_at s x.token.0) (denoted s x.token.0) NoMore (AreIntegers s (In t) NoMore) (held_by s type)) (ap (text_of_procedure s) unmatched)
+          (subst (λ c. LeftNamed s t c (denoted s x.token.0) NoMore (AreIntegers s (In t) NoMore) (held_by s type)) (sym none)
           (subst (λ z. LeftNamed s t None z NoMore (AreIntegers s (In t) NoMore) (held_by s type)) (sym says)
           (subst (λ z. LeftDeclared s (KnownAt s (In t) None d) (OwnText s t None) NoMore (AreIntegers s (In t) NoMore) z (held_by s type)) (sym there)
-          (subst (λ z. LeftDeclared s (KnownAt s (In t) None d) (OwnText s t None) NoMore (AreIntegers s (In t) NoMore) (Some (entry.Procedure z k)) (held_by s type)) (sym same) (refl, around)))),
+          (subst (λ z. LeftDeclared s (KnownAt s (In t) None d) (OwnText s t None) NoMore (AreIntegers s (In t) NoMore) (Some (entry.Procedure z k)) (held_by s type)) (sym same) (refl, around))))),
       (around, result_there type same),
     )
 
     inside_means : (f : Place) → text_of f ≡ text_of from → is_inside s.tables x.token.0 k ≡ true → connection_at s x.token.0 ≡ None → OwnResult s f Alone (Some d) d result k
     inside_means (InBound t) same inside none = refl
     inside_means (In t) same inside none =
-        (refl, result_inside inside none, λ type is. left_inside t (subst (λ z. Around s.tables z k) (sym same) (known.inside x.token.0 (text_of from) k placed inside)) none type is)
+        (refl, result_inside inside none, unmatched, λ type is. left_inside t (subst (λ z. Around s.tables z k) (sym same) (known.inside x.token.0 (text_of from) k placed inside)) none type is)
 
     own_means : OwnResult s from Alone (own_undotted s.tables x (is_undotted x.token.0 x) (Some d)) d result k
     own_means = subst (λ z. OwnResult s from Alone (own_undotted s.tables x z (Some d)) d result k) (sym (same_token x.token.0)) (test (is_inside s.tables x.token.0 k) refl connection_is.0 connection_is.1)
@@ -147,11 +151,82 @@ module _ (s : Source) (known : Tabled s) (from : Place) (x : Identifier) (placed
             subst (λ z. OwnResult s from Alone z d result k) (sym (own_is true is.0 ∙ ap (λ z. if_own (z && false) (Some d)) inside)) (let j = is.2 refl in none_connected j.0 j.1)
         test true inside false is = subst (λ z. OwnResult s from Alone z d result k) (sym (own_is false is.0 ∙ ap (λ z. if_own (z && true) (Some d)) inside)) (inside_means from refl inside (is.1 refl))
 
+  -- the result of a match, from its inside
+  module _ (result : Option SimType) (own : Option DeclNo) (there : entry_of s.tables d ≡ Some (entry.Virtual result own)) where
+    matched : own_match s Alone ≡ own_of s.tables x (match_seen s.tables x)
+    unfolding own_match
+    matched = ap (λ c. match_if_virtual c (own_of s.tables x (match_seen s.tables x))) (ap (is_virtual_denoted s) says ∙ ap (entry_is is_virtual) there)
+
+    no_result : own_result s Alone ≡ None
+    unfolding own_result
+    no_result = ap (own_block_denoted s x.token.0) says ∙ ap (own_block s x.token.0) there
+
+    meant_is : (o : Option DeclNo) → own_match s Alone ≡ o → result_meant s Alone ≡ unless_connected (connection_at s x.token.0) (result_or_own (text_of_procedure s o) None)
+    unfolding result_meant
+    meant_is o is = ap (λ m. unless_connected (connection_at s x.token.0) (result_or_own (text_of_procedure s m) (own_result s Alone))) is ∙ ap (λ r. unless_connected (connection_at s x.token.0) (result_or_own (text_of_procedure s o) r)) no_result
+
+    -- the match that is meant is seen through no connection, inside its text
+    record MatchMeant (q : DeclNo) : Type 0 where
+      seen : match_seen s.tables x ≡ Some q
+      inside : inside_match s.tables x.token.0 (Some q) ≡ true
+      alone : through_connection s.tables x ≡ false
+
+    match_meant : (q : DeclNo) → own_of s.tables x (match_seen s.tables x) ≡ Some q → MatchMeant q
+    unfolding own_of
+    match_meant q e = go (match_seen s.tables x) refl (inside_match s.tables x.token.0 (match_seen s.tables x)) refl (through_connection s.tables x) refl e
+      where
+        go : (p : Option DeclNo) → match_seen s.tables x ≡ p → (b : Bool) → inside_match s.tables x.token.0 (match_seen s.tables x) ≡ b → (c : Bool) → through_connection s.tables x ≡ c → if_own (b && not c) (match_seen s.tables x) ≡ Some q → MatchMeant q
+        go p at true inside false alone e = record { seen = e; inside = sym (ap (inside_match s.tables x.token.0) e) ∙ inside; alone = alone }
+        go p at true inside true alone e = absurd (cc)
+        go p at false inside c alone e = absurd (cc)
+
+    solid : (c : Bool) → Connected c → through_connection s.tables x ≡ false → connection_at s x.token.0 ≡ None
+    solid false is alone = is.1 refl
+    solid true is alone = absurd (false≢true (sym alone ∙ is.0))
+
+    match_left : (f : Place) → text_of f ≡ text_of from → (q : DeclNo) → own_match s Alone ≡ Some q → MatchMeant q → MatchResult s f Alone result (Some q)
+    match_left (InBound t) same q is_match m = tt
+    match_left (In t) same q is_match m = record {
+      there = fit;
+      meant = meant_is (Some q) is_match ∙ ap (λ c. unless_connected c (result_or_own (text_of_procedure s (Some q)) None)) none ∙ ap (λ b. result_or_own b None) block;
+      typed = ap (λ o. type_of_left s o (type_at s x.token.0)) is_match ∙ ap given_in fit.declares;
+      left = λ type given. (let kept : ResultIs s t fit.block (held_by s type) = (around, result_kept s known q fit.given fit.block fit.declares type given) in (
+        subst (λ c. LeftResultOr s t c (text_of_procedure s (own_match s Alone)) (held_by s type) (LeftNamed s t (connection_at s x.token.0) (denoted s x.token.0) NoMore (AreIntegers s (In t) NoMore) (held_by s type))) (sym none)
+            (subst (λ o. LeftResultOr s t None o (held_by s type) (LeftNamed s t (connection_at s x.token.0) (denoted s x.token.0) NoMore (AreIntegers s (In t) NoMore) (held_by s type))) (sym (ap (text_of_procedure s) is_match ∙ block)) kept),
+        kept,
+      ));
+    }
+      where
+        fit : MatchFits s result q
+        fit = known.matches x d q result own binds there m.seen
+
+        block : text_of_procedure s (Some q) ≡ Some (known.matches x d q result own binds there m.seen).block
+        block = ap procedure_text fit.declares
+
+        none : connection_at s x.token.0 ≡ None
+        none = solid connection_is.0 connection_is.1 m.alone
+
+        inside : is_inside s.tables x.token.0 (known.matches x d q result own binds there m.seen).block ≡ true
+        inside = sym (ap (λ (z : Option Entry). (elim (block_in z) as (λ u. Bool) [ None ↦ false | Some k ↦ is_inside s.tables x.token.0 k ])) fit.declares) ∙ m.inside
+
+        around : Around s.tables t (known.matches x d q result own binds there m.seen).block
+        around = subst (λ z. Around s.tables z fit.block) (sym same) (known.inside x.token.0 (text_of from) fit.block placed inside)
+
+    match_means : MatchResult s from Alone result (own_undotted s.tables x (is_undotted x.token.0 x) (match_seen s.tables x))
+    match_means = subst (λ z. MatchResult s from Alone result (own_undotted s.tables x z (match_seen s.tables x))) (sym (same_token x.token.0)) (go (own_of s.tables x (match_seen s.tables x)) refl)
+      where
+        go : (o : Option DeclNo) → own_of s.tables x (match_seen s.tables x) ≡ o → MatchResult s from Alone result o
+        go None e = (meant_is None (matched ∙ e) ∙ unconnected_none (connection_at s x.token.0), matched ∙ e)
+        go (Some q) e = match_left from refl q (matched ∙ e) (match_meant q e)
+
 -- a standard name is the result of no procedure
-standard_owner : (s : Source) (x : Identifier) (es : Expressions) (name : StandardName) → denoted s x.token.0 ≡ Some (denotation.Standard name) → result_meant s (syntax.Named x es) ≡ None
-unfolding result_meant own_result
-standard_owner s x NoMore name says = ap (λ z. unless_connected (connection_at s x.token.0) (own_block_denoted s x.token.0 z)) says ∙ unconnected_none (connection_at s x.token.0)
-standard_owner s x (Then e es) name says = unconnected_none (connection_at s x.token.0)
+standard_owner : (s : Source) (x : Identifier) (es : Expressions) (name : StandardName) → denoted s x.token.0 ≡ Some (denotation.Standard name) → NoOwn s (syntax.Named x es)
+unfolding own_result
+standard_owner s x es name says = let m = standard_no_match s x es name says in (meant_without s x es m ∙ none es, m)
+  where
+    none : (es : Expressions) → unless_connected (connection_at s x.token.0) (own_result s (syntax.Named x es)) ≡ None
+    none NoMore = ap (λ z. unless_connected (connection_at s x.token.0) (own_block_denoted s x.token.0 z)) says ∙ unconnected_none (connection_at s x.token.0)
+    none (Then e es) = unconnected_none (connection_at s x.token.0)
 
 -- ---- an identifier
 
@@ -185,7 +260,7 @@ module _ (s : Source) (known : Tabled s) (from : Place) (e : Extent) (sight : Si
           let t = known.there x.token.0 x.name d binds in
           subst (λ z. Means true s from (syntax.Named x NoMore) (declared_alone s.tables x.token.0 x d z).value) (sym t.1)
           (alone_means s known from (syntax.Named x NoMore) x.token.0 d (Here d) (here d says binds open_to b.found) (use_of NoMore d says binds open_to b.found) x t.0 t.1 (known.proper d t.0 t.1)
-          (λ result k there. own_means s known from x placed d says binds b.found result k there) (subst (λ z. AllSay s (declared_alone s.tables x.token.0 x d z).events) t.1 said))
+          (λ result k there. own_means s known from x placed d says binds b.found result k there) (λ result own there. match_means s known from x placed d says binds b.found result own there) (subst (λ z. AllSay s (declared_alone s.tables x.token.0 x d z).events) t.1 said))
       go (denotation.Standard name) is says binds open_to said =
           let alone = bound_name s x.token.0 x.name name binds in
           standard_without s from (syntax.Named x NoMore) name x.token.0 refl (ap stream_denoted says) (standard_owner s x NoMore name says) (alone_proper name alone) x.token
@@ -363,14 +438,14 @@ module _ (s : Source) (from : Place) (i : ℕ) (a : Expression) (x : Identifier)
           (dot_detaches s from i a x es (says ∙ ap (λ z. Some (denotation.Standard z)) y.0) y.1 (subst (λ z. AreOf s from es (kinds_of (signature z))) y.0 are))
 
   standard_alone : AllSay s (alone s.tables i x (denotation.Standard name)).events → Means true s from (syntax.Dot i a x NoMore) (alone s.tables i x (denotation.Standard name)).value
-  unfolding alone stream_of result_meant
-  standard_alone said = standard_without s from (syntax.Dot i a x NoMore) name i refl (sym dot_none) refl dot_proper x.token (λ other class are. dot_call NoMore are) said
+  unfolding alone own_match result_meant stream_of
+  standard_alone said = standard_without s from (syntax.Dot i a x NoMore) name i refl (sym dot_none) (refl, refl) dot_proper x.token (λ other class are. dot_call NoMore are) said
 
   standard_applies : (first : Expression) (rest : Expressions) (y : Actuals) → y.count ≡ size (Then first rest) → (y.misfit ≡ None → AllFit s from (Some (denotation.Standard name)) 0 (Then first rest))
       → AllSay s (applied s.tables i x.token.0 (denotation.Standard name) y).events → Means true s from (syntax.Dot i a x (Then first rest)) (applied s.tables i x.token.0 (denotation.Standard name) y).value
-  unfolding applied stream_of result_meant
+  unfolding applied own_match result_meant stream_of
   standard_applies first rest y count fits said =
-      standard_with s from (syntax.Dot i a x (Then first rest)) name i refl (sym dot_none) refl dot_proper (Then first rest) (λ other class are. dot_call (Then first rest) are) y count fits x.token.0 said
+      standard_with s from (syntax.Dot i a x (Then first rest)) name i refl (sym dot_none) (refl, refl) dot_proper (Then first rest) (λ other class are. dot_call (Then first rest) are) y count fits x.token.0 said
 
 -- ---- behind a dot: any attribute
 
@@ -385,17 +460,20 @@ declared_with s known from i a x d says b there plain has first rest y count fit
 
 module _ (s : Source) (known : Tabled s) (from : Place) (i : ℕ) (a : Expression) (x : Identifier) (apart : nat_eq i x.token.0 ≡ false) (o : Occurrence) where
   pub dot_alone : AttributeIs s from a x o → AllSay s (used s.tables i x o no_actuals).events → Means true s from (syntax.Dot i a x NoMore) (used s.tables i x o no_actuals).value
-  unfolding used result_meant alone
+  unfolding used own_match result_meant alone
   dot_alone (standard name is says which) said =
       subst (λ z. Means true s from (syntax.Dot i a x NoMore) (used s.tables i x z no_actuals).value) (sym is) (standard_alone s from i a x name says which (subst (λ z. AllSay s (used s.tables i x z no_actuals).events) is said))
   dot_alone (declared d is says b there plain has) said =
       subst (λ z. Means true s from (syntax.Dot i a x NoMore) (used s.tables i x z no_actuals).value) (sym is)
       (subst (λ z. Means true s from (syntax.Dot i a x NoMore) (declared_alone s.tables i x d z).value) (sym there)
-      (alone_means s known from (syntax.Dot i a x NoMore) i d (ObjectHas s (λ c. ExprIs s from a (Refers c)) d) has (dot_use s from i a x NoMore d says plain) x b there (known.proper d b there) (λ result k at. own result k)
+      (alone_means s known from (syntax.Dot i a x NoMore) i d (ObjectHas s (λ c. ExprIs s from a (Refers c)) d) has (dot_use s from i a x NoMore d says plain) x b there (known.proper d b there) (λ result k at. own result k) (λ result known at. match result)
       (subst (λ z. AllSay s (declared_alone s.tables i x d z).events) there (subst (λ z. AllSay s (used s.tables i x z no_actuals).events) is said))))
     where
       own : (result : Option SimType) (k : ℕ) → OwnResult s from (syntax.Dot i a x NoMore) (own_undotted s.tables x (is_undotted i x) (Some d)) d result k
-      own result k = subst (λ z. OwnResult s from (syntax.Dot i a x NoMore) (own_undotted s.tables x z (Some d)) d result k) (sym apart) refl
+      own result k = subst (λ z. OwnResult s from (syntax.Dot i a x NoMore) (own_undotted s.tables x z (Some d)) d result k) (sym apart) (refl, refl)
+
+      match : (result : Option SimType) → MatchResult s from (syntax.Dot i a x NoMore) result (own_undotted s.tables x (is_undotted i x) (match_seen s.tables x))
+      match result = subst (λ z. MatchResult s from (syntax.Dot i a x NoMore) result (own_undotted s.tables x z (match_seen s.tables x))) (sym apart) (refl, refl)
 
   pub dot_with : (first : Expression) (rest : Expressions) (y : Actuals) → AttributeIs s from a x o → AllActuals s from o.denotes (Then first rest) no_actuals y → AllSay s (used s.tables i x o y).events → Means true s from (syntax.Dot i a x (Then first rest)) (used s.tables i x o y).value
   unfolding used

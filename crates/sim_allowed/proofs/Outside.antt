@@ -5,7 +5,7 @@ use Rattle.std.specs.Prelude.{nat_eq}
 use Rattle.sim_base.specs.declared.numbering.DeclNo.{DeclNo}
 use Rattle.sim_base.specs.declared.rule.Rule.TheVariants as r
 use Rattle.sim_tree.specs.declared.expr.Identifier.{Identifier}
-use Rattle.sim_tree.specs.Order.{InOrder}
+use Rattle.sim_agree.specs.Order.{InOrder}
 use Rattle.sim_tree.specs.Syntax.{Also, Arms, Arrays, Begin, Block, Declaration, Declarations, DeclareClass, DeclareProcedure, Expression, NoArm, NoDeclaration, NoStatement, Statement, Statements, Variables, When, With}
 use Rattle.sim_tree.specs.Syntax as syntax
 use Rattle.sim_scope.specs.declared.outcome.Extent.TheVariants as extent
@@ -201,7 +201,7 @@ mutual
       let v = judging s.tables in
       let x = both_say s (v.class prefix i h interface) (statement_events v ClassBody a ++ []) said in
       let y = both_say s (statement_events v ClassBody a) [] x.1 in
-      both_checked s (statement_events connections ClassBody a) [] (statement_checked s ClassBody a p.2 y.0) tt
+      both_checked s (statement_events connections ClassBody a) [] (statement_checked s ClassBody a p.1 y.0) tt
 
 program_checked : (s : Source) → Plain s.program → AllSay s (program_events (judging s.tables) s.program) → Checked s (program_events connections s.program)
 unfolding program_events judging connections

@@ -56,7 +56,7 @@ use Rattle.sim_agree.specs.Facts.{PlainType, ProperEntry, ProperFormal, ProperTy
 use Rattle.sim_agree.specs.Places.{PlacedArms, PlacedBlock, PlacedElement, PlacedExpression, PlacedName, PlacedSchedule, PlacedSide, PlacedStatement, PlacedStatements, class_of_name, class_of_type, PlacedPrefixed}
 use Rattle.sim_agree.specs.Plain.{Each, PlainArms, PlainBlock, PlainElement, PlainExpression, PlainSchedule, PlainSide, PlainStatement, PlainStatements}
 use Rattle.sim_allowed.proofs.Actuals.{Known}
-use Rattle.sim_allowed.proofs.Assigned.{Assignable, TargetsKnown, lefts_are, place_is_left}
+use Rattle.sim_allowed.proofs.Assigned.{Assignable, TargetsKnown, lefts_are, place_is_left, left_typed}
 use Rattle.sim_allowed.proofs.Calls.{called_means}
 use Rattle.sim_allowed.proofs.Classes.{class_held, class_qualifies, class_row, own_level, simply, simply_takes}
 use Rattle.sim_allowed.proofs.Declared.{NoResult, UseGives, UseIs, formal_type, never_procedure, never_untyped, simple_held, variable_left, variable_names}
@@ -277,12 +277,12 @@ module _ (s : Source) (known : Tabled s) (k : ℕ) (sight : Sight s (In k) exten
           let place = it.place ty (subst (λ z. PlaceDeclared s (Here d) NoMore (AreIntegers s (In k) NoMore) z (held_by s ty)) (sym there) a) in
           record {
             proper = p;
-            typed = typed;
+            typed = left_typed s (syntax.Named x NoMore) ty own.1 typed;
             left = place_is_left s k (syntax.Named x NoMore) (held_by s ty) place;
-            text = λ is. subst (λ z. TextLeft s k (syntax.Named x NoMore) z) (sym own)
+            text = λ is. subst (λ z. TextLeft s k (syntax.Named x NoMore) z) (sym own.0)
                 (it.value (Simply kind.Text) (subst (λ z. UseGives s (Here d) d NoMore (AreIntegers s (In k) NoMore) (λ fs. ActualsFit s (In k) NoMore fs) z (Some (Simply kind.Text))) (sym there)
                 (g (Simply kind.Text) (subst (λ z. Fits s (held_by s z) (Simply kind.Text)) (sym is) refl))));
-            reference = λ c is class held. subst (λ z. ReferenceAt s k (syntax.Named x NoMore) z class) (sym own) (subst (λ z. PlaceIs s k (syntax.Named x NoMore) z) (ap (held_by s) is ∙ held) place);
+            reference = λ c is class held. subst (λ z. ReferenceAt s k (syntax.Named x NoMore) z class) (sym own.0) (subst (λ z. PlaceIs s k (syntax.Named x NoMore) z) (ap (held_by s) is ∙ held) place);
           }
 
       entry_is : (e : Entry) → entry_of s.tables d ≡ Some e → ProperEntry s e → AllSay s (entry_controlled sign x.token.0 (Some e)).events → ControlledIs s k sign x (entry_controlled sign x.token.0 (Some e)).value
@@ -305,7 +305,7 @@ module _ (s : Source) (known : Tabled s) (k : ℕ) (sight : Sight s (In k) exten
       entry_is (entry.Array element n) there p said = absurd said.0
       entry_is (entry.Procedure result j) there p said = absurd said.0
       entry_is (entry.Class j) there p said = absurd said.0
-      entry_is (entry.Virtual result own) there p said = absurd p
+      entry_is (entry.Virtual result own) there p said = absurd said.0
 
     pub controlled_is : PlacedName s.tables k x → AllSay s (controlled s.tables sign x).events → ControlledIs s k sign x (controlled s.tables sign x).value
     unfolding controlled next simple telling

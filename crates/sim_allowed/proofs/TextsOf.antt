@@ -112,7 +112,7 @@ class_alone_fine s prefix i h interface a end c p q there said deep =
     let v = judging s.tables in
     let x = both_say s (v.class prefix i h interface) (statement_events v ClassBody a ++ v.leave end) said in
     let y = both_say s (statement_events v ClassBody a) (v.leave end) x.1 in
-    subst (λ z. AllFine s z) (sym (alone_texts prefix a c i h interface end)) (alone_fine s prefix h a c p.2 q there y.0 (deep p.2 q there y.0))
+    subst (λ z. AllFine s z) (sym (alone_texts prefix a c i h interface end)) (alone_fine s prefix h a c p.1 q there y.0 (deep p.1 q there y.0))
 
 mutual
   unfolding judging
@@ -223,7 +223,7 @@ mutual
       let v = judging s.tables in
       let x = both_say s (v.class prefix i h interface) (class_events v b ++ v.leave end) said in
       let y = both_say s (class_events v b) (v.leave end) x.1 in
-      class_fine s prefix i h interface b end p.2 q there y.0
+      class_fine s prefix i h interface b end p.1 q there y.0
   declaration_fine s (DeclareClass prefix i h interface a end) p q there said = class_alone_fine s prefix i h interface a end tt p q there said (λ c d t say. statement_fine s ClassBody a tt c d t say)
 
   -- a class whose body is a block

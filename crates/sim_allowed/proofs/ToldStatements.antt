@@ -487,7 +487,7 @@ module _ (s : Tables) where
         let v = judging s in
         let u = Behind end ∷ l in
         let m = in_each in_name h.formals (in_statement a u) in
-        fills_both (class_prefix_events s prefix h.name.token.0) (statement_events v ClassBody a ++ []) l (Token h.name.token.0 ∷ m) (in_prefix prefix (Token h.name.token.0 ∷ m)) (prefix_fills s prefix h.name.token.0 (Token h.name.token.0 ∷ m)) (headed_fills h end (statement_events v ClassBody a) l (in_statement a u) (statement_fills ClassBody a p.2 u))
+        fills_both (class_prefix_events s prefix h.name.token.0) (statement_events v ClassBody a ++ []) l (Token h.name.token.0 ∷ m) (in_prefix prefix (Token h.name.token.0 ∷ m)) (prefix_fills s prefix h.name.token.0 (Token h.name.token.0 ∷ m)) (headed_fills h end (statement_events v ClassBody a) l (in_statement a u) (statement_fills ClassBody a p.1 u))
 
   start_fills : (o : Option Prefix) (b : Block) → PlainBlock b → Fills (program_prefix_events s o (begin_of b) ++ whole_events (judging s) b) [] (in_start o (in_block b []))
   unfolding program_prefix_events

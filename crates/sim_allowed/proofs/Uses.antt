@@ -20,10 +20,10 @@ use Rattle.sim_scope.specs.declared.types.Entry.{Entry}
 use Rattle.sim_scope.specs.declared.types.Entry.TheVariants as entry
 use Rattle.sim_scope.specs.declared.types.Formal.{Formal}
 use Rattle.sim_scope.specs.declared.types.SimType.{SimType}
-use Rattle.sim_scope.specs.Calls.{bound, found_as, is_barred, located, misfitting_or, occurs, parameter_count, resulting, standard_applied, typed_if, used_in, used_or_barred}
+use Rattle.sim_scope.specs.Calls.{bound, found_as, is_barred, located, misfitting_or, occurs, parameter_count, resulting, standard_applied, typed_if, used_in, used_or_barred, match_seen, own_of}
 use Rattle.sim_scope.specs.Judged.{Judged, gives, next, telling}
 use Rattle.sim_scope.specs.Outcomes.{breaks, call_of, is_stream}
-use Rattle.sim_scope.specs.Scopes.{binding, entry_of, found_in}
+use Rattle.sim_scope.specs.Scopes.{binding, entry_of, found_in, entry_is, is_virtual}
 use Rattle.sim_scope.specs.Source.{Source, denoted, found_at, type_at}
 use Rattle.sim_scope.specs.Standard.{is_standard_class, signature}
 use Rattle.sim_tree.specs.declared.expr.Identifier.{Identifier}
@@ -34,19 +34,20 @@ use Rattle.sim_values.specs.declared.standard.Standard.TheVariants as name_of
 use Rattle.sim_code.specs.Simulations.{is_simulation_name}
 use Rattle.sim_code.specs.Transfers.{Calling, Detaching, Resuming, Transfer}
 use Rattle.sim_meaning.specs.Attributes.{attribute_denoted, attribute_if, connection_at, is_standard_attribute, own_attribute, transfer_at, transfer_denoted, transfer_named}
-use Rattle.sim_meaning.specs.Closing.{is_text, is_text_type, own_block, own_block_denoted, own_result, result_meant, stream_denoted, stream_of, typed_token, unless_connected}
+use Rattle.sim_meaning.specs.Closing.{is_text, is_text_type, own_block, own_block_denoted, own_result, result_meant, stream_denoted, stream_of, typed_token, unless_connected, is_virtual_denoted, match_if_virtual, own_match, result_or_own}
 use Rattle.sim_meaning.specs.Names.{procedure_named, stream_named}
 use Rattle.sim_meaning.specs.Statements.{denoted_leaves, leaves}
+use Rattle.sim_meaning.specs.Virtuals.{text_of_procedure}
 use Rattle.sim_sound.specs.Held.{Holds, In, InBound, Place, Refers, Simply, held_by}
 use Rattle.sim_sound.specs.Expressions.{ActualsFit, AreIntegers, AreOf, DeclaredGives, DotGives, ExprIs, IdentifierGives, KnownAt, NamedGives, ObjectHas, OwnGives, OwnKnown, OwnNameGives, SetGives, SimulationGives, SimulationKnown, ThisFound}
-use Rattle.sim_sound.specs.Statements.{LeftDeclared, LeftDot, NoText, OrTransferIs, PlaceDeclared, PlaceNamed, TransferIs, is_given}
+use Rattle.sim_sound.specs.Statements.{LeftDeclared, LeftDot, NoText, OrTransferIs, PlaceDeclared, PlaceNamed, TransferIs, is_given, LeftResultOr}
 use Rattle.sim_agree.specs.Facts.{PlainGiven}
 use Rattle.sim_agree.proofs.Unprefixed.{standard_is as standard_found}
 use Rattle.sim_allowed.proofs.Actuals.{AllFit, all_operands, size}
 use Rattle.sim_allowed.proofs.Calls.{call_means}
 use Rattle.sim_allowed.proofs.Classes.{plain_proper, plain_same}
 use Rattle.sim_allowed.proofs.Declared.{GivenFor, NoResult, UseGives, UseIs}
-use Rattle.sim_allowed.proofs.Meant.{CallGiven, CallsFor, DotAs, GivesNone, InText, Means, NamedAs, TypeThere, Varies}
+use Rattle.sim_allowed.proofs.Meant.{CallGiven, CallsFor, DotAs, GivesNone, InText, Means, NamedAs, TypeThere, Varies, NoOwn}
 use Rattle.sim_allowed.proofs.Names.{IsProcedure, NoAttribute, alone_name, call_kinds, call_result, detach_kinds, detach_result, given_by, kinds_of, parameter_kinds, resume_kinds, resume_result, standard_gives, standard_left, which_transfer}
 use Rattle.sim_allowed.proofs.Nowhere.{is_nowhere}
 use Rattle.sim_allowed.proofs.Said.{AllSay, both_say}
@@ -119,7 +120,7 @@ no_parameters : (first second : Option SimType) → first ≡ None → parameter
 no_parameters None second e = refl
 no_parameters (Some a) second e = absurd (cc)
 
-module _ (s : Source) (from : Place) (e : Expression) (name : StandardName) (naming : ℕ) (at : typed_token e ≡ naming) (stream : stream_of s e ≡ stream_named name) (unowned : result_meant s e ≡ None) (proper : PlainGiven (signature name).result) where
+module _ (s : Source) (from : Place) (e : Expression) (name : StandardName) (naming : ℕ) (at : typed_token e ≡ naming) (stream : stream_of s e ≡ stream_named name) (unowned : NoOwn s e) (proper : PlainGiven (signature name).result) where
   type_there : (o : Outcome) → AllSay s (typed_if naming (signature name).result o).events → is_stream name ≡ false → TypeThere s e (signature name).result
   unfolding telling gives is_text
   type_there o said other = go (signature name).result proper said
@@ -314,6 +315,46 @@ pub unconnected_none : (c : Option ℕ) → unless_connected c None ≡ None
 unconnected_none None = refl
 unconnected_none (Some k) = refl
 
+-- a left side that is the result of no match
+pub left_or : (s : Source) (t : ℕ) (c m : Option ℕ) (h : Holds) (Other : Type 0) → m ≡ None → Other → LeftResultOr s t c m h Other
+left_or s t None None h O e a = a
+left_or s t (Some k) None h O e a = a
+left_or s t c (Some b) h O e a = absurd (cc)
+
+-- it is the result of no match
+no_match_of : (s : Source) (x : Identifier) (es : Expressions) → is_virtual_denoted s (denoted s x.token.0) ≡ false → own_match s (syntax.Named x es) ≡ None
+unfolding own_match
+no_match_of s x (Then e es) plain = refl
+no_match_of s x NoMore plain = ap (λ c. match_if_virtual c (own_of s.tables x (match_seen s.tables x))) plain
+
+pub no_match : (s : Source) (x : Identifier) (d : DeclNo) (es : Expressions) → denoted s x.token.0 ≡ Some (denotation.Declared d) → entry_is is_virtual (entry_of s.tables d) ≡ false → own_match s (syntax.Named x es) ≡ None
+no_match s x d es says plain = no_match_of s x es (ap (is_virtual_denoted s) says ∙ plain)
+
+pub standard_no_match : (s : Source) (x : Identifier) (es : Expressions) (name : StandardName) → denoted s x.token.0 ≡ Some (denotation.Standard name) → own_match s (syntax.Named x es) ≡ None
+standard_no_match s x es name says = no_match_of s x es (ap (is_virtual_denoted s) says)
+
+result_no_match : (s : Source) (x : Identifier) (d : DeclNo) (es : Expressions) → denoted s x.token.0 ≡ Some (denotation.Declared d) → NoResult (entry_of s.tables d) es → own_match s (syntax.Named x es) ≡ None
+unfolding own_match
+result_no_match s x d (Then e es) says none = refl
+result_no_match s x d NoMore says none = no_match s x d NoMore says (go (entry_of s.tables d) none)
+  where
+    go : (o : Option Entry) → NoResult o NoMore → entry_is is_virtual o ≡ false
+    go None n = refl
+    go (Some (entry.Procedure result k)) n = refl
+    go (Some (entry.Variable type)) n = refl
+    go (Some (entry.Constant type)) n = refl
+    go (Some (entry.Array type m)) n = refl
+    go (Some (entry.Class k)) n = refl
+    go (Some (entry.Virtual result own)) n = absurd n
+    go (Some (entry.Formal f)) n = refl
+    go (Some (entry.Unspecified w)) n = refl
+    go (Some (entry.Attribute name w result)) n = refl
+
+-- then what is meant is the result of the procedure that is denoted
+pub meant_without : (s : Source) (x : Identifier) (es : Expressions) → own_match s (syntax.Named x es) ≡ None → result_meant s (syntax.Named x es) ≡ unless_connected (connection_at s x.token.0) (own_result s (syntax.Named x es))
+unfolding result_meant
+meant_without s x es none = ap (λ m. unless_connected (connection_at s x.token.0) (result_or_own (text_of_procedure s m) (own_result s (syntax.Named x es)))) none
+
 no_own : (s : Source) (x : Identifier) (d : DeclNo) (es : Expressions) → denoted s x.token.0 ≡ Some (denotation.Declared d) → NoResult (entry_of s.tables d) es → own_result s (syntax.Named x es) ≡ None
 unfolding own_result
 no_own s x d (Then e es) says none = refl
@@ -434,7 +475,7 @@ identifier_place s from token es I d None None e h a = a
 identifier_place s from token es I d None (Some q) e h a = absurd (attribute_no_place s (OwnHere s from token d (entry_of s.tables d)) I es (entry_of s.tables d) h (own_is s q d e).is a)
 
 pub named_use : (s : Source) (from : Place) (x : Identifier) (es : Expressions) (d : DeclNo) → denoted s x.token.0 ≡ Some (denotation.Declared d) → EitherAttribute (entry_of s.tables d) → ThroughSeen s x.token.0 d → UseIs s from (syntax.Named x es) x.token.0 d es (KnownHere s from x.token.0 (connection_at s x.token.0) (own_attribute s x.token.0) d)
-unfolding stream_of result_meant
+unfolding stream_of
 named_use s from x es d says either through = record {
   at = refl;
   stream = ap stream_denoted says;
@@ -443,7 +484,8 @@ named_use s from x es d says either through = record {
       named_given s from x es h (declared_transfers s x.token.0 d says) (identifier_gives s from x es d says either (connection_at s x.token.0) through (own_attribute s x.token.0) (own_declared s x.token.0 d says) h a) (ap (denoted_leaves s) says ∙ left);
   calls = λ result g. named_calls s from x es result g;
   place = λ type a. place from type a;
-  unowned = λ none. ap (unless_connected (connection_at s x.token.0)) (no_own s x d es says none) ∙ unconnected_none (connection_at s x.token.0);
+  unowned = λ none. (let m = result_no_match s x d es says none in
+      (meant_without s x es m ∙ ap (unless_connected (connection_at s x.token.0)) (no_own s x d es says none) ∙ unconnected_none (connection_at s x.token.0), m));
 }
   where
     place : (from : Place) (type : SimType) → PlaceDeclared s (KnownHere s from x.token.0 (connection_at s x.token.0) (own_attribute s x.token.0) d) es (AreIntegers s from es) (entry_of s.tables d) (held_by s type) → Varies s from (syntax.Named x es) type
@@ -453,7 +495,7 @@ named_use s from x es d says either through = record {
         (identifier_place s (In t) x.token.0 es (AreIntegers s (In t) es) d (connection_at s x.token.0) (own_attribute s x.token.0) (own_declared s x.token.0 d says) (held_by s type) a)
 
 pub dot_use : (s : Source) (from : Place) (i : ℕ) (b : Expression) (x : Identifier) (es : Expressions) (d : DeclNo) → denoted s x.token.0 ≡ Some (denotation.Declared d) → AttributeThere (entry_of s.tables d) → UseIs s from (syntax.Dot i b x es) i d es (ObjectHas s (λ c. ExprIs s from b (Refers c)) d)
-unfolding stream_of result_meant
+unfolding own_match result_meant stream_of
 dot_use s from i b x es d says plain = record {
   at = refl;
   stream = refl;
@@ -463,7 +505,7 @@ dot_use s from i b x es d says plain = record {
       (ap (denoted_leaves s) says ∙ left);
   calls = λ result g. dot_calls s from i b x es result g;
   place = λ type a. place from type a;
-  unowned = λ none. refl;
+  unowned = λ none. (refl, refl);
 }
   where
     place : (from : Place) (type : SimType) → PlaceDeclared s (ObjectHas s (λ c. ExprIs s from b (Refers c)) d) es (AreIntegers s from es) (entry_of s.tables d) (held_by s type) → Varies s from (syntax.Dot i b x es) type

@@ -26,8 +26,9 @@ use Rattle.sim_code.specs.Simulations.{is_simulation_name}
 use Rattle.sim_meaning.specs.Closing.{class_parameters}
 use Rattle.sim_meaning.specs.Entries.{formals_of, is_held, numbers_of}
 use Rattle.sim_meaning.specs.Texts.{BlockText, ClassText, ConnectionText, PrefixedText, ProcedureText, StandardText, Text, is_class_free, text}
+use Rattle.sim_meaning.specs.Virtuals.{match_in_text}
 use Rattle.sim_sound.specs.Held.{Among, ArrayOf, Holds, IsFormal, entry_holds, result_holds}
-use Rattle.sim_sound.specs.Typed.{BlockTyped, ClassThere, ClassTyped, ConnectionTyped, Distinct, FormalsAre, IsAttribute, NoFormals, ProcedureThere, ProcessClassThere, ResultWritten, SetClassThere, SetProcedureThere, SimulationClasses, SimulationProcedureThere, Starts, TextTyped, Typed, arrays_of_block}
+use Rattle.sim_sound.specs.Typed.{BlockTyped, ClassThere, ClassTyped, ConnectionTyped, Distinct, FormalsAre, IsAttribute, NoFormals, ProcedureThere, ProcessClassThere, ResultWritten, SetClassThere, SetProcedureThere, SimulationClasses, SimulationProcedureThere, Starts, TextTyped, Typed, arrays_of_block, MatchThere}
 use Rattle.sim_agree.specs.Facts.{Tabled}
 use Rattle.sim_agree.specs.Places.{PlacedArrays, PlacedStatement, PlacedStatements}
 use Rattle.sim_agree.specs.Plain.{Plain}
@@ -72,6 +73,7 @@ pub record Agreed (s : Source) : Type 0 where
   pub levels : (t u : ℕ) → is_connection (text s t) ≡ false → encloser s.tables t ≡ Some u → level_of s t ≡ suc (level_of s u)
   pub listed : (d : DeclNo) (row : Declaration) (h : Holds) → slice_get s.tables.declarations d.0 ≡ Some row → entry_holds s true (Some row.entry) ≡ Some h → Among d (numbers_of s row.block)
   pub procedures : (d : DeclNo) (result : Option SimType) (k : ℕ) → entry_of s.tables d ≡ Some (entry.Procedure result k) → ProcedureThere s d k
+  pub matches : (v : DeclNo) (result : Option SimType) (own : Option DeclNo) (k match : ℕ) → entry_of s.tables v ≡ Some (entry.Virtual result own) → match_in_text s v.0 (Some k) ≡ Some (Some match) → MatchThere s result k match
   pub classes : (d : DeclNo) (k : ℕ) → entry_of s.tables d ≡ Some (entry.Class k) → ClassThere s d k
   pub set_classes : (k : ℕ) (which : StandardClass) → text s k ≡ Some (StandardText which) → SetClassThere s k which
   pub set_procedures : (d : DeclNo) (name : Standard) (parameter result : Option SimType) → entry_of s.tables d ≡ Some (entry.Attribute name parameter result) → is_attribute_name name ≡ true → SetProcedureThere s d name parameter result
@@ -139,6 +141,8 @@ module _ (s : Source) (agreed : Agreed s) (plain : Plain s.program) (filled : Fi
     levels = agreed.levels;
     listed = agreed.listed;
     procedures = agreed.procedures;
+    virtuals = tabled.virtuals;
+    matches = agreed.matches;
     classes = agreed.classes;
     set_classes = agreed.set_classes;
     set_procedures = agreed.set_procedures;

@@ -1,1 +1,2 @@
 pub mod KeptInstances
+pub mod MatchParameters

@@ -2,14 +2,16 @@
 use Rattle.std.proofs.Common.{◌≡◌, ◌<◌, ◌≤◌, ◌+◌, ℕ, zero, suc, Bool, if◌then◌else◌, true, false, List, [], ◌∷◌, length, Option, Some, None, refl, sym, ap, ◌∙◌, subst, arith}
 use Rattle.std.specs.Prelude.{slice_get}
 use Rattle.sim_base.specs.declared.numbering.DeclNo.{DeclNo}
+use Rattle.sim_scope.specs.declared.types.Entry.{Entry}
 use Rattle.sim_scope.specs.declared.types.Entry.TheVariants as entry
 use Rattle.sim_scope.specs.declared.types.SimType.{SimType}
 use Rattle.sim_scope.specs.declared.types.StandardClass.{StandardClass}
 use Rattle.sim_scope.specs.declared.types.StandardClass.TheVariants as standard
 use Rattle.sim_scope.specs.Access.{encloser}
+use Rattle.sim_scope.specs.Actuals.{result_in}
 use Rattle.sim_scope.specs.Levels.{base}
-use Rattle.sim_scope.specs.Scopes.{entry_of}
-use Rattle.sim_scope.specs.Source.{Source, level_of}
+use Rattle.sim_scope.specs.Scopes.{entry_is, entry_of, is_virtual}
+use Rattle.sim_scope.specs.Source.{Source, block_of, level_of}
 use Rattle.sim_tree.specs.declared.stmt.TypeName.{TypeName}
 use Rattle.sim_meaning.specs.Attributes.{is_connection}
 use Rattle.sim_meaning.specs.Closing.{has_type}
@@ -17,14 +19,16 @@ use Rattle.sim_meaning.specs.Entries.{numbers_of}
 use Rattle.sim_meaning.specs.Levels.{has_levels, is_class}
 use Rattle.sim_meaning.specs.Meaning.{has_result}
 use Rattle.sim_meaning.specs.Texts.{BlockText, ClassText, ConnectionText, PrefixedText, ProcedureText, StandardText, Text, text}
-use Rattle.sim_sound.specs.Held.{Among, first, given_by, later}
+use Rattle.sim_meaning.specs.Virtuals.{match_in_text}
+use Rattle.sim_sound.specs.Held.{Among, FitsIn, first, given_by, later}
+use Rattle.sim_sound.specs.Typed as typed
 use Rattle.sim_sound.specs.Typed.{ConnectionTyped, Distinct, Ends as BaseEnds, Home, ResultWritten, Typed, connected, outermost, prefixed, set_place, stands}
 use Rattle.sim_sound.proofs.Attributes.{holds_result}
 use Rattle.sim_sound.proofs.Lists.{same_some}
-use Rattle.sim_sound.proofs.Prefixes.{level_has, level_is, level_number, prefix_level, same_level as own_level}
+use Rattle.sim_sound.proofs.Prefixes.{level_has, level_is, level_number, levels_solid, prefix_level, same_level as own_level}
 use Rattle.sim_sound.proofs.Prefixes as prefixes
 use Rattle.codegen_expr.specs.Sites.{LevelOf, frame_text, frame_within, innermost, is_connected, outer, outward_or, prefix_of}
-use Rattle.codegen.specs.Agrees.{Agrees, Ends, PrefixThere, ProcedureThere, ProcessBrought, before, is_prefixed, last}
+use Rattle.codegen.specs.Agrees.{Agrees, Ends, MatchThere, PrefixThere, ProcedureThere, ProcessBrought, before, is_prefixed, last}
 use Rattle.sim_built.specs.Laid.{Laid}
 use Rattle.sim_built.proofs.Cells.{class_is_solid, front_is, level_solid, no_front}
 
@@ -76,6 +80,18 @@ module _ (s : Source) (ok : Typed s) (laid : Laid s) where
         around = p.around;
         same = both_given s p.given result (subst (ResultWritten p.given) (holds_result s ok d result k e) body.result);
       }
+
+  -- what matches a virtual in a text with levels stands in one of these
+  fits_both : (own result : Option SimType) → FitsIn s (given_by s own) (given_by s result) → has_type own ≡ has_type result
+  fits_both None None f = refl
+  fits_both (Some t) (Some u) f = refl
+  fits_both None (Some u) f = absurd f
+  fits_both (Some t) None f = absurd f
+
+  match_typed : (v k match : ℕ) (y : Option Entry) → entry_of s.tables (record { 0 = v }) ≡ y → entry_is is_virtual y ≡ true → match_in_text s v (Some k) ≡ Some (Some match) → typed.MatchThere s (result_in y) k match
+  match_typed v k match (Some (entry.Virtual result own)) at is e = ok.matches (record { 0 = v }) result own k match at e
+  match_typed v k match None at is e = absurd (cc)
+  match_typed v k match (Some _) at is e = absurd (cc)
 
   -- a text that is no connection has its own frames
   own_frame : (k : ℕ) → is_connection (text s k) ≡ false → frame_text s k ≡ k
@@ -265,6 +281,22 @@ module _ (s : Source) (ok : Typed s) (laid : Laid s) where
       third : (n : ℕ) → n + 1 + 2 ≡ n + 3
       third n = omega arith
 
+  matches : (v k match : ℕ) → entry_is is_virtual (entry_of s.tables (record { 0 = v })) ≡ true → has_levels (text s k) ≡ true → match_in_text s v (Some k) ≡ Some (Some match) → MatchThere s v k match
+  matches v k match is has e =
+      let p = match_typed v k match (entry_of s.tables (record { 0 = v })) refl is e in
+      let d = p.declaration in
+      let there = procedure d p.own match p.declares in record {
+        around = block_of s d;
+        is = there.around;
+        level = front_level (levels_solid (text s k) has) (level_is s k (block_of s d) p.level);
+        given = there.given;
+        heading = there.heading;
+        body = there.body;
+        procedure = there.is;
+        alone = p.alone;
+        same = there.same ∙ fits_both p.own (result_in (entry_of s.tables (record { 0 = v }))) p.gives;
+      }
+
   pub agrees : Agrees s
   agrees = record {
     outermost = ok.outermost;
@@ -282,6 +314,7 @@ module _ (s : Source) (ok : Typed s) (laid : Laid s) where
     formals = laid.formals;
     classes = λ d k e. (ok.classes d k e).around;
     procedures = procedure;
+    matches = matches;
     processes = process_brought;
     blocks = blocks;
     standards = standards;

@@ -88,6 +88,7 @@ module _ (s : Source) (ok : Typed s) (laid : Laid s) (t : ℕ) (d : DeclNo) (Kno
     pub declared_built : (Actuals Given : List Formal → Type 0) (y : Option Entry) (h : Option Holds) → entry_of s.tables d ≡ y → is_standard_attribute y ≡ false → ((fs : List Formal) → Actuals fs → Given fs) → DeclaredGives s Known d es Indices Actuals y h → DeclaredBuilt s t d y es (AreBuilt s t es) Given
     declared_built Actuals Given (Some (entry.Procedure result k)) h e o g a = (seen a.1, subst Given (sym (formals_same s d result k e)) (g (formals_of s k) a.2))
     declared_built Actuals Given (Some (entry.Attribute name parameter result)) h e o g a = absurd (cc)
+    declared_built Actuals Given (Some (entry.Virtual result own)) h e o g a = seen a.1
     declared_built Actuals Given None h e o g a = absurd a
     declared_built Actuals Given (Some (entry.Variable ty)) None e o g a = absurd a
     declared_built Actuals Given (Some (entry.Variable ty)) (Some h) e o g a = variable_built (held_by s ty) (ap (entry_holds s false) e) (names_alone s Known Indices es (held_by s ty) h (no_array s ty) a)
@@ -163,6 +164,7 @@ module _ (s : Source) (ok : Typed s) (laid : Laid s) (t : ℕ) (d : DeclNo) (Kno
     pub of_object_built : (Actuals Given : List Formal → Type 0) (y : Option Entry) (h : Option Holds) → entry_of s.tables d ≡ y → ((fs : List Formal) → Actuals fs → Given fs) → ((fs : List Formal) → Actuals fs → operands es ≡ length fs) → DeclaredGives s Known d es Indices Actuals y h → OfObjectBuilt s d y es Object (AreBuilt s t es) (Given (formals_at s d))
     of_object_built Actuals Given (Some (entry.Procedure result k)) h e g n a = (object a.1, subst Given (sym (formals_same s d result k e)) (g (formals_of s k) a.2))
     of_object_built Actuals Given (Some (entry.Attribute name parameter result)) h e g n a = set_procedure_built Actuals Given name parameter result h e g n a
+    of_object_built Actuals Given (Some (entry.Virtual result own)) h e g n a = object a.1
     of_object_built Actuals Given None h e g n a = absurd a
     of_object_built Actuals Given (Some (entry.Variable ty)) None e g n a = absurd a
     of_object_built Actuals Given (Some (entry.Variable ty)) (Some h) e g n a = variable_of (held_by s ty) (ap (entry_holds s false) e) (names_alone s Known Indices es (held_by s ty) h (no_array s ty) a)

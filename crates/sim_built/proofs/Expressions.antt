@@ -67,6 +67,10 @@ declared_gives s Known d es Indices Actuals (Some (entry.Attribute name paramete
 declared_gives s Known d es Indices Actuals (Some (entry.Attribute name parameter None)) (Some h) a = absurd a.1
 declared_gives s Known d es Indices Actuals (Some (entry.Attribute name parameter (Some t))) None a = absurd a.1
 declared_gives s Known d es Indices Actuals (Some (entry.Attribute name parameter (Some t))) (Some h) a = refl
+declared_gives s Known d es Indices Actuals (Some (entry.Virtual None own)) None a = refl
+declared_gives s Known d es Indices Actuals (Some (entry.Virtual None own)) (Some h) a = absurd a.0
+declared_gives s Known d es Indices Actuals (Some (entry.Virtual (Some t) own)) None a = absurd a.0
+declared_gives s Known d es Indices Actuals (Some (entry.Virtual (Some t) own)) (Some h) a = refl
 declared_gives s Known d es Indices Actuals None h a = absurd a
 declared_gives s Known d es Indices Actuals (Some (entry.Constant t)) None a = absurd a
 declared_gives s Known d es Indices Actuals (Some (entry.Constant t)) (Some h) a = refl

@@ -21,17 +21,18 @@ use Rattle.sim_tree.specs.Syntax as syntax
 use Rattle.sim_values.specs.declared.kind.Kind.{Kind}
 use Rattle.sim_values.specs.declared.kind.Kind.TheVariants as kind
 use Rattle.sim_meaning.specs.Attributes.{connection_at, declared_attribute}
-use Rattle.sim_meaning.specs.Closing.{block_if, own_block, own_block_denoted, own_result, result_meant, stream_of, unless_connected}
+use Rattle.sim_meaning.specs.Closing.{block_if, own_block, own_block_denoted, own_match, own_result, result_meant, result_or_own, stream_of, unless_connected}
 use Rattle.sim_meaning.specs.Pending.{Declared, Key, Result}
 use Rattle.sim_meaning.specs.Texts.{Text, text}
+use Rattle.sim_meaning.specs.Virtuals.{procedure_text, text_of_procedure}
 use Rattle.sim_sound.specs.Held.{Around, ArrayOf, Holds, In, Refers, Sees, SeesConnected, Simply, entry_holds, formal_holds, held_by, result_holds}
 use Rattle.sim_sound.specs.Expressions.{AreIntegers, ExprIs, ObjectHas}
-use Rattle.sim_sound.specs.Statements.{ControlIs, LeftDot, LeftHeld, LeftIs, LeftNamed, LeftOf, NoText, OwnText, PlaceDeclared, PlaceIs, PlaceNamed, ReferenceAt, ReferenceLeft, TextLeft}
+use Rattle.sim_sound.specs.Statements.{ControlIs, LeftDot, LeftHeld, LeftIs, LeftNamed, LeftOf, LeftResultOr, NoText, OwnText, PlaceDeclared, PlaceIs, PlaceNamed, ReferenceAt, ReferenceLeft, TextLeft}
 use Rattle.sim_sound.specs.Typed.{Typed}
 use Rattle.codegen_expr.specs.Built.{AreBuilt, CellBuilt, ClassBuilt, ConnectedBuilt, IsBuilt, KeyBuilt, NamedPlaceBuilt, PlaceBehindBuilt, PlaceBuilt, PlaceOrResultBuilt, ReferenceBuilt, StandsIn, StreamBuilt, ThroughBuilt, is_there, slot_in}
 use Rattle.codegen.specs.BuiltProgram.{LeftBuilt, StepsBuilt, VariableBuilt}
 use Rattle.codegen.specs.CodeFor.{Variable, assigned_by, variable_of, variable_stored}
-use Rattle.codegen.specs.CodeLeft.{AtAttribute, InCell, Stored, stored_declared, stored_element, stored_formal, stored_found, stored_left, stored_named, stored_of, stored_text, stored_variable}
+use Rattle.codegen.specs.CodeLeft.{AtAttribute, InCell, Stored, stored_declared, stored_element, stored_formal, stored_found, stored_left, stored_match, stored_named, stored_of, stored_text, stored_variable}
 use Rattle.sim_built.specs.Laid.{Laid}
 use Rattle.sim_built.proofs.Attributes.{declared_place_built, place_of_built}
 use Rattle.sim_built.proofs.Cells.{declared_has, result_has, result_typed, stands}
@@ -82,9 +83,27 @@ module _ (s : Source) (ok : Typed s) (laid : Laid s) where
   unconnected None o block e = e
   unconnected (Some k) o block e = absurd (cc)
 
+  -- and so has that of a match
+  match_entry : (d : DeclNo) (y : Option Entry) (block : ℕ) (h : Holds) → entry_of s.tables d ≡ y → procedure_text y ≡ Some block → result_holds s block ≡ Some h → is_there (slot_in s block Result) ≡ true
+  match_entry d (Some (entry.Procedure result k)) block h e f a = let same : k ≡ block = cc in result_has s ok laid d result block h (e ∙ ap (λ z. Some (entry.Procedure result z)) same) a
+  match_entry d None block h e f a = absurd (cc)
+  match_entry d (Some _) block h e f a = absurd (cc)
+
+  match_has : (x : Option DeclNo) (block : ℕ) (h : Holds) → text_of_procedure s x ≡ Some block → result_holds s block ≡ Some h → is_there (slot_in s block Result) ≡ true
+  match_has None block h e a = absurd (cc)
+  match_has (Some d) block h e a = match_entry d (entry_of s.tables d) block h refl e a
+
+  match_or_own : (x : Option DeclNo) (match own : Option ℕ) (block : ℕ) (h : Holds) → text_of_procedure s x ≡ match → result_or_own match own ≡ Some block → result_holds s block ≡ Some h → (own ≡ Some block → is_there (slot_in s block Result) ≡ true)
+      → is_there (slot_in s block Result) ≡ true
+  match_or_own x None own block h e f a go = go f
+  match_or_own x (Some q) own block h e f a go = match_has x block h (e ∙ f) a
+
   meant_has : (e : Expression) (block : ℕ) (h : Holds) → result_meant s e ≡ Some block → result_holds s block ≡ Some h → is_there (slot_in s block Result) ≡ true
   unfolding result_meant
-  meant_has (syntax.Named name es) block h o a = meant_own (syntax.Named name es) block h (unconnected (connection_at s name.token.0) (own_result s (syntax.Named name es)) block o) a
+  meant_has (syntax.Named name es) block h o a =
+      let match = own_match s (syntax.Named name es) in
+      let own = own_result s (syntax.Named name es) in
+      match_or_own match (text_of_procedure s match) own block h refl (unconnected (connection_at s name.token.0) (result_or_own (text_of_procedure s match) own) block o) a (λ f. meant_own (syntax.Named name es) block h f a)
   meant_has (syntax.If i c b d) block h o a = absurd (cc)
   meant_has (syntax.Binary op i b d) block h o a = absurd (cc)
   meant_has (syntax.Not i b) block h o a = absurd (cc)
@@ -186,24 +205,34 @@ module _ (s : Source) (ok : Typed s) (laid : Laid s) (t : ℕ) (x : Text) (there
   declared_left d _ line _ h e (a_result {type = type} {k = k} a) = result_around k (result_typed s ok laid d type k e) a
   declared_left d es line y h e (a_place a) = place_left d es line y h e a
 
-  -- an identifier, seen through a connection or not
-  named_left : (c : Option ℕ) (y : Option Denotation) (es : Expressions) (e : Expression) (line : ℕ) (h : Holds) → ((k : ℕ) → c ≡ Some k → PlaceNamed s t c y es (AreIntegers s (In t) es) h → PlaceBuilt s t e) → LeftNamed s t c y es (AreIntegers s (In t) es) h → LeftBuilt s t (stored_found c e (stored_named s y es line))
-  named_left None None es e line h f a = absurd a
-  named_left (Some k) None es e line h f a = absurd a
-  named_left None (Some (denotation.Standard n)) es e line h f a = absurd a
-  named_left (Some k) (Some (denotation.Standard n)) es e line h f a = absurd a
-  named_left None (Some (denotation.Declared d)) es e line h f a =
+  -- an identifier, not seen through a connection or seen through one
+  named_left : (y : Option Denotation) (es : Expressions) (line : ℕ) (h : Holds) → LeftNamed s t None y es (AreIntegers s (In t) es) h → LeftBuilt s t (stored_named s y es line)
+  named_left None es line h a = absurd a
+  named_left (Some (denotation.Standard n)) es line h a = absurd a
+  named_left (Some (denotation.Declared d)) es line h a =
       declared_left d es line (entry_of s.tables d) h refl (left_case s (Sees s (In t) d) (AreIntegers s (In t) es) (λ k. Around s.tables t k) es (entry_of s.tables d) h a)
-  named_left (Some k) (Some (denotation.Declared d)) es e line h f a =
-      f k refl (left_place s (SeesConnected s (In t) k d) (AreIntegers s (In t) es) (OwnText s t (Some k)) es (entry_of s.tables d) h (λ k z. z) (left_case s (SeesConnected s (In t) k d) (AreIntegers s (In t) es) (OwnText s t (Some k)) es (entry_of s.tables d) h a))
+
+  connected_left : (k : ℕ) (y : Option Denotation) (es : Expressions) (e : Expression) (h : Holds) → (PlaceNamed s t (Some k) y es (AreIntegers s (In t) es) h → PlaceBuilt s t e) → LeftNamed s t (Some k) y es (AreIntegers s (In t) es) h → PlaceBuilt s t e
+  connected_left k None es e h f a = absurd a
+  connected_left k (Some (denotation.Standard n)) es e h f a = absurd a
+  connected_left k (Some (denotation.Declared d)) es e h f a =
+      f (left_place s (SeesConnected s (In t) k d) (AreIntegers s (In t) es) (OwnText s t (Some k)) es (entry_of s.tables d) h (λ k z. z) (left_case s (SeesConnected s (In t) k d) (AreIntegers s (In t) es) (OwnText s t (Some k)) es (entry_of s.tables d) h a))
 
   behind_left : (y : Option Denotation) (e : Expression) (Object : ℕ → Type 0) (es : Expressions) (Indices : Type 0) (h : Holds) (other : Stored) → PlaceBuilt s t e → LeftDot s y Object es Indices h → LeftBuilt s t (stored_found (declared_attribute y) e other)
   behind_left None e Object es Indices h other b a = absurd a
   behind_left (Some (denotation.Standard n)) e Object es Indices h other b a = absurd a
   behind_left (Some (denotation.Declared d)) e Object es Indices h other b a = b
 
+  -- the result of a match, or else what is named
+  match_or_named : (name : Identifier) (es : Expressions) (c match : Option ℕ) (h : Holds) → connection_at s name.token.0 ≡ c → text_of_procedure s (own_match s (syntax.Named name es)) ≡ match → LeftResultOr s t c match h (LeftNamed s t c (denoted s name.token.0) es (AreIntegers s (In t) es) h)
+      → LeftBuilt s t (stored_found c (syntax.Named name es) (stored_match match (stored_named s (denoted s name.token.0) es (line_at s name.token.0))))
+  match_or_named name es None (Some block) h at is a = result_around block (match_has s ok laid (own_match s (syntax.Named name es)) block h is a.1) a.0
+  match_or_named name es None None h at is a = named_left (denoted s name.token.0) es (line_at s name.token.0) h a
+  match_or_named name es (Some c) match h at is a =
+      connected_left c (denoted s name.token.0) es (syntax.Named name es) h (λ z. place_is_built (syntax.Named name es) h (subst (λ x. PlaceNamed s t x (denoted s name.token.0) es (AreIntegers s (In t) es) h) (sym at) z)) a
+
   pub left_built : (e : Expression) (h : Holds) → LeftIs s t e h → LeftBuilt s t (stored_left s e)
-  left_built (syntax.Named name es) h a = named_left (connection_at s name.token.0) (denoted s name.token.0) es (syntax.Named name es) (line_at s name.token.0) h (λ k is z. place_is_built (syntax.Named name es) h z) a
+  left_built (syntax.Named name es) h a = match_or_named name es (connection_at s name.token.0) (text_of_procedure s (own_match s (syntax.Named name es))) h refl refl a
   left_built (syntax.Dot i b name es) h a = behind_left (denoted s name.token.0) (syntax.Dot i b name es) (λ c. ExprIs s (In t) b (Refers c)) es (AreIntegers s (In t) es) h _ (place_is_built (syntax.Dot i b name es) h a) a
   left_built (syntax.If i c b d) h a = absurd a
   left_built (syntax.Binary op i b d) h a = absurd a
@@ -254,9 +283,13 @@ module _ (s : Source) (ok : Typed s) (laid : Laid s) (t : ℕ) (x : Text) (there
   named_alone (Some (denotation.Declared d)) line b = entry_alone d line (entry_of s.tables d) b
   named_alone (Some (denotation.Standard n)) line b = absurd b
 
-  found_alone : (c : Option ℕ) (e : Expression) (y : Option Denotation) (line : ℕ) → LeftBuilt s t (stored_found c e (stored_named s y NoMore line)) → InPlace (stored_found c e (stored_named s y NoMore line))
-  found_alone None e y line b = named_alone y line b
-  found_alone (Some k) e y line b = at_place e b
+  match_alone : (match : Option ℕ) (y : Option Denotation) (line : ℕ) → LeftBuilt s t (stored_match match (stored_named s y NoMore line)) → InPlace (stored_match match (stored_named s y NoMore line))
+  match_alone None y line b = named_alone y line b
+  match_alone (Some k) y line b = in_cell k Result b
+
+  found_alone : (c match : Option ℕ) (e : Expression) (y : Option Denotation) (line : ℕ) → LeftBuilt s t (stored_found c e (stored_match match (stored_named s y NoMore line))) → InPlace (stored_found c e (stored_match match (stored_named s y NoMore line)))
+  found_alone None match e y line b = match_alone match y line b
+  found_alone (Some k) match e y line b = at_place e b
 
   abbrev pub Controls : Option Variable → (Steps : Type 0) → Type 0
   Controls None Steps = ⊥
@@ -274,7 +307,7 @@ module _ (s : Source) (ok : Typed s) (laid : Laid s) (t : ℕ) (x : Text) (there
 
   left_controls : (name : Identifier) (assigned : Option ℕ) (h : Holds) → LeftIs s t (syntax.Named name NoMore) h → Controls (variable_stored (stored_left s (syntax.Named name NoMore)) assigned) (assigned ≡ None)
   left_controls name assigned h a =
-      stored_controls (stored_left s (syntax.Named name NoMore)) assigned (found_alone (connection_at s name.token.0) (syntax.Named name NoMore) (denoted s name.token.0) (line_at s name.token.0) (left_built (syntax.Named name NoMore) h a))
+      stored_controls (stored_left s (syntax.Named name NoMore)) assigned (found_alone (connection_at s name.token.0) (text_of_procedure s (own_match s (syntax.Named name NoMore))) (syntax.Named name NoMore) (denoted s name.token.0) (line_at s name.token.0) (left_built (syntax.Named name NoMore) h a))
 
   -- a step element is over integers alone
   pub controls : (is_text : Bool) (sign : Assignment) (line : ℕ) (name : Identifier) (k : Kind) → ControlIs is_text sign s t (syntax.Named name NoMore) k

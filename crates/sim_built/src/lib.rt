@@ -3,5 +3,7 @@
 
 mod kept;
 pub mod laws;
+mod match_parameters;
 
 pub use kept::keeps_instances;
+pub use match_parameters::has_match_with_parameters;

@@ -21,6 +21,7 @@ use Rattle.sim_chains.specs.Chains.{Cut, cut_at}
 use Rattle.sim_chains.specs.Components.{AttachedObject, Components, DetachedObject, NoObject, ResumedObject, Standing, TerminatedObject}
 use Rattle.sim_code.specs.declared.code.BlockKind.{BlockKind}
 use Rattle.sim_code.specs.declared.code.BlockKind.TheVariants as block
+use Rattle.sim_code.specs.declared.code.CodeActual.{CodeActual}
 use Rattle.sim_code.specs.declared.instr.Instr.{Instr}
 use Rattle.sim_code.specs.declared.instr.Instr.TheVariants as i
 use Rattle.sim_code.specs.declared.instr.Lined.{Lined}
@@ -34,10 +35,11 @@ use Rattle.sim_code.specs.Sets.{enrolled, is_set_name}
 use Rattle.sim_code.specs.Simulations.{begun_in, is_process_name, is_simulation_name, joined, joined_at, located, with_simulation}
 use Rattle.sim_code.specs.Scheduling.{Timing, component_of, deciding, going_to}
 use Rattle.sim_code.specs.Transfers.{Calling, Detaching, Resuming, Transfer, component_in, transferred, transferring}
-use Rattle.sim_code.specs.Machine.{Activation, Address, ArrayValue, Cells, Frames, Link, Machine, Of, ProcedureValue, ThunkValue, Value, arrays_among, arrays_by_value, variable_in, words_of_block, array_in, block_at, cell, cell_at, cell_set, frame_in, index, jumping, leaving, level, link_in, number, operand, own_block, owner, place_in, plain, pushing, pushing_any, same_kind, value_at, waiting, with_result}
+use Rattle.sim_code.specs.Machine.{Activation, Address, ArrayValue, Cells, Frames, Link, Machine, Of, ProcedureValue, ThunkValue, Value, arrays_among, arrays_by_value, variable_in, words_of_block, array_in, block_at, cell, cell_at, cell_set, frame_in, index, jumping, leaving, level, link_in, number, operand, own_block, owner, place_in, plain, procedure_in, pushing, pushing_any, same_kind, value_at, waiting, with_result}
 use Rattle.sim_code.specs.Classes.{admitting, class_named, in_process, is_in, is_of, may_stand, qualifying}
 use Rattle.sim_code.specs.Levels.{after_declarations, at_inner, at_stage, class_at_level, declarations_done, ended_by_kind, ending_process, entering_prefixed, generating, inner_reached, is_process_class, is_simulation_class, leading, level_ended, levelled, linkage_of_class, objects_of, outermost_ended, own_levels, words_of_object}
-use Rattle.sim_code.specs.Rows.{activation_of, class_at, code_of, comparison_of, decided, element_kind, entering_procedure, first_stage, mstep, mrun, no_class, on_chain, one_row, opening, program_begun, pushed, put_back, putting, qualified, row, standard_of, standard_row, storing, truth_of, two_row, without_class}
+use Rattle.sim_code.specs.Rows.{activation_of, checking, class_at, code_of, comparison_of, decided, element_kind, entering_frame, entering_procedure, entering_value, first_stage, mstep, mrun, no_class, on_chain, one_row, opening, program_begun, pushed, put_back, putting, qualified, row, standard_of, standard_row, storing, truth_of, two_row, without_class}
+use Rattle.sim_code.specs.Virtuals.{counting, matching, with_match}
 use Rattle.sim_code.specs.Growing.{Grown, OutputGrows, written}
 use Rattle.sim_code.proofs.Growing.{Grows, after_grows, after_more, grown_same, grows_assigning, grows_choosing, grows_computing, grows_copying, grows_entering, grows_finding, grows_having, grows_if, grows_integers, grows_keeping, grows_making, grows_many, grows_no_rule, grows_object, grows_one, grows_performing, grows_plain, grows_popping, grows_reference, grows_set, grows_step, grows_stopping, grows_ticking, grows_truth, grows_two, grows_when}
 use Rattle.sim_code.proofs.GrowingSimulations.{grows_activation, grows_process, grows_simulation}
@@ -198,11 +200,38 @@ one_grows o m a below line op = grows_one Machine Value plain op line a.stack o 
 push_grows : (o : World) (m : Frames) (a : Activation) (below : List Activation) (v : Value) → Here o (pushed o m a below v)
 push_grows o m a below v = pushed_grows a.room a.stack v o _ (λ s. going o _)
 
+frame_grows : (l : Limits) (o : World) (m : Frames) (a : Activation) (below : List Activation) (line k : ℕ) (b : BlockOf) (parent : ℕ) (values stack : List Value) → Here o (entering_frame l o m a below line k b parent values stack)
+frame_grows l o m a below line k b parent values stack =
+    grows_having Machine Cells _ o _ (λ cells _. grows_entering Machine l line (words_of_block b) o _ (λ p.
+    record { more = subst (λ w. Grown p.store.written w) (sym (handed_same (length m.instances) (arrays_by_value b.formals values) p)) (grown_same p.store.written) }))
+
 call_grows : (code : CodeOf) (l : Limits) (o : World) (m : Frames) (a : Activation) (below : List Activation) (line : ℕ) (k n : ℤ) → Here o (entering_procedure code l o m a below line k n)
 call_grows code l o m a below line k n =
     index_grows n o _ (λ n. grows_many Machine Value plain n [] a.stack o _ (λ values stack. grows_popping Machine Value plain stack o _ (λ v stack. grows_having Machine ℕ (frame_in v) o _ (λ parent _. grows_when Machine (is_live m parent) o _ (
-    block_grows code _ k o _ (λ k b x. grows_having Machine Cells _ o _ (λ cells _. grows_entering Machine l line (words_of_block b) o _ (λ p.
-    record { more = subst (λ w. Grown p.store.written w) (sym (handed_same (length m.instances) (arrays_by_value b.formals values) p)) (grown_same p.store.written) }))))))))
+    block_grows code _ k o _ (λ k b x. frame_grows l o m a below line k b parent values stack))))))
+
+-- procedures in hand
+match_grows : (line : ℕ) (x : Option ℕ) (o : World) (go : ℕ → Run Machine) → ((k : ℕ) → Here o (go k)) → Here o (with_match line x o go)
+match_grows line None o go h = grows_stopping Machine _ o
+match_grows line (Some k) o go h = h k
+
+matching_grows : (line : ℕ) (found : Option (Option ℕ)) (o : World) (go : ℕ → Run Machine) → ((k : ℕ) → Here o (go k)) → Here o (matching line found o go)
+unfolding matching
+matching_grows line found o go h = grows_having Machine (Option ℕ) found o _ (λ x _. match_grows line x o go h)
+
+counting_grows : (line formals actuals : ℕ) (o : World) (r : Run Machine) → Here o r → Here o (counting line formals actuals o r)
+unfolding counting
+counting_grows line formals actuals o r h = grows_choosing Machine (formals == actuals) o r _ h (grows_stopping Machine _ o)
+
+checking_grows : (code : CodeOf) (o : World) (m : Frames) (a : Activation) (below : List Activation) (line : ℕ) (z : ℤ) → Here o (checking code o m a below line z)
+checking_grows code o m a below line z =
+    index_grows z o _ (λ n. grows_having Machine (List CodeActual) _ o _ (λ actuals _. grows_popping Machine Value plain a.stack o _ (λ v stack. grows_having Machine (ℕ × ℕ) (procedure_in v) o _ (λ q _.
+    grows_having Machine BlockOf _ o _ (λ b _. grows_when Machine _ o _ (counting_grows line (length b.formals) (length actuals) o _ (grows_when Machine (length actuals == 0) o _ (going o _))))))))
+
+value_grows : (code : CodeOf) (l : Limits) (o : World) (m : Frames) (a : Activation) (below : List Activation) (line : ℕ) (n : ℤ) → Here o (entering_value code l o m a below line n)
+value_grows code l o m a below line n =
+    index_grows n o _ (λ n. grows_many Machine Value plain n [] a.stack o _ (λ values stack. grows_popping Machine Value plain stack o _ (λ v stack. grows_having Machine (ℕ × ℕ) (procedure_in v) o _ (λ q _. grows_when Machine (is_live m q.1) o _ (
+    block_grows code _ (pos q.0) o _ (λ k b x. frame_grows l o m a below line k b q.1 values stack))))))
 
 -- objects and prefixed blocks
 leading_grows : (code : CodeOf) (q : ℕ) (o : World) (r : Run Machine) → Here o r → Here o (leading code q o r)
@@ -381,10 +410,10 @@ row_grows code l o m a below line i.Leave = own_grows code _ m a o _ (λ b. leav
 row_grows code l o m a below line (i.Call k n) = call_grows code l o m a below line k n
 row_grows code l o m a below line i.Return = own_grows code _ m a o _ (λ b. result_grows b m a.home o _ (λ v. leaving_grows b below v a.home o m))
 row_grows code l o m a below line (i.ProcVal z) = none o
-row_grows code l o m a below line (i.Virt z) = none o
-row_grows code l o m a below line (i.Check z) = none o
+row_grows code l o m a below line (i.Virt z) = index_grows z o _ (λ v. grows_object Machine Value plain line a.stack o _ (λ j stack. matching_grows line _ o _ (λ k. going o _)))
+row_grows code l o m a below line (i.Check z) = checking_grows code o m a below line z
 row_grows code l o m a below line (i.Param f t p) = none o
-row_grows code l o m a below line (i.CallV n) = none o
+row_grows code l o m a below line (i.CallV n) = value_grows code l o m a below line n
 row_grows code l o m a below line (i.Thunk t) = none o
 row_grows code l o m a below line (i.NameVal z c class) = none o
 row_grows code l o m a below line (i.NameAddr z c value) = none o

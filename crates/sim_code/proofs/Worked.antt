@@ -20,6 +20,8 @@ use Rattle.sim_code.specs.Levels.{ending_process, linkage_with}
 use Rattle.sim_code.specs.Sets.{performing_set, pop_given}
 use Rattle.sim_code.specs.SetExamples.{Worked as WorkedSets}
 use Rattle.sim_code.specs.SimulationExamples.{Worked as WorkedSimulations}
+use Rattle.sim_code.specs.VirtualExamples.{Worked as WorkedVirtuals}
+use Rattle.sim_code.specs.Virtuals.{counting, match_found, matching}
 use Rattle.sim_code.specs.Simulations.{located}
 use Rattle.sim_code.specs.Scheduling.{deciding, performing_activation, performing_process, performing_simulation, pop_block, pop_operand_if}
 
@@ -166,4 +168,21 @@ worked_simulations = record {
   main_in_set = refl;
   other_block = refl;
   no_simulation_block = refl;
+}
+
+pub worked_virtuals : WorkedVirtuals
+unfolding digits element_place making_array copying_array keeping_array finding_element giving_back handed_over stopping no_rule ticking taking entering having when computing choosing popping pop_many pop_plain pop_truth pop_integers pop_operands pop_text answering applying_one applying_two testing_step performing putting_back assigning making_text joining at_level kept_on pushing index level_of_machine cell_at jumping block_at own_block leaving with_result putting put_back calculate compare compare_as_texts connect same_objects same_texts two_of one_of step_test take_integer take_character take_text take_nothing row_of standard_effect levels pop_object referring pop_reference not_nothing parameter_cell leading levelled objects_of own_levels object_ended linkage_with process_class matching counting match_found
+worked_virtuals = record {
+  object_decides = refl;
+  none_first = refl;
+  one_too_many = refl;
+  one_too_few = refl;
+  value_handed_in = refl;
+  entry_takes_a_tick = refl;
+  entry_takes_words = refl;
+  kind_not_tested = refl;
+  nothing_in_hand = refl;
+  nothing_checked = refl;
+  no_such_list = refl;
+  of_no_class = refl;
 }

@@ -11,6 +11,7 @@ pub mod Deciding
 pub mod Machine
 pub mod Classes
 pub mod Levels
+pub mod Virtuals
 pub mod Names
 pub mod Rows
 pub mod Running
@@ -20,3 +21,4 @@ pub mod ClassExamples
 pub mod CoroutineExamples
 pub mod SetExamples
 pub mod SimulationExamples
+pub mod VirtualExamples

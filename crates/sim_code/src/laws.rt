@@ -5,6 +5,7 @@ ghost use Rattle.sim_code.specs.ClassExamples.{Worked as WorkedClasses};
 ghost use Rattle.sim_code.specs.CoroutineExamples.{Worked as WorkedCoroutines};
 ghost use Rattle.sim_code.specs.SetExamples.{Worked as WorkedSets};
 ghost use Rattle.sim_code.specs.SimulationExamples.{Worked as WorkedSimulations};
+ghost use Rattle.sim_code.specs.VirtualExamples.{Worked as WorkedVirtuals};
 ghost use Rattle.sim_code.specs.Growing.{OutputGrows};
 ghost use Rattle.sim_code.specs.Instances.{Memory};
 ghost use Rattle.sim_code.specs.Deciding.{DecidesAsComponents};
@@ -36,6 +37,11 @@ pub fn worked_sets()
 /// refused, and what a main program is.
 pub fn worked_simulations()
     ensures { WorkedSimulations }
+{}
+
+/// The same of codes with virtuals: what matches one in the class of an object, what a procedure in hand is held against, and what is refused.
+pub fn worked_virtuals()
+    ensures { WorkedVirtuals }
 {}
 
 /// What a run has written stays written: later output begins with it.

@@ -22,6 +22,7 @@ use Rattle.sim_static.specs.Check.{Allowed, Checked, Refused, check_of}
 use Rattle.sim_static.specs.UnbuiltForms.{has_unbuilt_form}
 use Rattle.sim_static.specs.UnbuiltNames.{has_unbuilt_name}
 use Rattle.sim_allowed.specs.KeptInstances.{keeps_instances}
+use Rattle.sim_allowed.specs.MatchParameters.{has_match_with_parameters}
 use Rattle.sim_built.specs.Allowed.{IsChecked}
 use Rattle.sim_run.specs.RunEnds.{IsRunnable}
 use Rattle.sim_driver.specs.declared.compiling.Refusal.{Refusal}
@@ -48,9 +49,9 @@ BoundCompiles Run s compiled = compiled ≡ Runnable s
 BoundCompiles Check s compiled = compiled ≡ Sound
 
 -- For `run` it is not built that the entry of a procedure keeps instances: where a class is declared or a block prefixed in the procedure, and an
--- array by reference is among its parameters.
+-- array by reference is among its parameters. Nor is a procedure with parameters that matches a virtual.
 abbrev pub must_keep : Command → Source → Bool
-must_keep Run s = keeps_instances s
+must_keep Run s = keeps_instances s || has_match_with_parameters s
 must_keep Check s = false
 
 -- such a program is rejected behind the static rules
@@ -71,7 +72,7 @@ abbrev pub CheckedCompiles : Command → List Token → Tree → Checked → Com
 CheckedCompiles command tokens tree (Refused fault) compiled = compiled ≡ Rejected fault.rule (token_line tokens fault.token.0)
 CheckedCompiles command tokens tree (Allowed tables uses found_in types) compiled = AllowedCompiles command (source_with tree tables uses found_in types) compiled
 
--- What else is not built, for `run`: `process` directly behind `new`; virtual procedures, a parameter by name, a procedure as a parameter.
+-- What else is not built, for `run`: `process` directly behind `new`; a parameter by name, a procedure as a parameter.
 -- `check` knows all forms.
 abbrev pub lacks_form : Command → List Token → Program → Bool
 lacks_form Run tokens p = has_unbuilt_name tokens || has_unbuilt_form p

@@ -12,8 +12,8 @@ ghost use Rattle.command_line.specs.declared.words.Command.{Command as AnyComman
 
 use command_line::Command;
 use sim_base::{Line, Rule, Token, TokenNo, line_of};
-use sim_built::keeps_instances;
 use sim_built::laws::allowed_programs_run;
+use sim_built::{has_match_with_parameters, keeps_instances};
 use sim_expr_parser::SyntaxRefusal;
 use sim_lexer::{LexRefusal, lex};
 use sim_parser::parse;
@@ -35,7 +35,8 @@ pub enum Refusal {
 }
 
 /// The program of a source, which breaks no rule; or the rule that it breaks first, with the line. To run, it must have only forms that are
-/// built, and no procedure in which a class is declared may have an array by reference as a parameter.
+/// built, no procedure in which a class is declared may have an array by reference as a parameter, and none that matches a virtual may have
+/// parameters.
 pub fn bind(alloc: Global, command: Command, source: &[u8]) -> Result<Bound, Refusal>
     requires { length source.now < 2 ^ 32 - 1 }
     ensures { Answers (λ bound. IsProgram command source.now (source_of bound)) (SourceRejects command source.now) result }
@@ -99,12 +100,12 @@ fn lacks_form(command: Command, tokens: &[Token], tree: &sim_tree::Program) -> b
     }
 }
 
-// Whether the entry of a procedure of a program keeps instances, for `run`.
+// Whether the entry of a procedure of a program keeps instances, or a procedure that matches a virtual has parameters, for `run`.
 fn must_keep(command: Command, bound: &Bound) -> bool
     ensures { result ≡ must_keep command (source_of bound.now) }
 {
     match command {
-        Command::Run => keeps_instances(bound),
+        Command::Run => keeps_instances(bound) || has_match_with_parameters(bound),
         Command::Check => false,
     }
 }
@@ -120,7 +121,7 @@ fn not_built() -> Refusal
 }
 
 // The program of a tree of these tokens. As long as a form is not built, a source that has it is refused first; one whose run would keep
-// instances is refused behind the static rules.
+// instances, or that has a match with parameters, is refused behind the static rules.
 fn bind_tree(
     alloc: Global,
     command: Command,

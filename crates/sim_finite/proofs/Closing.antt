@@ -140,7 +140,7 @@ module _ (s : Source) (m : Instances) (i n : ℕ) (some : 1 ≤ n) where
       declared_small d (Some (entry.Array t k)) es = array_small d es
       declared_small d (Some (entry.Procedure result k)) es = in_small (home_of s m i d) _ n some (λ j. few (formals_at s d))
       declared_small d (Some (entry.Class k)) es = some
-      declared_small d (Some (entry.Virtual result own)) es = some
+      declared_small d (Some (entry.Virtual result own)) es = in_small (home_of s m i d) _ n some (λ j. omega (arith, most))
       declared_small d (Some (entry.Formal f)) es = formal_small d f.mode f.kind es
       declared_small d (Some (entry.Unspecified w)) es = some
       declared_small d (Some (entry.Attribute name parameter result)) es = some

@@ -1,7 +1,7 @@
 -- What each event goes on with: the ticks are as they were, or there is one more.
 use Rattle.std.proofs.Common.{◌≡◌, ◌≤◌, ◌<◌, ℕ, zero, suc, ◌+◌, Bool, true, false, List, [], ◌∷◌, Option, Some, None, refl, sym, ◌∙◌, arith, subst}
 use Rattle.std.proofs.lemmas.Bool.Decides.{nat_tests}
-use Rattle.std.specs.Prelude.{ℤ, nat_lt, Result, Ok, Err, if◌then◌else◌}
+use Rattle.std.specs.Prelude.{ℤ, ◌==◌, nat_lt, Result, Ok, Err, if◌then◌else◌}
 use Rattle.sim_base.specs.declared.limits.Limits.{Limits}
 use Rattle.sim_base.specs.declared.run_error.RunError.{RunError}
 use Rattle.sim_values.specs.declared.kind.Kind.{Kind}
@@ -16,6 +16,7 @@ use Rattle.sim_code.specs.Outcome.{Ended, Ending, Going, Run, World}
 use Rattle.sim_values.specs.Texts.{Making, assign, concatenated}
 use Rattle.sim_code.specs.Events.{answering, applying_one, applying_two, assigning, choosing, computing, entering, having, integer_in, joining, making_text, no_rule, not_nothing, performing, pop_integers, pop_many, pop_object, pop_operands, pop_plain, pop_reference, pop_text, pop_truth, popping, putting_back, qualifying, referring, stopping, taking, testing_step, text_val, ticking, truth_in, when, with_texts}
 use Rattle.sim_code.specs.Simulations.{named_in}
+use Rattle.sim_code.specs.Virtuals.{counting, matching}
 use Rattle.sim_code.specs.Sets.{linkage_given, linkage_named, performing_set, pop_given, set_effect, takes_linkage}
 use Rattle.sim_code.specs.Arrays.{copying_array, finding_element, keeping_array, live_array, making_array, words_of_array}
 
@@ -106,6 +107,16 @@ module _ {S : Type 0} (P : World → S → Type 0) where
   pub choosing_goes : (b : Bool) (r q : Run S) → Goes P r → Goes P q → Goes P (choosing b r q)
   unfolding choosing
   choosing_goes b r q x y = goes_if b r q (λ _. x) y
+
+  pub matching_goes : (line : ℕ) (found : Option (Option ℕ)) (o : World) (f : ℕ → Run S) → ((k : ℕ) → Goes P (f k)) → Goes P (matching line found o f)
+  unfolding matching having
+  matching_goes line None o f x = none o
+  matching_goes line (Some None) o f x = stops _ o
+  matching_goes line (Some (Some k)) o f x = x k
+
+  pub counting_goes : (line formals actuals : ℕ) (o : World) (r : Run S) → Goes P r → Goes P (counting line formals actuals o r)
+  unfolding counting
+  counting_goes line formals actuals o r x = choosing_goes (formals == actuals) r _ x (stops _ o)
 
   making_text_goes : (l : Limits) (line : ℕ) (making : Making) (o : World) (f : TextVal → World → Run S) → ((t : TextVal) (p : World) → p.ticks ≡ o.ticks → Goes P (f t p)) → Goes P (making_text l line making o f)
   unfolding making_text

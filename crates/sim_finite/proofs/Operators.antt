@@ -1,6 +1,6 @@
 -- What is pending leads to less, or to a tick.
 use Rattle.std.proofs.Common.{◌≡◌, ◌≤◌, ◌<◌, ℕ, ◌+◌, Bool, true, false, List, [], ◌∷◌, length, Option, Some, None, refl, ap, ◌∙◌, arith, subst}
-use Rattle.std.specs.Prelude.{◌*◌, slice_get, if◌then◌else◌, Result, Ok, Err}
+use Rattle.std.specs.Prelude.{◌*◌, ◌==◌, slice_get, if◌then◌else◌, Result, Ok, Err}
 use Rattle.sim_base.specs.declared.limits.Limits.{Limits}
 use Rattle.sim_base.specs.declared.numbering.DeclNo.{DeclNo}
 use Rattle.sim_base.specs.declared.run_error.RunError.{RunError}
@@ -35,16 +35,17 @@ use Rattle.sim_meaning.specs.Connections.{arm_tried, arms_tried, connected, obje
 use Rattle.sim_meaning.specs.Levels.{class_at, has_procedure, is_in, levels, linkage_of_text, text_at, end_line, in_process, is_process_text, is_simulation_text, stands_in}
 use Rattle.sim_meaning.specs.Objects.{cells_of_levels, filled_in, generated, inner_done, is_member, object_entered, prefix_done, prefixed_entered, putting_reference, with_inner, arrays_given, decided, no_line, process_begun, process_done, words_of_object}
 use Rattle.sim_meaning.specs.Entries.{arrays_among, arrays_by_value, arrays_declared, arrays_of, bounds_of, filled_behind, first_array, further_arrays, segments_of, first_cells, formals_of, words_of_cells}
-use Rattle.sim_meaning.specs.Meaning.{called, do_op, leaving, procedure_entered, sub_block_entered}
-use Rattle.sim_meaning.specs.Pending.{Activation, Address, AgainOp, array_in, ArrayOp, AttributeOf, AttributeOp, BackOp, BranchOp, CallOf, CallOp, Cell, cell, cell_made, cell_set, ChooseOp, Configuration, Connection, ConnectOp, CopyOf, CopyOp, DeclareOp, Do, DropOp, Either, ElementOf, ElementOp, ElementsOp, EndLevel, EndPrefixed, EnterOp, Eval, Exec, Execs, FetchOp, FitsOf, FitsOp, Further, Given, GiveOp, Held, IfOp, ImageOf, InnerOp, instance_in, Instances, Item, Joined, JoinOp, KeepOp, KeptOf, Key, Level, LevelOp, Link, made_in, MemberOf, MemberOp, NewOf, NewOp, NoTerm, NotNoneOf, NotNoneOp, ObjectOp, Of, One, OneOp, Op, owner, PastOp, place_in, PlaceOf, plain, PrefixedOp, ProcedureValue, put_in, QualifiedElementOf, QualifiedElementOp, QualifiedPlaceOf, QuaOf, QuaOp, RaiseOp, ReferOp, RemoteCallOf, SetOf, SetOp, ShareOp, StandardOf, StandardOp, StepOp, StepTestOp, StoreOp, SwapOp, Target, Term, Terms, TestOp, ToAddress, ToCell, ToPlace, ToReference, ToReferenceAt, ToText, ToTextAt, ToTextOf, TransferOf, TransferOp, Tree, Two, TwoOp, Unbuilt, Val, ValueAt, WhenOp, WhileElementOp, variable_in, ActivateOp, BlockOp, EndProcessOp, ProcessOf, ProcessOp, SelfOp, SimulationOf, SimulationOp}
+use Rattle.sim_meaning.specs.Meaning.{called, do_op, leaving, procedure_entered, sub_block_entered, value_called}
+use Rattle.sim_meaning.specs.Pending.{Activation, Address, AgainOp, array_in, ArrayOp, AttributeOf, AttributeOp, BackOp, BranchOp, CallOf, CallOp, CallValueOp, Cell, cell, cell_made, cell_set, CheckOp, ChooseOp, Configuration, Connection, ConnectOp, CopyOf, CopyOp, DeclareOp, Do, DropOp, Either, ElementOf, ElementOp, ElementsOp, EndLevel, EndPrefixed, EnterOp, Eval, Exec, Execs, FetchOp, FitsOf, FitsOp, Further, Given, GiveOp, Held, IfOp, ImageOf, InnerOp, instance_in, Instances, Item, Joined, JoinOp, KeepOp, KeptOf, Key, Level, LevelOp, Link, made_in, MemberOf, MemberOp, NewOf, NewOp, NoTerm, NotNoneOf, NotNoneOp, ObjectOp, Of, One, OneOp, Op, owner, PastOp, place_in, PlaceOf, plain, PrefixedOp, procedure_in, ProcedureValue, put_in, QualifiedElementOf, QualifiedElementOp, QualifiedPlaceOf, QuaOf, QuaOp, RaiseOp, ReferOp, RemoteCallOf, SetOf, SetOp, ShareOp, StandardOf, StandardOp, StepOp, StepTestOp, StoreOp, SwapOp, Target, Term, Terms, TestOp, ToAddress, ToCell, ToPlace, ToReference, ToReferenceAt, ToText, ToTextAt, ToTextOf, TransferOf, TransferOp, Tree, Two, TwoOp, Unbuilt, Val, ValueAt, VirtualOf, VirtualOp, WhenOp, WhileElementOp, variable_in, ActivateOp, BlockOp, EndProcessOp, ProcessOf, ProcessOp, SelfOp, SimulationOf, SimulationOp}
 use Rattle.sim_meaning.specs.Pending as pending
 use Rattle.sim_meaning.specs.Statements as statement
 use Rattle.sim_meaning.specs.Statements.{assigned, begin_of, compound, elements, entered_at, exec, execs, first_branch, inner_begun, levels_of_instance, looping, prefix_begun, raised, reading, activated, simulation_home}
 use Rattle.sim_meaning.specs.Steps.{count, each, eval, put_back, putting, stored, value_at}
 use Rattle.sim_meaning.specs.Texts.{BlockText, ProcedureText, declared_at, kind_named}
+use Rattle.sim_meaning.specs.Virtuals.{match_at}
 use Rattle.sim_meaning.specs.Texts as texts
 use Rattle.sim_finite.proofs.Closing.{close_small}
-use Rattle.sim_finite.proofs.Lifts.{Goes, assigning_goes, choosing_goes, copying_goes, entering_goes, finding_goes, having_goes, having_knows, integers_goes, joining_goes, keeping_goes, making_goes, many_goes, none, object_goes, one_goes, performing_goes, plain_goes, popping_goes, linkage_goes, qualifying_goes, step_goes, stops, ticking_goes, truth_goes, two_goes, when_goes, computing_goes, reference_goes}
+use Rattle.sim_finite.proofs.Lifts.{Goes, assigning_goes, choosing_goes, copying_goes, counting_goes, entering_goes, finding_goes, having_goes, having_knows, integers_goes, joining_goes, keeping_goes, making_goes, many_goes, matching_goes, none, object_goes, one_goes, performing_goes, plain_goes, popping_goes, linkage_goes, qualifying_goes, step_goes, stops, ticking_goes, truth_goes, two_goes, when_goes, computing_goes, reference_goes}
 use Rattle.sim_finite.proofs.Scheduling.{activation_goes, process_goes, simulation_goes}
 use Rattle.sim_finite.proofs.Transfers.{NotMore, NotMoreIn, transfer_small, given_small}
 use Rattle.sim_finite.proofs.Weights.{Lower, arms_weight, bounds_weight, chain_weight, declarations_weight, elements_weight, expression_weight, kept_weight, levels_weight, lighter, names_weight, op_weight, segments_weight, standings_weight, statements_weight, target_weight, term_weight, terms_weight, ticked, work_weight}
@@ -265,6 +266,7 @@ module _ (s : Source) (l : Limits) (o : World) (m : Instances) (i : ℕ) (w : Li
   eval_falls (SetOf name ts) = lighter refl (omega (arith, each_weight ts (Do (SetOp name) ∷ w)))
   eval_falls (ProcessOf name line a) = lighter refl (omega arith)
   eval_falls (SimulationOf j name ts line) = lighter refl (omega (arith, each_weight ts (Do (SimulationOp name line) ∷ w)))
+  eval_falls (VirtualOf a v n line) = lighter refl (omega arith)
   eval_falls Unbuilt = none (From 1) o
 
   store_falls : (t : Target) → Falls (target_weight t) (stored o m i w vals rest t)
@@ -296,6 +298,10 @@ module _ (s : Source) (l : Limits) (o : World) (m : Instances) (i : ℕ) (w : Li
   call_falls : (k n line : ℕ) → Falls 1 (called s l o m i w vals rest k n line)
   call_falls k n line =
       many_goes (From 1) n [] vals o _ (λ values vals. popping_goes (From 1) vals o _ (λ v vals. having_goes (From 1) (instance_in v) o _ (λ j. when_goes (From 1) (is_live m j) o _ (procedure_falls vals k line values j (texts.text s k)))))
+
+  value_falls : (line : ℕ) → Falls 1 (value_called s l o m i w vals rest line)
+  value_falls line =
+      popping_goes (From 1) vals o _ (λ v vals. having_goes (From 1) (procedure_in v) o _ (λ q. when_goes (From 1) (is_live m q.1) o _ (procedure_falls vals q.0 line [] q.1 (texts.text s q.0))))
 
   -- so do the entries of objects and of prefixed blocks
   object_falls : (vals : List Val) (k line : ℕ) (values : List Val) (j : ℕ) (xs : List Level) → Falls 1 (object_entered s l o m i w vals rest k line values j xs)
@@ -479,6 +485,9 @@ module _ (s : Source) (l : Limits) (o : World) (m : Instances) (i : ℕ) (w : Li
   op_falls (ProcessOp name line) = process_goes (From 1) plain (encloser_of m) name line vals o _ (λ p vals. lighter refl (omega arith))
   op_falls (SimulationOp name line) =
       simulation_goes (From 1) plain instance_in (in_process s m) o (decided m i w rest line) (decided_falls line) None name vals _ (λ p vals. lighter refl (omega arith))
+  op_falls (VirtualOp v line) = object_goes (From 1) plain line vals o _ (λ j vals. matching_goes (From 1) line (match_at s m v j) o _ (λ k. lighter refl (omega arith)))
+  op_falls (CheckOp n line) = popping_goes (From 1) vals o _ (λ v more. having_goes (From 1) (procedure_in v) o _ (λ q. counting_goes (From 1) line (length (formals_of s q.0)) n o _ (when_goes (From 1) (n == 0) o _ (lighter refl (omega arith)))))
+  op_falls (CallValueOp line) = value_falls line
   op_falls DropOp = popping_goes (From 1) vals o _ (λ v vals. lighter refl (omega arith))
   op_falls AgainOp = popping_goes (From 1) vals o _ (λ v vals. lighter refl (omega arith))
   op_falls SwapOp = popping_goes (From 1) vals o _ (λ v vals. popping_goes (From 1) vals o _ (λ u vals. lighter refl (omega arith)))

@@ -4,3 +4,4 @@ pub mod WorkedCoroutines
 pub mod WorkedSets
 pub mod TextsOfBodies
 pub mod WorkedSimulations
+pub mod WorkedVirtuals

@@ -1,6 +1,6 @@
 -- The closed trees of what objects have: of attributes behind a dot, and of those that are seen in a connection; of the classes that are
 -- named in expressions; and of references, which have a qualification.
-use Rattle.std.specs.Prelude.{ℕ, Bool, true, false, if◌then◌else◌, List, [], ◌∷◌, slice_get, Option, Some, None}
+use Rattle.std.specs.Prelude.{ℕ, suc, Bool, true, false, if◌then◌else◌, List, [], ◌∷◌, slice_get, Option, Some, None}
 use Rattle.sim_base.specs.declared.numbering.DeclNo.{DeclNo}
 use Rattle.sim_scope.specs.declared.scopes.Denotation.{Denotation}
 use Rattle.sim_scope.specs.declared.scopes.Denotation.TheVariants as denotation
@@ -28,7 +28,7 @@ use Rattle.sim_code.specs.Transfers.{Calling, Detaching, Resuming, Transfer}
 use Rattle.sim_meaning.specs.Names.{procedure_named}
 use Rattle.sim_meaning.specs.Levels.{qualification}
 use Rattle.sim_meaning.specs.Texts.{ConnectionText, StandardText, Text, text}
-use Rattle.sim_meaning.specs.Pending.{AttributeOf, Cell, Connection, Declared, ElementOf, FitsOf, Further, Given, Instances, KeptOf, Key, MemberOf, NewOf, NoTerm, NotNoneOf, PlaceOf, ProcessOf, QuaOf, QualifiedElementOf, QualifiedPlaceOf, RemoteCallOf, SetOf, SimulationOf, Term, Terms, TransferOf, Unbuilt, ValueAt}
+use Rattle.sim_meaning.specs.Pending.{AttributeOf, Cell, Connection, Declared, ElementOf, FitsOf, Further, Given, Instances, KeptOf, Key, MemberOf, NewOf, NoTerm, NotNoneOf, PlaceOf, ProcessOf, QuaOf, QualifiedElementOf, QualifiedPlaceOf, RemoteCallOf, SetOf, SimulationOf, Term, Terms, TransferOf, Unbuilt, ValueAt, VirtualOf}
 
 -- what is there, or else another tree
 abbrev pub if_any : {A : Type 0} → Option A → (A → Term) → Term → Term
@@ -61,6 +61,11 @@ abbrev pub connected_object : Source → Instances → ℕ → (connection : ℕ
 connected_object s m i k = if_any (at_level m (level_of s k) i) (λ j. Cell j (cell_of_connection s k)) Unbuilt
 
 -- ---- attributes
+
+-- how many actual parameters there are
+abbrev pub count_of : Expressions → ℕ
+count_of NoMore = 0
+count_of (Then e es) = suc (count_of es)
 
 -- a variable, a constant or an array is found in the object, by the class that declares it
 abbrev pub attribute_place : Source → (line : ℕ) → DeclNo → (object : Term) → Term
@@ -95,6 +100,7 @@ entry_attribute s line d (Some (entry.Constant type)) object es terms actuals = 
 entry_attribute s line d (Some (entry.Array element dimensions)) object es terms actuals = array_attribute line (attribute_place s line d object) es terms
 entry_attribute s line d (Some (entry.Formal f)) object es terms actuals = parameter_attribute line f.kind (attribute_place s line d object) es terms
 entry_attribute s line d (Some (entry.Procedure result block)) object es terms actuals = RemoteCallOf object block actuals line
+entry_attribute s line d (Some (entry.Virtual result own)) object es terms actuals = VirtualOf object d.0 (count_of es) line
 entry_attribute s line d (Some (entry.Attribute name parameter result)) object es terms actuals = attribute_of_object (is_set_name name) name line object actuals
 entry_attribute s line d _ object es terms actuals = Unbuilt
 

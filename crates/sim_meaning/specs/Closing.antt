@@ -12,8 +12,9 @@ use Rattle.sim_scope.specs.declared.types.Mode.{Mode}
 use Rattle.sim_scope.specs.declared.types.Mode.TheVariants as mode
 use Rattle.sim_scope.specs.declared.types.SimType.{SimType}
 use Rattle.sim_scope.specs.declared.types.SimType.TheVariants as t
-use Rattle.sim_scope.specs.Calls.{is_inside}
-use Rattle.sim_scope.specs.Scopes.{class_formals, entry_of, formal_declared, formals_of}
+use Rattle.sim_scope.specs.Actuals.{result_in}
+use Rattle.sim_scope.specs.Calls.{is_inside, match_seen, own_of}
+use Rattle.sim_scope.specs.Scopes.{class_formals, entry_is, entry_of, formal_declared, formals_of, is_virtual}
 use Rattle.sim_scope.specs.Source.{Source, block_of, denoted, found_at, level_of, line_at, type_at}
 use Rattle.sim_tree.specs.declared.expr.Multiplication.TheVariants as multiplication
 use Rattle.sim_tree.specs.declared.expr.Relation.{Relation}
@@ -35,16 +36,17 @@ use Rattle.sim_values.specs.declared.operators.Dyadic.TheVariants as dyadic
 use Rattle.sim_values.specs.declared.operators.Monadic.TheVariants as monadic
 use Rattle.sim_values.specs.declared.standard.Standard.{Standard}
 use Rattle.sim_values.specs.declared.standard.Standard.TheVariants as name_of
-use Rattle.sim_values.specs.Plain.{Character, Integer, Nothing, Plain, Text, Truth}
+use Rattle.sim_values.specs.Plain.{Character, Integer, Nothing, Object, Plain, Text, Truth}
 use Rattle.sim_values.specs.Standard.{is_image, moves_position, on_image}
 use Rattle.sim_values.specs.Texts.{notext}
 use Rattle.sim_code.specs.Instances.{at_level}
-use Rattle.sim_meaning.specs.Attributes.{attribute, attribute_formals, connected_object, connection_at, declared_attribute, detach_term, fitting, block_found, class_made, generation, if_any, membership_term, own_attribute, own_term, parameter_qualification, place_of_attribute, qua_term, qualified_place, this_term, transfer_at, transfer_term, with_arrays_kept}
+use Rattle.sim_meaning.specs.Attributes.{attribute, attribute_formals, connected_object, connection_at, count_of, declared_attribute, detach_term, fitting, block_found, class_made, generation, if_any, membership_term, own_attribute, own_term, parameter_qualification, place_of_attribute, qua_term, qualified_place, this_term, transfer_at, transfer_term, with_arrays_kept}
 use Rattle.sim_meaning.specs.Constants.{text_constant}
 use Rattle.sim_meaning.specs.Levels.{class_at, qualification}
 use Rattle.sim_meaning.specs.Names.{is_image_in, procedure_named, stream_named}
 use Rattle.sim_meaning.specs.Texts.{constant_of}
-use Rattle.sim_meaning.specs.Pending.{Cell, CallOf, CopyOf, Declared, Either, ElementOf, Further, Given, ImageOf, Instances, Joined, Key, NoTerm, One, PlaceOf, Result, StandardOf, Term, Terms, Two, Unbuilt, ValueAt}
+use Rattle.sim_meaning.specs.Virtuals.{text_of_procedure}
+use Rattle.sim_meaning.specs.Pending.{Cell, CallOf, CopyOf, Declared, Either, ElementOf, Further, Given, ImageOf, Instances, Joined, Key, NoTerm, One, PlaceOf, Result, StandardOf, Term, Terms, Two, Unbuilt, ValueAt, VirtualOf}
 
 -- ---- operators
 
@@ -193,6 +195,8 @@ declared_term s m i line d (Some (entry.Constant type)) es terms actuals = const
 declared_term s m i line d (Some (entry.Array element dimensions)) es terms actuals = array_term s m i line d es terms
 declared_term s m i line d (Some (entry.Formal f)) es terms actuals = formal_term s m i line d f.mode f.kind es terms
 declared_term s m i line d (Some (entry.Procedure result block)) es terms actuals = in_instance (home_of s m i d) (λ j. CallOf j block (actuals (formals_at s d)) line)
+-- the object around is the one whose procedure is done
+declared_term s m i line d (Some (entry.Virtual result own)) es terms actuals = in_instance (home_of s m i d) (λ j. VirtualOf (Given (Object j)) d.0 (count_of es) line)
 declared_term s m i line d _ es terms actuals = Unbuilt
 
 -- Names of both images are done on one of them: `image` is its text, and the others are names of texts.
@@ -429,15 +433,39 @@ abbrev pub named_left : Source → Instances → ℕ → (line : ℕ) → Option
 named_left s m i line (Some (denotation.Declared d)) es = declared_left s m i line d (entry_of s.tables d) es
 named_left s m i line _ es = LeftUnbuilt
 
+-- The match of a virtual whose result an expression is as a left side: of the identifier alone of the virtual, inside the text of the match that the
+-- search comes to.
+abbrev pub is_virtual_denoted : Source → Option Denotation → Bool
+is_virtual_denoted s (Some (denotation.Declared d)) = entry_is is_virtual (entry_of s.tables d)
+is_virtual_denoted s _ = false
+
+abbrev pub match_if_virtual : Bool → Option DeclNo → Option DeclNo
+match_if_virtual true d = d
+match_if_virtual false d = None
+
+unfoldable pub own_match : Source → Expression → Option DeclNo
+own_match s (syntax.Named name NoMore) = match_if_virtual (is_virtual_denoted s (denoted s name.token.0)) (own_of s.tables name (match_seen s.tables name))
+own_match s _ = None
+
+abbrev pub result_or_own : (match own : Option ℕ) → Option ℕ
+result_or_own None own = own
+result_or_own (Some block) own = Some block
+
 -- an attribute of an object is found anew as a left side
 abbrev pub left_found : {A : Type 0} → Option A → (place : Term) → Left → Left
 left_found None place other = other
 left_found (Some a) place other = LeftAddress place
 
+-- the result of a match lies in the instance of that
+abbrev pub match_left : Source → Instances → ℕ → (match : Option ℕ) → Left → Left
+match_left s m i None other = other
+match_left s m i (Some block) other = result_left s m i block NoMore
+
 -- a variable as a left side
 abbrev pub left_variable : Source → Instances → ℕ → Expression → Left
 left_variable s m i (syntax.Named name es) =
-    left_found (connection_at s name.token.0) (close_place s m i (syntax.Named name es)) (named_left s m i (line_at s name.token.0) (denoted s name.token.0) es)
+    left_found (connection_at s name.token.0) (close_place s m i (syntax.Named name es))
+    (match_left s m i (text_of_procedure s (own_match s (syntax.Named name es))) (named_left s m i (line_at s name.token.0) (denoted s name.token.0) es))
 left_variable s m i (syntax.Dot token a name es) = left_found (declared_attribute (denoted s name.token.0)) (close_place s m i (syntax.Dot token a name es)) LeftUnbuilt
 left_variable s m i e = LeftUnbuilt
 
@@ -465,7 +493,7 @@ unless_connected (Some k) own = None
 
 -- the procedure whose own result a left side is
 unfoldable pub result_meant : Source → Expression → Option ℕ
-result_meant s (syntax.Named name es) = unless_connected (connection_at s name.token.0) (own_result s (syntax.Named name es))
+result_meant s (syntax.Named name es) = unless_connected (connection_at s name.token.0) (result_or_own (text_of_procedure s (own_match s (syntax.Named name es))) (own_result s (syntax.Named name es)))
 result_meant s _ = None
 
 -- the text that is assigned to: the result of a procedure, or the value of any other expression
@@ -482,8 +510,16 @@ abbrev pub result_place : Source → Instances → ℕ → Option ℕ → (place
 result_place s m i None place = place
 result_place s m i (Some block) place = in_instance (at_level m (level_of s block) i) (λ j. PlaceOf j Result)
 
+-- The result of a match has its own type, which is that of the virtual or of a subclass of that.
+abbrev pub type_of_left : Source → (match : Option DeclNo) → (type : Option SimType) → Option SimType
+type_of_left s None type = type
+type_of_left s (Some d) type = result_in (entry_of s.tables d)
+
+abbrev pub left_type : Source → Expression → Option SimType
+left_type s e = type_of_left s (own_match s e) (type_at s (typed_token e))
+
 abbrev pub reference_place : Source → Instances → ℕ → Expression → Term
-reference_place s m i e = qualified_place (qualification s (type_at s (typed_token e))) (result_place s m i (result_meant s e) (close_place s m i e))
+reference_place s m i e = qualified_place (qualification s (left_type s e)) (result_place s m i (result_meant s e) (close_place s m i e))
 
 -- `:=` assigns a text to a text, and any other value to a variable; `:-` assigns a text to a variable, and a reference
 abbrev pub close_left_of : (text : Bool) → Assignment → Source → Instances → ℕ → (line : ℕ) → Expression → Left

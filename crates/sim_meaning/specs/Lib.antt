@@ -3,6 +3,7 @@ pub mod Constants
 pub mod Texts
 pub mod Pending
 pub mod Levels
+pub mod Virtuals
 pub mod Attributes
 pub mod Closing
 pub mod Steps
@@ -18,3 +19,4 @@ pub mod ClassExamples
 pub mod CoroutineExamples
 pub mod SetExamples
 pub mod SimulationExamples
+pub mod VirtualExamples

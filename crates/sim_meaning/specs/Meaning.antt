@@ -6,15 +6,17 @@ use Rattle.sim_tree.specs.declared.stmt.TypeName.{TypeName}
 use Rattle.sim_tree.specs.Syntax.{Declarations, Statements}
 use Rattle.sim_values.specs.Plain.{Object}
 use Rattle.sim_code.specs.Outcome.{Going, Normal, Run, World, after, first_world}
-use Rattle.sim_code.specs.Events.{applying_one, applying_two, choosing, entering, having, joining, no_rule, performing, pop_integers, pop_many, pop_truth, popping, stopping, testing_step, ticking, when}
+use Rattle.sim_code.specs.Events.{applying_one, applying_two, choosing, entering, having, joining, no_rule, performing, pop_integers, pop_many, pop_object, pop_truth, popping, stopping, testing_step, ticking, when}
 use Rattle.sim_code.specs.Arrays.{giving_back, handed_over, making_array, pairs}
 use Rattle.sim_code.specs.Instances.{Instance, given, is_given_at_end, is_live, no_instances, object_ended}
 use Rattle.sim_code.specs.Sets.{performing_set}
-use Rattle.sim_meaning.specs.Pending.{Activation, ActivateOp, AgainOp, ArrayOp, ArrayValue, AttributeOp, BackOp, BlockOp, BranchOp, CallOp, ChooseOp, Configuration, ConnectOp, CopyOp, DeclareOp, Do, DropOp, ElementOp, ElementsOp, EndBlock, EndLevel, EndObject, EndPrefixed, EndProcedure, EndProcessOp, EndProgram, EnterOp, Eval, Exec, Execs, FetchOp, FitsOp, GiveOp, Held, IfOp, InnerOp, Instances, Item, JoinOp, KeepOp, LevelOp, Link, MemberOp, NewOp, NotNoneOp, ObjectOp, Of, OneOp, Op, PastOp, PrefixedOp, ProcessOp, QuaOp, QualifiedElementOp, RaiseOp, ReferOp, Result, SelfOp, SetOp, SimulationOp, ShareOp, StandardOp, StepOp, StepTestOp, StoreOp, SwapOp, TestOp, TransferOp, TwoOp, Val, WhenOp, WhileElementOp, cell, instance_in, owner, plain}
+use Rattle.sim_code.specs.Virtuals.{counting, matching}
+use Rattle.sim_meaning.specs.Pending.{Activation, ActivateOp, AgainOp, ArrayOp, ArrayValue, AttributeOp, BackOp, BlockOp, BranchOp, CallOp, CallValueOp, CheckOp, ChooseOp, Configuration, ConnectOp, CopyOp, DeclareOp, Do, DropOp, ElementOp, ElementsOp, EndBlock, EndLevel, EndObject, EndPrefixed, EndProcedure, EndProcessOp, EndProgram, EnterOp, Eval, Exec, Execs, FetchOp, FitsOp, GiveOp, Held, IfOp, InnerOp, Instances, Item, JoinOp, KeepOp, LevelOp, Link, MemberOp, NewOp, NotNoneOp, ObjectOp, Of, OneOp, Op, PastOp, PrefixedOp, ProcedureValue, ProcessOp, QuaOp, QualifiedElementOp, RaiseOp, ReferOp, Result, SelfOp, SetOp, SimulationOp, ShareOp, StandardOp, StepOp, StepTestOp, StoreOp, SwapOp, TestOp, TransferOp, TwoOp, Val, VirtualOp, WhenOp, WhileElementOp, cell, instance_in, owner, plain, procedure_in}
 use Rattle.sim_meaning.specs.Constants.{constants_of}
 use Rattle.sim_meaning.specs.Texts.{BlockText, PrefixedText, ProcedureText, Text, text}
 use Rattle.sim_meaning.specs.Levels.{levels}
 use Rattle.sim_meaning.specs.Closing.{close}
+use Rattle.sim_meaning.specs.Virtuals.{match_at}
 use Rattle.sim_meaning.specs.Steps.{copied, element_found, eval, fetched, given_to, go, operand, put_back, stored, with_value}
 use Rattle.sim_meaning.specs.Statements.{elements, exec, execs, first_branch, raised, step_tested, while_element}
 use Rattle.sim_meaning.specs.Objects.{activation_done, attribute_found, block_begun, cells_of_levels, fitted, generated, inner_done, kept, member_tested, levels_work, not_none, object_found, prefix_done, process_ended, process_told, qua_tested, qualified_element_found, referred, simulation_done, transfer_done}
@@ -52,6 +54,21 @@ abbrev pub called : Source → Limits → World → Instances → ℕ → List I
 called s l o m i w vals rest k n line =
     pop_many n [] vals o (λ values vals. popping vals o (λ v vals. having (instance_in v) o (λ j. when (is_live m j) o (
     procedure_entered s l o m i w vals rest k line values j (text s k)))))
+
+-- what matches a virtual in the object in hand: E6 of none, E8 without a match
+abbrev pub match_taken : Source → World → Instances → ℕ → List Item → List Val → List Activation → (virtual line : ℕ) → Run Configuration
+match_taken s o m i w vals rest v line = pop_object plain line vals o (λ j vals. matching line (match_at s m v j) o (λ k. go o m i w (ProcedureValue k j ∷ vals) rest))
+
+-- E10, before any actual parameter is evaluated. Matches with parameters are not built.
+abbrev pub number_checked : Source → World → Instances → ℕ → List Item → List Val → List Activation → (actuals line : ℕ) → Run Configuration
+number_checked s o m i w vals rest n line =
+    popping vals o (λ v more. having (procedure_in v) o (λ q. counting line (length (formals_of s q.0)) n o (when (n == 0) o (go o m i w vals rest))))
+
+-- the procedure in hand, which has no parameters
+abbrev pub value_called : Source → Limits → World → Instances → ℕ → List Item → List Val → List Activation → (line : ℕ) → Run Configuration
+value_called s l o m i w vals rest line =
+    popping vals o (λ v vals. having (procedure_in v) o (λ q. when (is_live m q.1) o (
+    procedure_entered s l o m i w vals rest q.0 line [] q.1 (text s q.0))))
 
 -- ---- ends
 
@@ -109,6 +126,9 @@ do_op s l o m i w vals rest (NotNoneOp line) = not_none o m i w vals rest line
 do_op s l o m i w vals rest (TransferOp t line) = transfer_done o m i w vals rest t line
 do_op s l o m i w vals rest (ProcessOp name line) = process_told o m i w vals rest name line
 do_op s l o m i w vals rest (SimulationOp name line) = simulation_done s o m i w vals rest name line
+do_op s l o m i w vals rest (VirtualOp v line) = match_taken s o m i w vals rest v line
+do_op s l o m i w vals rest (CheckOp n line) = number_checked s o m i w vals rest n line
+do_op s l o m i w vals rest (CallValueOp line) = value_called s l o m i w vals rest line
 do_op s l o m i w vals rest (SetOp name) = performing_set plain name vals o (λ p value vals. go p m i w (with_value value vals) rest)
 -- values in hand, and assignments
 do_op s l o m i w vals rest DropOp = popping vals o (λ v vals. go o m i w vals rest)

@@ -61,6 +61,8 @@ mutual
     -- an attribute of a process, and a procedure of a simulation block
     ProcessOf : Standard → (line : ℕ) → (process : Term) → Term
     SimulationOf : (block : ℕ) → Standard → (actuals : Terms) → (line : ℕ) → Term
+    -- a call of what matches a virtual procedure in the class of an object, with so many actual parameters
+    VirtualOf : (object : Term) → (virtual actuals line : ℕ) → Term
     -- a form that is not built
     Unbuilt : Term
 
@@ -95,6 +97,11 @@ abbrev pub variable_in : Val → Option (Place Key (Option ℕ))
 variable_in (Address (CellPlace j key class)) = Some (CellPlace j key class)
 variable_in (Address (ElementPlace a n class)) = Some (ElementPlace a n class)
 variable_in _ = None
+
+-- a procedure, with the instance in which it is declared
+abbrev pub procedure_in : Val → Option (ℕ × ℕ)
+procedure_in (ProcedureValue k j) = Some (k, j)
+procedure_in _ = None
 
 abbrev pub instance_in : Val → Option ℕ
 instance_in (Link j) = Some j
@@ -148,6 +155,10 @@ pub data Op : Type 0 where
   SetOp : Standard → Op
   ProcessOp : Standard → (line : ℕ) → Op
   SimulationOp : Standard → (line : ℕ) → Op
+  -- what matches a virtual in the object in hand; whether it has so many formal parameters; and its call
+  VirtualOp : (virtual line : ℕ) → Op
+  CheckOp : (actuals line : ℕ) → Op
+  CallValueOp : (line : ℕ) → Op
   -- the value in hand is dropped, or there once more; the last two change places
   DropOp : Op
   AgainOp : Op

@@ -7,7 +7,7 @@ use Rattle.sim_code.specs.Outcome.{Going, Run, World}
 use Rattle.sim_code.specs.Events.{assigning, having, image_set, image_value, no_rule, only_text, popping}
 use Rattle.sim_code.specs.Arrays.{copying_array, element, element_set, finding_element}
 use Rattle.sim_code.specs.Instances.{CellPlace, ElementPlace, ImagePlace, Place}
-use Rattle.sim_meaning.specs.Pending.{Address, Activation, ArrayValue, AttributeOf, AttributeOp, Cell, CallOf, CallOp, Configuration, CopyOf, CopyOp, Do, Either, ElementOf, ElementOp, Eval, FetchOp, FitsOf, FitsOp, Further, GiveOp, Given, IfOp, ImageOf, Instances, Item, JoinOp, Joined, KeepOp, KeptOf, Key, Link, MemberOf, MemberOp, NewOf, NewOp, NoTerm, NotNoneOf, NotNoneOp, ObjectOp, Of, One, OneOp, PlaceOf, ProcessOf, ProcessOp, QualifiedElementOf, QualifiedElementOp, QualifiedPlaceOf, QuaOf, QuaOp, ReferOp, RemoteCallOf, SetOf, SetOp, SimulationOf, SimulationOp, StandardOf, StandardOp, StoreOp, SwapOp, Target, Term, Terms, ToAddress, ToCell, ToPlace, ToReference, ToReferenceAt, ToText, ToTextAt, ToTextOf, TransferOf, TransferOp, Two, TwoOp, Unbuilt, Val, ValueAt, array_in, cell, cell_set, place_in, plain, variable_in}
+use Rattle.sim_meaning.specs.Pending.{Address, Activation, ArrayValue, AttributeOf, AttributeOp, Cell, CallOf, CallOp, CallValueOp, CheckOp, Configuration, CopyOf, CopyOp, Do, Either, ElementOf, ElementOp, Eval, FetchOp, FitsOf, FitsOp, Further, GiveOp, Given, IfOp, ImageOf, Instances, Item, JoinOp, Joined, KeepOp, KeptOf, Key, Link, MemberOf, MemberOp, NewOf, NewOp, NoTerm, NotNoneOf, NotNoneOp, ObjectOp, Of, One, OneOp, PlaceOf, ProcessOf, ProcessOp, QualifiedElementOf, QualifiedElementOp, QualifiedPlaceOf, QuaOf, QuaOp, ReferOp, RemoteCallOf, SetOf, SetOp, SimulationOf, SimulationOp, StandardOf, StandardOp, StoreOp, SwapOp, Target, Term, Terms, ToAddress, ToCell, ToPlace, ToReference, ToReferenceAt, ToText, ToTextAt, ToTextOf, TransferOf, TransferOp, Two, TwoOp, Unbuilt, Val, ValueAt, VirtualOf, VirtualOp, array_in, cell, cell_set, place_in, plain, variable_in}
 
 -- the innermost instance goes on with this work and these values in hand
 abbrev pub go : World → Instances → ℕ → List Item → List Val → List Activation → Run Configuration
@@ -57,6 +57,7 @@ eval o m i w vals rest (TransferOf t line a) = go o m i (Do (Eval a) ∷ Do (Tra
 eval o m i w vals rest (SetOf name ts) = go o m i (each ts (Do (SetOp name) ∷ w)) vals rest
 eval o m i w vals rest (ProcessOf name line a) = go o m i (Do (Eval a) ∷ Do (ProcessOp name line) ∷ w) vals rest
 eval o m i w vals rest (SimulationOf b name ts line) = go o m i (each ts (Do (SimulationOp name line) ∷ w)) (Link b ∷ vals) rest
+eval o m i w vals rest (VirtualOf a v n line) = go o m i (Do (Eval a) ∷ Do (VirtualOp v line) ∷ Do (CheckOp n line) ∷ Do (CallValueOp line) ∷ w) vals rest
 eval o m i w vals rest Unbuilt = no_rule o
 
 -- the value that lies somewhere

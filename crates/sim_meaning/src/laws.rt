@@ -9,6 +9,7 @@ ghost use Rattle.sim_meaning.specs.SetExamples.{WorkedSets};
 ghost use Rattle.sim_meaning.specs.SimulationExamples.{WorkedSimulations};
 ghost use Rattle.sim_meaning.specs.TextExamples.{WorkedTexts};
 ghost use Rattle.sim_meaning.specs.Texts.{program_texts, text_of};
+ghost use Rattle.sim_meaning.specs.VirtualExamples.{WorkedVirtuals};
 
 /// Small programs show in the end what they should: their output, their ticks and words, and how they end.
 pub fn worked_programs()
@@ -38,6 +39,11 @@ pub fn worked_programs_with_sets()
 /// Small programs with simulations do so too.
 pub fn worked_programs_with_simulations()
     ensures { WorkedSimulations }
+{}
+
+/// Small programs with virtuals do so too.
+pub fn worked_programs_with_virtuals()
+    ensures { WorkedVirtuals }
 {}
 
 /// The texts of each program are what its bodies are made of, one for one and in their order. Since the blocks of the tables of scopes are

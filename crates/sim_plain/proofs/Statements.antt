@@ -52,10 +52,10 @@ use Rattle.sim_tree.proofs.ReadStatements.{acted_full}
 use Rattle.sim_scope.specs.declared.types.Position.{Position}
 use Rattle.sim_scope.specs.declared.types.Position.TheVariants.{ClassBody, ClassStatement, Inside}
 use Rattle.sim_scope.specs.Walk.{arms_events, block_events, declaration_events, declarations_events, enclosed, program_events, statement_events, statements_events, whole_events}
-use Rattle.sim_static.specs.UnbuiltForms.{forms, has_code, has_some, has_unbuilt_form, is_by_name, is_name, is_of_procedures, is_procedure, yes}
+use Rattle.sim_static.specs.UnbuiltForms.{forms, has_code, has_unbuilt_form, is_by_name, is_name, is_of_procedures, is_procedure, yes}
 use Rattle.sim_static.specs.UnbuiltNames.{has_unbuilt_name, is_new}
 use Rattle.sim_plain.specs.Clean.{Clean, CleanBehind}
-use Rattle.sim_agree.specs.Plain.{Each, Plain, PlainArms, PlainBlock, PlainBounds, PlainDeclaration, PlainDeclarations, PlainElement, PlainExpression, PlainHeading, PlainInterface, PlainMode, PlainSchedule, PlainSegment, PlainSide, PlainSpecification, PlainSpecified, PlainStart, PlainStatement, PlainStatements, PlainWord}
+use Rattle.sim_agree.specs.Plain.{Each, Plain, PlainArms, PlainBlock, PlainBounds, PlainDeclaration, PlainDeclarations, PlainElement, PlainExpression, PlainHeading, PlainMode, PlainSchedule, PlainSegment, PlainSide, PlainSpecification, PlainSpecified, PlainStart, PlainStatement, PlainStatements, PlainWord}
 use Rattle.sim_plain.proofs.Expressions.{operand_plain, plain_expr, valued, arguments_given}
 use Rattle.sim_plain.proofs.Tokens.{none_spells, reads_clean}
 
@@ -276,10 +276,6 @@ contents_plain (Prefixed name i f ∷ ds) (x ∷ xs) fs es end all each full c p
 
 -- ---- classes and arms
 
-plain_interface : (xs : List Protection) (ys : List VirtualSpecification) → has_some (map t.virtual_syntax ys) ≡ false → PlainInterface (t.interface_syntax xs ys)
-plain_interface xs [] h = refl
-plain_interface xs (y ∷ ys) h = absurd (no h)
-
 full_behind_row : (n : g.Part) (fs : List Forest) (f : Forest) → Full (row n fs f) → Full f
 full_behind_row n [] f full = full
 full_behind_row n (x ∷ xs) f full = full_behind_row n xs f full.2
@@ -287,10 +283,12 @@ full_behind_row n (x ∷ xs) f full = full_behind_row n xs f full.2
 abbrev behind_heading : List Protection → List VirtualSpecification → Forest → Forest
 behind_heading xs ys f = row g.Protection (map d.protection_derivation xs) (d.virtuals_derivation ys f)
 
-past_interface : (xs : List Protection) (ys : List VirtualSpecification) (f : Forest) → has_some (map t.virtual_syntax ys) ≡ false
-    → Full (behind_heading xs ys f) → Clean (behind_heading xs ys f) → Full f × Clean f
-past_interface xs [] f h full c = (full_behind_row g.Protection (map d.protection_derivation xs) f full, clean_behind_row g.Protection (map d.protection_derivation xs) f c)
-past_interface xs (y ∷ ys) f h full c = absurd (no h)
+past_interface : (xs : List Protection) (ys : List VirtualSpecification) (f : Forest) → Full (behind_heading xs ys f) → Clean (behind_heading xs ys f) → Full f × Clean f
+past_interface xs ys f full c = past_virtuals ys (full_behind_row g.Protection (map d.protection_derivation xs) (d.virtuals_derivation ys f) full) (clean_behind_row g.Protection (map d.protection_derivation xs) (d.virtuals_derivation ys f) c)
+  where
+    past_virtuals : (ys : List VirtualSpecification) → Full (d.virtuals_derivation ys f) → Clean (d.virtuals_derivation ys f) → Full f × Clean f
+    past_virtuals [] full c = (full, c)
+    past_virtuals (y ∷ ys) full c = (full.2, c.1)
 
 abbrev WhenPair : Type 0
 WhenPair = induction.WhenPair Says Declares Blocks Classes Procedures Arms
@@ -374,12 +372,9 @@ class_step : induction.ClassStep Says Declares Blocks Classes Procedures Arms
 class_step q full c prefix i free =
     let body = statement_events forms ClassBody (statement_syntax q.body.value.0) in
     let code = has_code (t.heading_syntax q.name q.parameters.items q.modes.items q.specifications.items) in
-    let virtuals = has_some (map t.virtual_syntax q.virtuals.items) in
-    let both = free_first (code || virtuals) (body ++ []) free in
-    let parts = either code virtuals both.0 in
-    let inside = past_interface q.protections.items q.virtuals.items (node g.Statement (statement_derivation q.body.value.0) (place q.end.0 done)) parts.1 full.2 c.1.1 in (
-      plain_heading q.name q.parameters.items q.modes.items q.specifications.items parts.0,
-      plain_interface q.protections.items q.virtuals.items parts.1,
+    let both = free_first code (body ++ []) free in
+    let inside = past_interface q.protections.items q.virtuals.items (node g.Statement (statement_derivation q.body.value.0) (place q.end.0 done)) full.2 c.1.1 in (
+      plain_heading q.name q.parameters.items q.modes.items q.specifications.items both.0,
       q.body.value.1 inside.0.0 inside.0.1 inside.1.0 ClassBody (free_both body [] both.1).0,
     )
 

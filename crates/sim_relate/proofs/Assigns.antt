@@ -22,7 +22,7 @@ use Rattle.sim_meaning.specs.Pending.{Activation, Configuration, cell, Do, Fetch
 use Rattle.sim_meaning.specs.Steps.{go, of_plain, putting, text_assigned}
 use Rattle.sim_meaning.specs.Steps as steps
 use Rattle.codegen_expr.specs.Sites.{HasCell, Is, slot_of, At, frame_text, own_end}
-use Rattle.sim_relate.proofs.Known.{FixedOf, IsRead, LinkTo, Located, OwnerOf, PlaceIs, Refers, RefersAt, Stands, is_declared, is_fixed, refers_cell, refers_element, Any, Every, HandAt, Kind, StackAt, ValAt, anys, array_at, element_at, link_at, more_at, plain_at, site_at, image_at, Runs, spot, Settled, LinkOf}
+use Rattle.sim_relate.proofs.Known.{FixedOf, IsRead, LinkTo, Located, OwnerOf, PlaceIs, Refers, RefersAt, Stands, is_declared, is_fixed, refers_cell, refers_element, Any, Every, HandAt, Kind, StackAt, ValAt, anys, array_at, element_at, link_at, more_at, plain_at, site_at, image_at, Runs, spot, Settled, LinkOf, MatchOf}
 use Rattle.sim_relate.proofs.Operations.{StoreIs, TargetAt}
 use Rattle.sim_relate.proofs.Relation.{stays, ChainAt, Changed, OpAt, StateAt, WorkAt, there}
 use Rattle.sim_relate.proofs.Carried.{all_every, kept_every}
@@ -180,6 +180,7 @@ module _ (s : Source) (code : CodeOf) (l : Limits) (o : World) (m : Instances) (
   puts_at line (LinkTo z) i v x p p' vals2 stack2 h hp h2 place = absurd i
   puts_at line (OwnerOf z) i v x p p' vals2 stack2 h hp h2 place = absurd i
   puts_at line (LinkOf z) i v x p p' vals2 stack2 h hp h2 place = absurd i
+  puts_at line (MatchOf z) i v x p p' vals2 stack2 h hp h2 place = absurd i
   puts_at line (Refers z) i v x p p' vals2 stack2 h hp h2 place = absurd i
   puts_at line (FixedOf z) i v x p p' vals2 stack2 h hp h2 place = absurd i
 

@@ -26,7 +26,7 @@ use Rattle.sim_meaning.specs.Statements.{has_value}
 use Rattle.sim_meaning.specs.Steps.{go, with_value, of_plain, operand, plain_in, put_back, putting}
 use Rattle.sim_meaning.specs.Texts.{text}
 use Rattle.codegen_expr.specs.Sites.{HasCell, slot_of, frame_text}
-use Rattle.sim_relate.proofs.Known.{FixedOf, OwnerOf, Refers, is_declared, is_fixed, Every, HandAt, Kind, StackAt, given, more_at, plain_at, site_at, AllRead, Any, IsRead, LinkTo, Located, Stands, ValAt, array_at, element_at, image_at, link_at, Runs, Settled, LinkOf}
+use Rattle.sim_relate.proofs.Known.{FixedOf, OwnerOf, Refers, is_declared, is_fixed, Every, HandAt, Kind, StackAt, given, more_at, plain_at, site_at, AllRead, Any, IsRead, LinkTo, Located, Stands, ValAt, array_at, element_at, image_at, link_at, Runs, Settled, LinkOf, MatchOf}
 use Rattle.sim_relate.proofs.Relation.{ChainAt, Changed, OpAt, StateAt, WorkAt}
 use Rattle.sim_relate.proofs.Hands.{stack_length, FirstAt, hand_operands}
 use Rattle.sim_relate.proofs.Here.{Here, act, at_row, kinds_as}
@@ -87,6 +87,7 @@ module _ (s : Source) (code : CodeOf) (l : Limits) (o : World) (m : Instances) (
   reads_same (LinkTo text) r v x h = absurd r
   reads_same (OwnerOf text) r v x h = absurd r
   reads_same (LinkOf j) r v x h = absurd r
+  reads_same (MatchOf d) r v x h = absurd r
   reads_same (Refers class) r v x h = absurd r
   reads_same (FixedOf d) r v x h = absurd r
 
@@ -114,6 +115,7 @@ module _ (s : Source) (code : CodeOf) (l : Limits) (o : World) (m : Instances) (
     back (LinkTo text) i v x h = absurd i
     back (OwnerOf text) i v x h = absurd i
     back (LinkOf j) i v x h = absurd i
+    back (MatchOf d) i v x h = absurd i
     back (Refers class) i v x h = absurd i
     back (FixedOf d) i v x h = absurd i
 

@@ -9,11 +9,11 @@ use Rattle.sim_code.specs.declared.stage.Stage.{Stage}
 use Rattle.sim_code.specs.Code.{BlockOf, CodeOf}
 use Rattle.sim_code.specs.Machine.{Frames, Value}
 use Rattle.sim_code.specs.Machine as machine
-use Rattle.sim_meaning.specs.Pending.{Activation, AttributeOf, BackOp, BranchOp, CallOf, Cell, CopyOf, Do, Either, ElementOf, ElementsOp, EndBlock, EndLevel, EndObject, EndPrefixed, EndProcedure, EndProgram, Eval, FitsOf, Further, Given, GiveOp, IfOp, ImageOf, Instances, Item, Joined, KeptOf, Key, MemberOf, NewOf, NoTerm, NotNoneOf, One, Op, PlaceOf, QuaOf, QualifiedElementOf, QualifiedPlaceOf, RaiseOp, RemoteCallOf, SetOf, ShareOp, StandardOf, StepTestOp, StoreOp, Target, Term, Terms, ToAddress, ToCell, ToPlace, ToReference, ToReferenceAt, ToText, ToTextAt, ToTextOf, TransferOf, Two, Unbuilt, Val, ValueAt, WhileElementOp, BlockOp, ProcessOf, SimulationOf, SimulationOp, ActivateOp}
+use Rattle.sim_meaning.specs.Pending.{Activation, AttributeOf, BackOp, BranchOp, CallOf, Cell, CopyOf, Do, Either, ElementOf, ElementsOp, EndBlock, EndLevel, EndObject, EndPrefixed, EndProcedure, EndProgram, Eval, FitsOf, Further, Given, GiveOp, IfOp, ImageOf, Instances, Item, Joined, KeptOf, Key, MemberOf, NewOf, NoTerm, NotNoneOf, One, Op, PlaceOf, QuaOf, QualifiedElementOf, QualifiedPlaceOf, RaiseOp, RemoteCallOf, SetOf, ShareOp, StandardOf, StepTestOp, StoreOp, Target, Term, Terms, ToAddress, ToCell, ToPlace, ToReference, ToReferenceAt, ToText, ToTextAt, ToTextOf, TransferOf, Two, Unbuilt, Val, ValueAt, WhileElementOp, BlockOp, ProcessOf, SimulationOf, SimulationOp, ActivateOp, VirtualOf}
 use Rattle.sim_meaning.specs.Sane.{AllKept, AllOf, KeptOf as KeptChains}
 use Rattle.codegen_expr.specs.Sites.{Site, class_number, frame_text, own_end}
 use Rattle.codegen.specs.CodeFor.{OfCell, OfPlace, OfReference, Variable}
-use Rattle.sim_relate.proofs.Known.{Any, Every, FixedOf, HandAt, Keeps, Kind, Later, LinkTo, Located, OwnerOf, Reaches, Refers, RefersAt, Runs, Spot, StackAt, Stands, more_at, none_at, placed, refers_cell, refers_element, site_at, LinkOf}
+use Rattle.sim_relate.proofs.Known.{Any, Every, FixedOf, HandAt, Keeps, Kind, Later, LinkTo, Located, OwnerOf, Reaches, Refers, RefersAt, Runs, Spot, StackAt, Stands, more_at, none_at, placed, refers_cell, refers_element, site_at, LinkOf, MatchOf}
 use Rattle.sim_relate.proofs.Trees.{CellPlaceIs, GivenIs, OperandAt, ReadsAt, TermAt, TermsAt}
 use Rattle.sim_relate.proofs.Waiting.{GetsIs, demand, suspended, suspended_in}
 use Rattle.sim_relate.proofs.Operations.{GivesIs, PlaceStoreIs, StoreIs, TargetAt}
@@ -80,6 +80,7 @@ module _ (s : Source) (code : CodeOf) (m m' : Instances) (e : Later s m m') wher
   hand_later (LinkOf j) v x h = h
   hand_later (OwnerOf u) v x h = record { instance = h.instance; is_val = h.is_val; is_value = h.is_value; stands = e.stands h.instance u h.stands }
   hand_later (Refers k) v x h = refers_later k v x h
+  hand_later (MatchOf d) v x h = record { own = h.own; text = h.text; instance = h.instance; is_val = h.is_val; is_value = h.is_value; there = h.there; stands = e.stands h.instance (h.there).around h.stands }
   hand_later (FixedOf d) v x h = record { instance = h.instance; text = h.text; is_val = h.is_val; is_value = h.is_value; stands = e.stands h.instance h.text h.stands; own = h.own; has = h.has; fixed = h.fixed }
 
   pub stack_later : (ks : List Kind) (vals : List Val) (stack : List Value) → StackAt (HandAt s code m) ks vals stack → StackAt (HandAt s code m') ks vals stack
@@ -180,6 +181,17 @@ module _ (s : Source) (code : CodeOf) (m m' : Instances) (e : Later s m m') wher
         reaches = reaches_later inst t a.text j st a.reaches;
         actuals = terms_later site (suc n) ts a.x a.y a.actuals;
         is = a.is;
+      }
+      term_later site n (VirtualOf x v many line) p q a = record {
+        x = a.x;
+        y = a.y;
+        z = a.z;
+        object = (term_later site n x p a.x (a.object).0, (a.object).1);
+        fits = a.fits;
+        declared = a.declared;
+        found = a.found;
+        checked = a.checked;
+        called = a.called;
       }
       term_later site n Unbuilt p q a = a
 

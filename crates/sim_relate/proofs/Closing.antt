@@ -1,5 +1,5 @@
 -- The code of an expression evaluates its closed tree.
-use Rattle.std.proofs.Common.{◌≡◌, ℕ, suc, Bool, true, false, List, [], ◌∷◌, length, Option, Some, None, refl, sym, ap, ◌∙◌, subst}
+use Rattle.std.proofs.Common.{◌≡◌, ℕ, suc, Bool, true, false, List, [], ◌∷◌, length, Option, Some, None, refl, sym, ap, ◌∙◌, subst, ◌<◌}
 use Rattle.std.specs.Prelude.{pos, ◌&&◌, ◌||◌, if◌then◌else◌}
 use Rattle.sim_base.specs.declared.numbering.DeclNo.{DeclNo}
 use Rattle.sim_scope.specs.declared.scopes.Denotation.{Denotation}
@@ -16,8 +16,9 @@ use Rattle.sim_scope.specs.declared.types.Mode.TheVariants as mode
 use Rattle.sim_scope.specs.declared.types.SimType.{SimType}
 use Rattle.sim_scope.specs.Access.{encloser}
 use Rattle.sim_scope.specs.Levels.{class_block}
-use Rattle.sim_scope.specs.Scopes.{entry_of}
-use Rattle.sim_scope.specs.Source.{Source, block_of, denoted, found_at, level_of, line_at, type_at}
+use Rattle.sim_scope.specs.Actuals.{result_in}
+use Rattle.sim_scope.specs.Scopes.{entry_of, entry_is, is_virtual}
+use Rattle.sim_scope.specs.Source.{Source, block_of, denoted, found_at, level_of, line_at}
 use Rattle.sim_tree.specs.declared.expr.Identifier.{Identifier}
 use Rattle.sim_tree.specs.declared.expr.Membership.{Membership}
 use Rattle.sim_tree.specs.declared.expr.Sign.{Sign}
@@ -32,18 +33,18 @@ use Rattle.sim_code.specs.declared.instr.Instr.TheVariants as i
 use Rattle.sim_code.specs.Code.{CodeOf}
 use Rattle.sim_code.specs.Instances.{at_level}
 use Rattle.sim_code.specs.Transfers.{Transfer}
-use Rattle.sim_meaning.specs.Attributes.{array_attribute, attribute, attribute_place, block_found, cell_of_connection, class_made, connected_object, connection_at, declared_attribute, detach_term, entry_at, entry_attribute, fitting, generation, if_any, is_connection, kept_if, membership_term, own_attribute, own_term, parameter_at, parameter_attribute, parameter_qualification, place_of_attribute, qua_term, qualified, qualified_place, this_instance, this_term, transfer_at, transfer_term, variable_attribute, with_arrays_kept}
+use Rattle.sim_meaning.specs.Attributes.{array_attribute, attribute, attribute_place, block_found, cell_of_connection, class_made, connected_object, connection_at, declared_attribute, detach_term, entry_at, entry_attribute, fitting, generation, if_any, is_connection, kept_if, membership_term, own_attribute, own_term, parameter_at, parameter_attribute, parameter_qualification, place_of_attribute, qua_term, qualified, qualified_place, this_instance, this_term, transfer_at, transfer_term, variable_attribute, with_arrays_kept, count_of}
 use Rattle.sim_meaning.specs.Attributes as attributes
-use Rattle.sim_meaning.specs.Closing.{Joining, Lazily, Negated, Plainly, Sort, actual_term, array_place, array_term, attribute_term, behind_dot, class_parameters, close, close_actuals, close_all, close_parameters, close_place, constant_term, declared_place, declared_term, dot_term, formal_place, formal_term, formals_at, given_term, home_of, home_of_class, image_place, in_instance, is_attribute, is_text, is_text_type, is_variable, literal_term, name_term, named_place, named_term, object_term, reference_place, result_meant, result_place, signed_term, sort_of, standard_term, stream_denoted, stream_of, sysout, two_term, typed_token, variable_place, variable_term}
+use Rattle.sim_meaning.specs.Closing.{Joining, Lazily, Negated, Plainly, Sort, actual_term, array_place, array_term, attribute_term, behind_dot, class_parameters, close, close_actuals, close_all, close_parameters, close_place, constant_term, declared_place, declared_term, dot_term, formal_place, formal_term, formals_at, given_term, home_of, home_of_class, image_place, in_instance, is_attribute, is_text, is_text_type, is_variable, literal_term, name_term, named_place, named_term, object_term, reference_place, result_meant, result_place, signed_term, sort_of, standard_term, stream_denoted, stream_of, sysout, two_term, variable_place, variable_term, left_type, has_type}
 use Rattle.sim_meaning.specs.Constants.{text_constant}
 use Rattle.sim_meaning.specs.Levels.{class_at, class_denoted, qualification}
 use Rattle.sim_meaning.specs.Names.{procedure_named, stream_named}
-use Rattle.sim_meaning.specs.Pending.{CallOf, Cell, Declared, ElementOf, Further, ImageOf, Instances, Key, NoTerm, PlaceOf, RemoteCallOf, Result, Term, Terms, Unbuilt, ValueAt}
+use Rattle.sim_meaning.specs.Pending.{CallOf, Cell, Declared, ElementOf, Further, ImageOf, Instances, Key, NoTerm, PlaceOf, RemoteCallOf, Result, Term, Terms, Unbuilt, ValueAt, VirtualOf, Given}
 use Rattle.sim_meaning.specs.Statements.{has_value, standard_leaves}
 use Rattle.sim_meaning.specs.Steps.{count}
 use Rattle.sim_meaning.specs.Texts.{constant_of, text}
 use Rattle.codegen_expr.specs.Sites.{At, HasCell, Inside, Is, LevelOf, Pushes, Site, block_number, class_number, frame_text, is_constant, slot_of}
-use Rattle.codegen_expr.specs.CodeExpr.{ActualAt, ActualsAt, ArrayAt, ArrayOfAt, ArrayPlaceAt, ArrayPlaceOfAt, AttributeAt, AttributePlaceAt, BehindDotAt, CallAt, CellAt, ConnectedAt, ConnectedNameAt, ConstantAt, ConstantAttributeAt, DeclaredAt, DeclaredPlaceAt, DotAt, ElementAt, ElementOfAt, ExprAt, ExprsAt, FittingAt, FormalAt, FormalPlaceAt, GenerationAt, GivenAt, LiteralAt, MemberAt, NameAt, NamedAt, NamedPlaceAt, ObjectAt, OfObjectAt, OwnAt, OwnNameAt, ParameterOfAt, ParameterPlaceOfAt, PlaceAt, PlaceBehindAt, PlaceOfObjectAt, PlaceOrResultAt, PlainAt, QuaAt, QualifiedPlaceAt, ReferencePlaceAt, RemoteCallAt, SignedAt, StandardAt, StandardIs, StreamPlaceAt, ThisFoundAt, ThisOfAt, ThroughAt, TwoAt, VariableAt, VariableOfAt, VariablePlaceAt, VariablePlaceOfAt, gives_entry, operands}
+use Rattle.codegen_expr.specs.CodeExpr.{ActualAt, ActualsAt, ArrayAt, ArrayOfAt, ArrayPlaceAt, ArrayPlaceOfAt, AttributeAt, AttributePlaceAt, BehindDotAt, CallAt, CellAt, ConnectedAt, ConnectedNameAt, ConstantAt, ConstantAttributeAt, DeclaredAt, DeclaredPlaceAt, DotAt, ElementAt, ElementOfAt, ExprAt, ExprsAt, FittingAt, FormalAt, FormalPlaceAt, GenerationAt, GivenAt, LiteralAt, MemberAt, NameAt, NamedAt, NamedPlaceAt, ObjectAt, OfObjectAt, OwnAt, OwnNameAt, ParameterOfAt, ParameterPlaceOfAt, PlaceAt, PlaceBehindAt, PlaceOfObjectAt, PlaceOrResultAt, PlainAt, QuaAt, QualifiedPlaceAt, ReferencePlaceAt, RemoteCallAt, SignedAt, StandardAt, StandardIs, StreamPlaceAt, ThisFoundAt, ThisOfAt, ThroughAt, TwoAt, VariableAt, VariableOfAt, VariablePlaceAt, VariablePlaceOfAt, gives_entry, operands, VirtualAt, ThisAt, list_of}
 use Rattle.codegen_expr.specs.CodeExpr as code_gives
 use Rattle.codegen.specs.Agrees.{Agrees}
 use Rattle.sim_relate.proofs.AttributeTerms.{object_attribute_at, own_name_at}
@@ -54,7 +55,7 @@ use Rattle.sim_relate.proofs.Known.{Any, Finds, FixedOf, IsImage, Kind, LeavesIs
 use Rattle.sim_relate.proofs.Roomy.{FitsWhere, connected_fits, expression_fits, this_fits}
 use Rattle.sim_relate.proofs.OwnNames.{own_denoted}
 use Rattle.sim_relate.proofs.TransferNames.{no_transfer}
-use Rattle.sim_relate.proofs.Trees.{Classed, CellIs, CellPlaceIs, FoundIs, GivenIs, OperandAt, ReadsAt, TermAt, TermsAt, empty, listed}
+use Rattle.sim_relate.proofs.Trees.{Classed, CellIs, CellPlaceIs, FoundIs, GivenIs, OperandAt, ReadsAt, TermAt, TermsAt, empty, listed, list_number}
 
 module _ (s : Source) (code : CodeOf) (m : Instances) (inst : ℕ) (site : Site) (agrees : Agrees s) (reach : (u : ℕ) → Inside s.tables site.text u → Finds s m inst u) where
   -- the tree evaluates, and leaves a value just where g says so
@@ -215,6 +216,37 @@ module _ (s : Source) (code : CodeOf) (m : Instances) (inst : ℕ) (site : Site)
         ap text_gives x.is ∙ x.same,
       )
 
+  -- a call of what matches a virtual
+  lists : (es : Expressions) → list_of es ≡ list_number (count_of es)
+  lists NoMore = refl
+  lists (Then e es) = refl
+
+  virtual_at : (d : DeclNo) (line n : ℕ) (result : Option SimType) (own : Option DeclNo) (es : Expressions) (Base : ℕ → ℕ → Type 0) (x : Term) → ((p q : ℕ) → Base p q → OperandAt s code m inst site n x p q) → ((p q : ℕ) → Base p q → n < site.room) → (p q : ℕ) → entry_of s.tables d ≡ Some (entry.Virtual result own) → VirtualAt code line d.0 es Base p q
+      → NamedIs n (gives_entry (Some (entry.Virtual result own))) (VirtualOf x d.0 (count_of es) line) p q
+  virtual_at d line n result own es Base x f fits p q is a = (
+    record {
+      x = a.x;
+      y = a.y;
+      z = a.z;
+      object = f p a.x a.object;
+      fits = fits p a.x a.object;
+      declared = ap (entry_is is_virtual) is;
+      found = a.found;
+      checked = subst (λ c. At code (i.Check (pos c)) line a.y a.z) (lists es) a.checked;
+      called = a.called;
+    },
+    ap (λ o. has_type (result_in o)) is,
+  )
+
+  -- without a dot it is done on the object around
+  virtual_around : (d : DeclNo) (line n : ℕ) (result : Option SimType) (own : Option DeclNo) (es : Expressions) → (p q : ℕ) → entry_of s.tables d ≡ Some (entry.Virtual result own) → VirtualAt code line d.0 es (ThisAt s code site n (block_of s d)) p q
+      → NamedIs n (gives_entry (Some (entry.Virtual result own))) (in_instance (home_of s m inst d) (λ j. VirtualOf (Given (Object j)) d.0 (count_of es) line)) p q
+  unfolding home_of
+  virtual_around d line n result own es p q is a =
+      let r = reach (block_of s d) (a.object).inside in
+      there (home_of s m inst d) r.0 (λ j. VirtualOf (Given (Object j)) d.0 (count_of es) line) n (gives_entry (Some (entry.Virtual result own))) p q r.2
+      (virtual_at d line n result own es (ThisAt s code site n (block_of s d)) (Given (Object r.0)) (λ p q b. (record { text = block_of s d; push = b.push; reaches = r.1 }, refl)) (λ p q b. (b.push).fits) p q is a)
+
   declared_at : (d : DeclNo) (line n : ℕ) (o : Option Entry) (es : Expressions) (Inner : ℕ → ℕ → Type 0) (Actuals : List Formal → ℕ → ℕ → Type 0) (terms : Terms) (actuals : List Formal → Terms) → ((p q : ℕ) → Inner p q → TermsAt s code m inst site (suc n) terms p q) → operands es ≡ count terms
       → ((fs : List Formal) (p q : ℕ) → Actuals fs p q → TermsAt s code m inst site (suc n) (actuals fs) p q × (operands es ≡ count (actuals fs)) × (operands es ≡ length fs))
       → (p q : ℕ) → entry_of s.tables d ≡ o → DeclaredAt s code site n line d o es Inner Actuals p q → NamedIs n (gives_entry o) (declared_term s m inst line d o es terms actuals) p q
@@ -224,7 +256,7 @@ module _ (s : Source) (code : CodeOf) (m : Instances) (inst : ℕ) (site : Site)
   declared_at d line n (Some (entry.Formal x)) es Inner Actuals terms actuals f counts g p q is a = formal_at d line n x.mode x.kind es Inner terms f counts p q (ap is_constant is) a
   declared_at d line n (Some (entry.Procedure result k)) es Inner Actuals terms actuals f counts g p q is a = call_at d line n result k es (Actuals (formals_at s d)) (actuals (formals_at s d)) (g (formals_at s d)) p q is a
   declared_at d line n (Some (entry.Class block)) es Inner Actuals terms actuals f counts g p q is a = absurd a
-  declared_at d line n (Some (entry.Virtual result own)) es Inner Actuals terms actuals f counts g p q is a = absurd a
+  declared_at d line n (Some (entry.Virtual result own)) es Inner Actuals terms actuals f counts g p q is a = virtual_around d line n result own es p q is a
   declared_at d line n (Some (entry.Unspecified written)) es Inner Actuals terms actuals f counts g p q is a = absurd a
   declared_at d line n (Some (entry.Attribute name parameter result)) es Inner Actuals terms actuals f counts g p q is a = absurd a
   declared_at d line n None es Inner Actuals terms actuals f counts g p q is a = absurd a
@@ -437,7 +469,7 @@ module _ (s : Source) (code : CodeOf) (m : Instances) (inst : ℕ) (site : Site)
   of_object_at d line n (Some (entry.Formal y)) es Base Inner Actuals x terms actuals f fits g counts h p q is a = parameter_of_at d line n y.kind es Base Inner x terms f g counts p q (ap is_constant is) a
   of_object_at d line n (Some (entry.Procedure result k)) es Base Inner Actuals x terms actuals f fits g counts h p q is a = remote_call_at d line n result k es Base Actuals x actuals f fits h p q is a
   of_object_at d line n (Some (entry.Class block)) es Base Inner Actuals x terms actuals f fits g counts h p q is a = absurd a
-  of_object_at d line n (Some (entry.Virtual result own)) es Base Inner Actuals x terms actuals f fits g counts h p q is a = absurd a
+  of_object_at d line n (Some (entry.Virtual result own)) es Base Inner Actuals x terms actuals f fits g counts h p q is a = virtual_at d line n result own es Base x f fits p q is a
   of_object_at d line n (Some (entry.Unspecified written)) es Base Inner Actuals x terms actuals f fits g counts h p q is a = absurd a
   of_object_at d line n (Some (entry.Attribute name parameter result)) es Base Inner Actuals x terms actuals f fits g counts h p q is a = object_attribute_at s code m inst site line n name parameter result es Base Actuals x actuals f (λ p q b. let r = h p q b in (r.0, r.1)) p q a
   of_object_at d line n None es Base Inner Actuals x terms actuals f fits g counts h p q is a = absurd a
@@ -772,16 +804,16 @@ module _ (s : Source) (code : CodeOf) (m : Instances) (inst : ℕ) (site : Site)
   pub record ReferenceFound (e : Expression) (n p q : ℕ) : Type 0 where
     pub class : ℕ
     pub is_class : Classed s class
-    pub is : qualification s (type_at s (typed_token e)) ≡ Some class
+    pub is : qualification s (left_type s e) ≡ Some class
     pub place : QualifiedIs class n (reference_place s m inst e) p q
 
   pub reference_at : (e : Expression) (n p q : ℕ) → ReferencePlaceAt s code site n e p q → ReferenceFound e n p q
-  reference_at e n p q a = by_class (qualification s (type_at s (typed_token e))) refl a
+  reference_at e n p q a = by_class (qualification s (left_type s e)) refl a
     where
-      by_class : (o : Option ℕ) → qualification s (type_at s (typed_token e)) ≡ o → QualifiedPlaceAt s code site n o e p q → ReferenceFound e n p q
+      by_class : (o : Option ℕ) → qualification s (left_type s e) ≡ o → QualifiedPlaceAt s code site n o e p q → ReferenceFound e n p q
       by_class None h a = absurd a
       by_class (Some k) h a =
-          let c = qualification_classed s (type_at s (typed_token e)) k h in
+          let c = qualification_classed s (left_type s e) k h in
           record {
             class = k;
             is_class = c;

@@ -54,7 +54,7 @@ use Rattle.sim_relate.proofs.Laying.{laid}
 use Rattle.sim_relate.proofs.Living.{new_lives, new_lives_inside}
 use Rattle.sim_relate.proofs.Pending.{ends_at, pends}
 use Rattle.sim_relate.proofs.PrefixedProgram.{first_prefixed}
-use Rattle.sim_relate.proofs.Known.{Any, Every, FixedOf, HandAt, IsLink, Kind, LinkTo, Located, OwnerOf, Refers, Runs, StackAt, Stands, ValAt, anys, array_at, element_at, given, image_at, link_at, more_at, plain_at, site_at, Settled, LinkOf}
+use Rattle.sim_relate.proofs.Known.{Any, Every, FixedOf, HandAt, IsLink, Kind, LinkTo, Located, OwnerOf, Refers, Runs, StackAt, Stands, ValAt, anys, array_at, element_at, given, image_at, link_at, more_at, plain_at, site_at, Settled, LinkOf, MatchOf}
 use Rattle.sim_relate.proofs.Waiting.{GetsIs}
 use Rattle.sim_relate.proofs.Operations.{CallOpIs}
 use Rattle.sim_relate.proofs.Relation.{ChainAt, Changed, EndAt, OpAt, StandingsAt, StateAt, StoreAt, WorkAt, straight}
@@ -65,7 +65,7 @@ no_around : (o : Option ℕ) (u : ℕ) → o ≡ None → o ≡ Some u → ⊥
 no_around o u e f = cc
 
 -- the code of a text that is a procedure
-procedure_code : (s : Source) (code : CodeOf) (k : ℕ) (result : Option TypeName) (h : Heading) (a : Statement) (b : BlockOf) → TextCode s code k (ProcedureText result h a) b → ProcedureTextOf s code k result a b
+pub procedure_code : (s : Source) (code : CodeOf) (k : ℕ) (result : Option TypeName) (h : Heading) (a : Statement) (b : BlockOf) → TextCode s code k (ProcedureText result h a) b → ProcedureTextOf s code k result a b
 procedure_code s code zero result h a b x = x
 procedure_code s code (suc k) result h a b x = x
 
@@ -377,7 +377,7 @@ module _ (s : Source) (code : CodeOf) (compiled : Compiled s code) (l : Limits) 
         (alike_entering Configuration Machine Related l line line (words_of_cells cells) (words_of_block new_block) o _ _ refl (words_same s code agrees k (ProcedureText result heading body) new_block is refl refl heads.cells) (λ p.
         in_same_world _ _ _ _ (worlds_same p) state_entered))))
 
-  by_equal : (A : Type 0) (x y : A) (f : A → Run Configuration) (q : Run Machine) → x ≡ y → Alike Related (f y) q → Alike Related (f x) q
+  pub by_equal : (A : Type 0) (x y : A) (f : A → Run Configuration) (q : Run Machine) → x ≡ y → Alike Related (f y) q → Alike Related (f x) q
   by_equal A x y f q e h = subst (λ z. Alike Related (f z) q) (sym e) h
 
   -- a link of either kind, to an instance of the text around
@@ -395,6 +395,7 @@ module _ (s : Source) (code : CodeOf) (compiled : Compiled s code) (l : Limits) 
   link_found (Refers k) text e v x h = absurd e
   link_found (FixedOf d) text e v x h = absurd e
   link_found (LinkOf j) text e v x h = absurd e
+  link_found (MatchOf d) text e v x h = absurd e
 
   called_at : (k n line : ℕ) (a : CallOpIs s code (site_at t b u) k n line pc q ks ks') → (values : List Val) (values' : List Value) → EachAt ValAt values values' → length values ≡ n → (v : Val) (x : Value) (vals2 : List Val) (stack2 : List Value) → LinkFound a.text v x → StackAt (HandAt s code m) a.left vals2 stack2
       → Alike Related (having (instance_in v) o (λ j. when (is_live m j) o (procedure_entered s l o m inst w vals2 rest k line values j (text s k))))

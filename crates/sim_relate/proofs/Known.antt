@@ -2,6 +2,7 @@
 use Rattle.std.proofs.Common.{◌≡◌, ◌⊎◌, ◌<◌, ◌≤◌, ℕ, suc, zero, Bool, true, false, List, [], ◌∷◌, length, Option, Some, None, refl, sym, ap}
 use Rattle.std.specs.Prelude.{⊤, slice_get}
 use Rattle.sim_scope.specs.Access.{encloser}
+use Rattle.sim_scope.specs.Actuals.{result_in}
 use Rattle.sim_scope.specs.Scopes.{entry_of}
 use Rattle.sim_scope.specs.Source.{Source, level_of}
 use Rattle.sim_values.specs.Plain.{Object, Plain, MainOf}
@@ -14,13 +15,15 @@ use Rattle.sim_code.specs.Instances as instances
 use Rattle.sim_code.specs.Machine.{Frames, Value, Cells}
 use Rattle.sim_code.specs.Machine as machine
 use Rattle.sim_code.proofs.Lifts.{Both}
-use Rattle.sim_meaning.specs.Pending.{AttributeOf, CallOf, Connection, Declared, Held, Instances, Key, PlaceOf, QualifiedElementOf, QualifiedPlaceOf, RemoteCallOf, SetOf, SimulationOf, StandardOf, Target, Term, ToCell, ToPlace, ToTextAt, ToTextOf, TransferOf, Unbuilt, Val}
+use Rattle.sim_meaning.specs.Pending.{AttributeOf, CallOf, Connection, Declared, Held, Instances, Key, PlaceOf, QualifiedElementOf, QualifiedPlaceOf, RemoteCallOf, SetOf, SimulationOf, StandardOf, Target, Term, ToCell, ToPlace, ToTextAt, ToTextOf, TransferOf, Unbuilt, Val, VirtualOf}
 use Rattle.sim_meaning.specs.Pending as meaning
+use Rattle.sim_meaning.specs.Closing.{has_type}
 use Rattle.sim_meaning.specs.Levels.{is_process_class, is_standard_text, levels_of, text_at}
 use Rattle.sim_meaning.specs.Meaning.{has_result}
 use Rattle.sim_meaning.specs.Objects.{constant_cell}
 use Rattle.sim_meaning.specs.Statements.{has_value}
 use Rattle.sim_meaning.specs.Texts.{ProcedureText, Text, constant_of, text}
+use Rattle.codegen.specs.Agrees.{MatchThere}
 use Rattle.codegen.specs.CodeStm.{is_class_text}
 use Rattle.codegen_expr.specs.Sites.{HasCell, LevelOf, Site, block_number, class_number, frame_text, own_end, slot_of}
 pub use Rattle.codegen_expr.specs.Sites.{is_constant}
@@ -28,7 +31,8 @@ pub use Rattle.codegen_expr.specs.Sites.{is_constant}
 -- ---- values
 
 -- What is known of a value in hand: that it is a link to an instance of a text, or the object as such a link, or the link to just this instance;
--- that it is where a cell lies, or where a reference of a class lies, or a constant of an object; or that it is none of these.
+-- that it is where a cell lies, or where a reference of a class lies, or a constant of an object, or what matches a virtual; or that it is none of
+-- these.
 pub data Kind : Type 0 where
   Any : Kind
   Located : Kind
@@ -37,6 +41,7 @@ pub data Kind : Type 0 where
   LinkOf : (instance : ℕ) → Kind
   Refers : (class : ℕ) → Kind
   FixedOf : (declaration : ℕ) → Kind
+  MatchOf : (virtual : ℕ) → Kind
 
 -- a link to an instance of a text, for a call
 abbrev pub IsLink : Kind → (text : ℕ) → Type 0
@@ -71,6 +76,9 @@ abbrev pub text_gives : Option Text → Bool
 text_gives (Some (ProcedureText result h a)) = has_result result
 text_gives _ = false
 
+abbrev pub virtual_gives : Source → (virtual : ℕ) → Bool
+virtual_gives s v = has_type (result_in (entry_of s.tables (record { 0 = v })))
+
 abbrev pub gives : Source → Term → Bool
 gives s (CallOf j k ts line) = text_gives (text s k)
 gives s (RemoteCallOf a k ts line) = text_gives (text s k)
@@ -82,6 +90,7 @@ gives s (AttributeOf text key class line a) = false
 gives s (QualifiedPlaceOf j key k) = false
 gives s (QualifiedElementOf line k a ts) = false
 gives s (TransferOf t line a) = false
+gives s (VirtualOf a v n line) = virtual_gives s v
 gives s _ = true
 
 -- whether a cell is that of a constant
@@ -156,6 +165,7 @@ read_kind (OwnerOf text) e = absurd (cc)
 read_kind (LinkOf j) e = absurd (cc)
 read_kind (Refers class) e = absurd (cc)
 read_kind (FixedOf d) e = absurd (cc)
+read_kind (MatchOf v) e = absurd (cc)
 
 pub leaves_read : (s : Source) (x : Term) (ks : List Kind) → reads s x ≡ true → (k : Kind) × IsRead k × LeavesIs s x ks (k ∷ ks)
 leaves_read s (PlaceOf j key) ks e = (Located, tt, refl)
@@ -303,6 +313,16 @@ pub record FixedIs (s : Source) (m : Instances) (d : ℕ) (v : Val) (x : Value) 
   pub has : HasCell s text (Declared d)
   pub fixed : is_fixed s (Declared d) ≡ true
 
+-- a procedure that matches a virtual, with the instance in which it is declared
+pub record MatchIs (s : Source) (m : Instances) (virtual : ℕ) (v : Val) (x : Value) : Type 0 where
+  pub own : ℕ
+  pub text : ℕ
+  pub instance : ℕ
+  pub is_val : v ≡ meaning.ProcedureValue text instance
+  pub is_value : x ≡ machine.ProcedureValue (block_number s text) instance
+  pub there : MatchThere s virtual own text
+  pub stands : Stands s m instance there.around
+
 abbrev pub HandAt : Source → CodeOf → Instances → Kind → Val → Value → Type 0
 HandAt s code m Any v x = ValAt v x
 HandAt s code m Located v x = PlaceIs s code m v x
@@ -311,6 +331,7 @@ HandAt s code m (OwnerOf text) v x = OwnerIs s m text v x
 HandAt s code m (LinkOf j) v x = (v ≡ meaning.Link j) × (x ≡ machine.Link j)
 HandAt s code m (Refers k) v x = RefersAt s code m k v x
 HandAt s code m (FixedOf d) v x = FixedIs s m d v x
+HandAt s code m (MatchOf d) v x = MatchIs s m d v x
 
 -- what the later of two stores keeps of the instances: their texts, what they stand for, and what is found from them outward
 pub record Later (s : Source) (m m' : Instances) : Type 0 where

@@ -22,14 +22,15 @@ use Rattle.sim_code.specs.declared.instr.Instr.TheVariants as i
 use Rattle.sim_code.specs.Code.{CodeOf}
 use Rattle.sim_code.specs.Machine.{Frames}
 use Rattle.sim_meaning.specs.Attributes.{connection_at, declared_attribute}
-use Rattle.sim_meaning.specs.Closing.{Left, LeftAddress, LeftCell, LeftReference, LeftText, LeftUnbuilt, array_left, close, close_all, close_left, close_left_of, close_place, declared_left, formal_left, home_of, in_instance, is_text, left_found, left_in, left_variable, named_left, reference_place, result_left, result_meant, result_or, variable_left}
+use Rattle.sim_meaning.specs.Closing.{Left, LeftAddress, LeftCell, LeftReference, LeftText, LeftUnbuilt, array_left, close, close_all, close_left, close_left_of, close_place, declared_left, formal_left, home_of, in_instance, is_text, left_found, left_in, left_variable, named_left, reference_place, result_left, result_meant, result_or, variable_left, match_left, own_match}
 use Rattle.sim_meaning.specs.Pending.{Cell, Declared, Do, ElementOf, Eval, Instances, Item, Result, ShareOp, StoreOp, Target, Term, ToAddress, ToCell}
 use Rattle.sim_meaning.specs.Pending as meaning
 use Rattle.sim_meaning.specs.Statements.{Lefts, assigning, before, lefts}
 use Rattle.codegen_expr.specs.Sites.{At, HasCell, Inside, Site, Varies, frame_text, is_constant}
 use Rattle.codegen_expr.specs.CodeExpr.{ElementAt, ExprAt, ExprsAt, PlaceAt, ReferencePlaceAt}
 use Rattle.codegen.specs.Agrees.{Agrees}
-use Rattle.codegen.specs.CodeLeft.{AtAddress, AtAttribute, GivesAt, GoesAt, InCell, LeftsAt, NotBuilt, ResultAt, SharesAt, StoreAt, Stored, ToReference, ToResult, ToText, below, each_stored, stored, stored_declared, stored_element, stored_formal, stored_found, stored_left, stored_named, stored_of, stored_result, stored_text, stored_variable}
+use Rattle.sim_meaning.specs.Virtuals.{text_of_procedure}
+use Rattle.codegen.specs.CodeLeft.{AtAddress, AtAttribute, GivesAt, GoesAt, InCell, LeftsAt, NotBuilt, ResultAt, SharesAt, StoreAt, Stored, ToReference, ToResult, ToText, below, each_stored, stored, stored_declared, stored_element, stored_formal, stored_found, stored_left, stored_named, stored_of, stored_result, stored_text, stored_variable, stored_match}
 use Rattle.sim_relate.proofs.Closing.{close_all_at, close_at, count_close, place_at, reference_at}
 use Rattle.sim_relate.proofs.Frames.{own_frame}
 use Rattle.sim_relate.proofs.Known.{Any, Finds, IsRead, Kind, LeavesIs, Reaches, Refers, Runs, is_declared, is_fixed, leaves_any, leaves_read, reads, site_at, Settled}
@@ -146,6 +147,11 @@ module _ (s : Source) (code : CodeOf) (m : Instances) (inst t : ℕ) (b : Runs) 
   left_named (Some (denotation.Standard name)) es line = tt
   left_named None es line = tt
 
+  -- the result of a match
+  pub left_match : (o : Option ℕ) (x : Stored) (y : Left) → LeftFits x y → LeftFits (stored_match o x) (match_left s m inst o y)
+  left_match None x y h = h
+  left_match (Some k) x y h = left_result k NoMore
+
   -- an attribute of an object is found anew
   left_place : (e : Expression) → LeftFits (AtAttribute e) (LeftAddress (close_place s m inst e))
   left_place e = λ n p q a. let x = place_at s code m inst site agrees reach None e n p q a in record { tree = close_place s m inst e; is = refl; place = x.0; reads = x.1 }
@@ -156,8 +162,8 @@ module _ (s : Source) (code : CodeOf) (m : Instances) (inst t : ℕ) (b : Runs) 
 
   pub left_at : (e : Expression) → LeftFits (stored_left s e) (left_variable s m inst e)
   left_at (syntax.Named name es) =
-      left_by (connection_at s name.token.0) (syntax.Named name es) (stored_named s (denoted s name.token.0) es (line_at s name.token.0)) (named_left s m inst (line_at s name.token.0) (denoted s name.token.0) es)
-      (left_named (denoted s name.token.0) es (line_at s name.token.0))
+      left_by (connection_at s name.token.0) (syntax.Named name es) (stored_match (text_of_procedure s (own_match s (syntax.Named name es))) (stored_named s (denoted s name.token.0) es (line_at s name.token.0))) (match_left s m inst (text_of_procedure s (own_match s (syntax.Named name es))) (named_left s m inst (line_at s name.token.0) (denoted s name.token.0) es))
+      (left_match (text_of_procedure s (own_match s (syntax.Named name es))) (stored_named s (denoted s name.token.0) es (line_at s name.token.0)) (named_left s m inst (line_at s name.token.0) (denoted s name.token.0) es) (left_named (denoted s name.token.0) es (line_at s name.token.0)))
   left_at (syntax.Dot token x name es) = left_by (declared_attribute (denoted s name.token.0)) (syntax.Dot token x name es) NotBuilt LeftUnbuilt tt
   left_at (syntax.If token c x y) = tt
   left_at (syntax.Binary op token x y) = tt

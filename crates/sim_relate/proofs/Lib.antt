@@ -53,12 +53,14 @@ pub mod PrefixedProgram
 pub mod PrefixedEntries
 pub mod OwnNames
 pub mod Roomy
+pub mod Matches
 pub mod References
 pub mod Fitting
 pub mod Fixed
 pub mod Connections
 pub mod Entering
 pub mod Entries
+pub mod Virtuals
 pub mod Ranked
 pub mod Settle
 pub mod Quiet

@@ -31,7 +31,7 @@ use Rattle.sim_code.specs.Rows.{on_top}
 use Rattle.sim_code.proofs.Lifts.{alike_no_rule}
 use Rattle.sim_code.proofs.Simulation.{Alike}
 use Rattle.sim_meaning.specs.Attributes.{connection_at}
-use Rattle.sim_meaning.specs.Closing.{Left, LeftAddress, LeftCell, close, close_place, is_text, left_found, left_variable, named_left, reference_place}
+use Rattle.sim_meaning.specs.Closing.{Left, LeftAddress, LeftCell, close, close_place, is_text, left_found, left_variable, match_left, named_left, own_match, reference_place}
 use Rattle.sim_meaning.specs.Meaning.{do_op}
 use Rattle.sim_meaning.specs.Pending.{Activation, AgainOp, BackOp, BranchOp, Cell, Configuration, Do, ElementsOp, Eval, Exec, Instances, Item, Op, RaiseOp, StepOp, StepTestOp, StoreOp, Target, Term, ToCell, ToPlace, ToReferenceAt, ToTextAt, ToTextOf, ValueAt, TwoOp, Val, WhileElementOp, plain, Key, ToTextOf}
 use Rattle.sim_meaning.specs.Pending as meaning
@@ -42,17 +42,18 @@ use Rattle.codegen_expr.specs.Sites.{Inside, Is, Site, HasCell, Pushes, slot_of}
 use Rattle.codegen_expr.specs.CodeExpr.{ExprAt, PlaceAt}
 use Rattle.codegen.specs.Agrees.{Agrees}
 use Rattle.codegen.specs.CodeFor.{OfCell, OfPlace, OfReference, PutsAt, TakesValues, variable_of, variable_stored, ElementsAt, ForAt, ListAt, LoadsVariable, OneElementAt, SharedAt, StoresVariable, Variable, is_empty, GivesVariable, assigned_by}
-use Rattle.codegen.specs.CodeLeft.{AtAddress, AtAttribute, InCell, NotBuilt, Stored, ToReference, ToResult, ToText, stored_declared, stored_element, stored_formal, stored_found, stored_left, stored_named, stored_result, stored_variable}
+use Rattle.sim_meaning.specs.Virtuals.{text_of_procedure}
+use Rattle.codegen.specs.CodeLeft.{AtAddress, AtAttribute, InCell, NotBuilt, Stored, ToReference, ToResult, ToText, stored_declared, stored_element, stored_formal, stored_found, stored_left, stored_match, stored_named, stored_result, stored_variable}
 use Rattle.codegen.specs.CodeStm.{StmAt}
 use Rattle.sim_relate.proofs.Closing.{place_at, reference_at}
 use Rattle.sim_relate.proofs.Frames.{same_frame}
 use Rattle.sim_relate.proofs.Trees.{FetchIs, FetchesAt}
-use Rattle.sim_relate.proofs.Known.{Finds, FixedOf, IsRead, LinkTo, Located, OwnerOf, Refers, gives, kind_read, leaves_kind, left_kind, place_kind, place_target, read_kind, reads, reads_kind, Any, HandAt, Kind, StackAt, anys, more_at, plain_at, site_at, variable_target, Runs, spot, Settled, LinkOf}
+use Rattle.sim_relate.proofs.Known.{Finds, FixedOf, IsRead, LinkTo, Located, OwnerOf, Refers, gives, kind_read, leaves_kind, left_kind, place_kind, place_target, read_kind, reads, reads_kind, Any, HandAt, Kind, StackAt, anys, more_at, plain_at, site_at, variable_target, Runs, spot, Settled, LinkOf, MatchOf}
 use Rattle.sim_relate.proofs.Operations.{StoreIs}
 use Rattle.sim_relate.proofs.Relation.{BeginsAt, CellVariableIs, ChainAt, ComesTo, OpAt, PlaceVariableIs, StateAt, TurnOf, VariableIs, WorkAt, over, stays, straight, there, turning}
 use Rattle.sim_relate.proofs.Hands.{hand_plain}
 use Rattle.sim_relate.proofs.Here.{Here, act, at_row, goes, kinds_as, there_of}
-use Rattle.sim_relate.proofs.Lefts.{CellFound, LeftFits, left_named}
+use Rattle.sim_relate.proofs.Lefts.{CellFound, LeftFits, left_match, left_named}
 use Rattle.sim_relate.proofs.Living.{reach_found}
 use Rattle.sim_relate.proofs.Operators.{onward, same_plain}
 use Rattle.sim_relate.proofs.Pending.{evals, pends}
@@ -164,6 +165,7 @@ module _ (s : Source) (code : CodeOf) (l : Limits) (agrees : Agrees s) (o : Worl
   fetched_kind (LinkTo text) r n z p' is = absurd r
   fetched_kind (OwnerOf text) r n z p' is = absurd r
   fetched_kind (LinkOf j) r n z p' is = absurd r
+  fetched_kind (MatchOf d) r n z p' is = absurd r
   fetched_kind (Refers class) r n z p' is = absurd r
   fetched_kind (FixedOf d) r n z p' is = absurd r
 
@@ -445,6 +447,10 @@ module _ (s : Source) (code : CodeOf) (l : Limits) (agrees : Agrees s) (o : Worl
   named_alone (Some (denotation.Standard name)) es line = tt
   named_alone None es line = tt
 
+  match_alone : (o : Option ℕ) (x : Stored) → NoAttribute x → NoAttribute (stored_match o x)
+  match_alone None x n = n
+  match_alone (Some z) x n = tt
+
   module _ (p : World) (es : List Element) (a : Statement) (y : ℕ) (by : Option ℕ) (target : Left → Option Target) (cells : (j : ℕ) (key : meaning.Key) → target (LeftCell j key) ≡ Some (variable_target by j key)) (places : (x : Term) → target (LeftAddress x) ≡ Some (place_target by x)) (e : ks' ≡ ks) where
     abbrev Loops : Left → Type 0
     Loops x = Alike R (looping p m inst w vals rest (target x) es a) (Going p (record { chain = act inst y stack b ∷ below; memory = fs }))
@@ -464,8 +470,11 @@ module _ (s : Source) (code : CodeOf) (l : Limits) (agrees : Agrees s) (o : Worl
 
     looped_named : (x : Identifier) → ForAt s code (site_at t b u) (length ks) (variable_stored (stored_left s (syntax.Named x NoMore)) by) (is_empty a) es (λ site. StmAt s code site (length ks) a) y q → Loops (left_variable s m inst (syntax.Named x NoMore))
     looped_named x h =
-        looped_found (connection_at s x.token.0) (syntax.Named x NoMore) (stored_named s (denoted s x.token.0) NoMore (line_at s x.token.0)) (named_left s m inst (line_at s x.token.0) (denoted s x.token.0) NoMore)
-        (named_alone (denoted s x.token.0) NoMore (line_at s x.token.0)) (left_named s code m inst t b u agrees reaching_here (denoted s x.token.0) NoMore (line_at s x.token.0)) h
+        looped_found (connection_at s x.token.0) (syntax.Named x NoMore)
+        (stored_match (text_of_procedure s (own_match s (syntax.Named x NoMore))) (stored_named s (denoted s x.token.0) NoMore (line_at s x.token.0)))
+        (match_left s m inst (text_of_procedure s (own_match s (syntax.Named x NoMore))) (named_left s m inst (line_at s x.token.0) (denoted s x.token.0) NoMore))
+        (match_alone (text_of_procedure s (own_match s (syntax.Named x NoMore))) _ (named_alone (denoted s x.token.0) NoMore (line_at s x.token.0)))
+        (left_match s code m inst t b u agrees reaching_here (text_of_procedure s (own_match s (syntax.Named x NoMore))) _ _ (left_named s code m inst t b u agrees reaching_here (denoted s x.token.0) NoMore (line_at s x.token.0))) h
 
   looped_left : (p : World) (g : Bool) (sign : Assignment) (line : ℕ) (x : Identifier) (es : List Element) (a : Statement) (y : ℕ) → ForAt s code (site_at t b u) (length ks) (variable_of s line (syntax.Named x NoMore) (assigned_by g sign line)) (is_empty a) es (λ site. StmAt s code site (length ks) a) y q → ks' ≡ ks
       → Alike R (looping p m inst w vals rest (controlled g sign line (controlled_left g sign s m inst (syntax.Named x NoMore))) es a) (Going p (record { chain = act inst y stack b ∷ below; memory = fs }))

@@ -15,7 +15,7 @@ use Rattle.sim_code.specs.Machine as machine
 use Rattle.sim_code.specs.Rows.{mstep, on_top}
 use Rattle.sim_code.proofs.Simulation.{Alike, unruled}
 use Rattle.sim_meaning.specs.Meaning.{do_op, has_result, step}
-use Rattle.sim_meaning.specs.Pending.{Activation, AgainOp, ArrayOp, AttributeOf, AttributeOp, BackOp, BranchOp, CallOf, CallOp, Cell, ChooseOp, Configuration, ConnectOp, CopyOf, CopyOp, DeclareOp, Do, DropOp, Either, ElementOf, ElementOp, ElementsOp, EndBlock, EndLevel, EndObject, EndPrefixed, EndProcedure, EndProgram, EnterOp, Eval, Exec, Execs, FetchOp, FitsOf, FitsOp, GiveOp, Given, IfOp, ImageOf, Instances, Item, JoinOp, Joined, KeepOp, KeptOf, MemberOf, MemberOp, NewOf, NewOp, NotNoneOf, NotNoneOp, ObjectOp, One, OneOp, Op, PastOp, PlaceOf, PrefixedOp, QuaOf, QuaOp, QualifiedElementOf, QualifiedElementOp, QualifiedPlaceOf, RaiseOp, ReferOp, RemoteCallOf, SetOf, SelfOp, SetOp, ShareOp, StandardOf, StandardOp, StepOp, StepTestOp, StoreOp, SwapOp, Target, Term, Terms, TestOp, ToAddress, ToCell, ToPlace, ToReference, ToReferenceAt, ToText, ToTextAt, ToTextOf, TransferOf, TransferOp, Two, TwoOp, Unbuilt, Val, ValueAt, WhenOp, WhileElementOp, ActivateOp, BlockOp, ProcessOf, ProcessOp, SimulationOf, SimulationOp}
+use Rattle.sim_meaning.specs.Pending.{Activation, AgainOp, ArrayOp, AttributeOf, AttributeOp, BackOp, BranchOp, CallOf, CallOp, Cell, ChooseOp, Configuration, ConnectOp, CopyOf, CopyOp, DeclareOp, Do, DropOp, Either, ElementOf, ElementOp, ElementsOp, EndBlock, EndLevel, EndObject, EndPrefixed, EndProcedure, EndProgram, EnterOp, Eval, Exec, Execs, FetchOp, FitsOf, FitsOp, GiveOp, Given, IfOp, ImageOf, Instances, Item, JoinOp, Joined, KeepOp, KeptOf, MemberOf, MemberOp, NewOf, NewOp, NotNoneOf, NotNoneOp, ObjectOp, One, OneOp, Op, PastOp, PlaceOf, PrefixedOp, QuaOf, QuaOp, QualifiedElementOf, QualifiedElementOp, QualifiedPlaceOf, RaiseOp, ReferOp, RemoteCallOf, SetOf, SelfOp, SetOp, ShareOp, StandardOf, StandardOp, StepOp, StepTestOp, StoreOp, SwapOp, Target, Term, Terms, TestOp, ToAddress, ToCell, ToPlace, ToReference, ToReferenceAt, ToText, ToTextAt, ToTextOf, TransferOf, TransferOp, Two, TwoOp, Unbuilt, Val, ValueAt, WhenOp, WhileElementOp, ActivateOp, BlockOp, ProcessOf, ProcessOp, SimulationOf, SimulationOp, VirtualOf, VirtualOp, CheckOp, CallValueOp}
 use Rattle.sim_meaning.specs.Entries.{arrays_declared}
 use Rattle.sim_meaning.specs.Steps.{count}
 use Rattle.sim_meaning.specs.Sane.{NamesOn, Sane, SaneOn}
@@ -43,7 +43,7 @@ use Rattle.sim_relate.proofs.PrefixedEntries as prefixed
 use Rattle.sim_relate.proofs.ProcessEnds as process_ends
 use Rattle.sim_relate.proofs.Quiet.{arrays_weight, each_weight, weight}
 use Rattle.sim_relate.proofs.Quiet as quiet_steps
-use Rattle.sim_relate.proofs.Known.{Any, FixedOf, Kind, LinkTo, Located, OwnerOf, Refers, anys, given, more_at, site_at, text_gives, Runs, Spot, Settled, LinkOf}
+use Rattle.sim_relate.proofs.Known.{Any, FixedOf, Kind, LinkTo, Located, OwnerOf, Refers, anys, given, more_at, site_at, text_gives, Runs, Spot, Settled, LinkOf, MatchOf}
 use Rattle.sim_relate.proofs.Relation.{BeginsAt, ChainAt, ChainNow, InStage, NowAt, OpAt, StandingsAt, StateAt, StateNow, StoreAt, WorkAt, WithInnerIs, declares, inner_here, inner_last, stays, with_inner, ends_process}
 use Rattle.sim_relate.proofs.References as references
 use Rattle.sim_relate.proofs.Settle.{as_act}
@@ -54,6 +54,7 @@ use Rattle.sim_relate.proofs.Transfers as transfers
 use Rattle.sim_relate.proofs.Ranked.{InEach, Meets, at_once, in_steps}
 use Rattle.sim_relate.proofs.Ranked as ranked
 use Rattle.sim_relate.proofs.Trees.{FetchesAt}
+use Rattle.sim_relate.proofs.Virtuals as virtuals
 use Rattle.sim_relate.proofs.Waiting.{gets_free, suspended}
 
 -- a step of both, one of the program that is by a rule and which several of the machine follow, or one of the program alone that leaves less to be
@@ -142,6 +143,7 @@ module _ (s : Source) (code : CodeOf) (compiled : Compiled s code) (l : Limits) 
   eval_moves (QualifiedPlaceOf j key c) a = both (references.qualified_place s code compiled l o m inst w vals rest fs t b pc stack below ks here u q ks' low k j key c a)
   eval_moves (AttributeOf text key class line x) a = quiet _ refl (stands_so _ (quiet_steps.attribute_opened s code m fs Below inst t b u low w pc q ks ks' k text key class line x a)) (omega arith)
   eval_moves (RemoteCallOf x c ts line) a = quiet _ refl (stands_so _ (quiet_steps.remote_opened s code m fs Below inst t b u low w pc q ks ks' k x c ts line a)) (omega arith)
+  eval_moves (VirtualOf x v n line) a = quiet _ refl (stands_so _ (quiet_steps.virtual_opened s code m fs Below inst t b u low w pc q ks ks' k x v n line a)) (omega arith)
   eval_moves (QualifiedElementOf line c x ts) a = quiet _ refl (stands_so _ (quiet_steps.qualified_element_opened s code m fs Below inst t b u low w pc q ks ks' k line c x ts a)) (omega arith)
   eval_moves (MemberOf member c x) a = quiet _ refl (stands_so _ (quiet_steps.member_opened s code m fs Below inst t b u low w pc q ks ks' k member c x a)) (omega arith)
   eval_moves (QuaOf c line x) a = quiet _ refl (stands_so _ (quiet_steps.qua_opened s code m fs Below inst t b u low w pc q ks ks' k c line x a)) (omega arith)
@@ -196,6 +198,7 @@ module _ (s : Source) (code : CodeOf) (compiled : Compiled s code) (l : Limits) 
   fetch_moves (LinkTo text) left is e out = absurd is
   fetch_moves (OwnerOf text) left is e out = absurd is
   fetch_moves (LinkOf j) left is e out = absurd is
+  fetch_moves (MatchOf d) left is e out = absurd is
 
   -- one line for each operator
   op_moves : (op : Op) → Follows op
@@ -241,6 +244,9 @@ module _ (s : Source) (code : CodeOf) (compiled : Compiled s code) (l : Limits) 
   op_moves (PrefixedOp c n line) a = both (prefixed.prefixed_op s code compiled l o m inst w vals rest fs t b pc stack below ks here u q ks' low k c n line a)
   op_moves (AttributeOp text key class line) a = both (references.attribute s code compiled l o m inst w vals rest fs t b pc stack below ks here u q ks' low k text key class line a)
   op_moves (ObjectOp c line) a = both (references.object s code compiled l o m inst w vals rest fs t b pc stack below ks here u q ks' low k c line a)
+  op_moves (VirtualOp v line) a = both (virtuals.virtual s code compiled l o m inst w vals rest fs t b pc stack below ks here u q ks' low k v line a)
+  op_moves (CheckOp n line) a = both (virtuals.check s code compiled l o m inst w vals rest fs t b pc stack below ks here u q ks' low k n line a)
+  op_moves (CallValueOp line) a = both (virtuals.call_value s code compiled l o m inst w vals rest fs t b pc stack below ks here u q ks' low k line a)
   op_moves (QualifiedElementOp n line c) a = both (references.qualified_element s code compiled l o m inst w vals rest fs t b pc stack below ks here u q ks' low k n line c a)
   op_moves (MemberOp member c) a = both (references.member s code compiled l o m inst w vals rest fs t b pc stack below ks here u q ks' low k member c a)
   op_moves (QuaOp c line) a = both (references.qua s code compiled l o m inst w vals rest fs t b pc stack below ks here u q ks' low k c line a)

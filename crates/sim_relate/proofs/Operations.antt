@@ -28,8 +28,8 @@ use Rattle.codegen_expr.specs.CodeExpr.{StandardIs}
 use Rattle.codegen.specs.CodeArrays.{element_number}
 use Rattle.codegen.specs.Agrees.{is_prefixed}
 use Rattle.codegen.specs.CodeStm.{activation_number}
-use Rattle.sim_relate.proofs.Known.{AllRead, Any, IsLink, IsRead, Kind, LinkTo, OwnerOf, Reaches, Refers, ValAt, anys, attribute_kind, given, is_declared, is_fixed, is_process_in, placed, reads, LeavesIs, LinkOf}
-use Rattle.sim_relate.proofs.Trees.{Classed, JoinsIs, ProcedureIs, FoundIs, FetchesAt, FitsIs, ProcessIs, SetIs, SimulationNameIs, TermAt, OperandAt}
+use Rattle.sim_relate.proofs.Known.{AllRead, Any, IsLink, IsRead, Kind, LinkTo, OwnerOf, Reaches, Refers, ValAt, anys, attribute_kind, given, is_declared, is_fixed, is_process_in, placed, reads, LeavesIs, LinkOf, MatchOf, virtual_gives}
+use Rattle.sim_relate.proofs.Trees.{Classed, JoinsIs, ProcedureIs, FoundIs, FetchesAt, FitsIs, ProcessIs, SetIs, SimulationNameIs, TermAt, OperandAt, IsVirtual, list_number}
 
 -- the operand of an activation, if there is one, is on top of the process
 abbrev pub operands_with : Bool → ℕ
@@ -117,6 +117,29 @@ module _ (s : Source) (code : CodeOf) where
     pub left : List Kind
     pub «in» : before ≡ anys 1 left
     pub out : behind ≡ OwnerOf text ∷ left
+
+  -- the procedure that matches a virtual in the object in hand
+  pub record VirtualOpIs (virtual line p q : ℕ) (before behind : List Kind) : Type 0 where
+    pub is : At code (i.Virt (pos virtual)) line p q
+    pub declared : IsVirtual s virtual
+    pub left : List Kind
+    pub «in» : before ≡ anys 1 left
+    pub out : behind ≡ MatchOf virtual ∷ left
+
+  pub record CheckOpIs (actuals line p q : ℕ) (before behind : List Kind) : Type 0 where
+    pub is : At code (i.Check (pos (list_number actuals))) line p q
+    pub virtual : ℕ
+    pub left : List Kind
+    pub «in» : before ≡ MatchOf virtual ∷ left
+    pub out : behind ≡ MatchOf virtual ∷ left
+
+  pub record CallValueOpIs (site : Site) (line p q : ℕ) (before behind : List Kind) : Type 0 where
+    pub is : At code (i.CallV (pos 0)) line p q
+    pub virtual : ℕ
+    pub left : List Kind
+    pub fits : length left < site.room
+    pub «in» : before ≡ MatchOf virtual ∷ left
+    pub out : behind ≡ given (virtual_gives s virtual) left
 
   pub record QualifiedElementOpIs (n line k p q : ℕ) (before behind : List Kind) : Type 0 where
     pub is : At code (i.Elem (pos n) (pos (class_number s code k))) line p q

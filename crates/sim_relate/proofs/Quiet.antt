@@ -14,11 +14,11 @@ use Rattle.sim_code.specs.Machine.{Frames}
 use Rattle.sim_code.specs.Transfers.{Transfer}
 use Rattle.sim_meaning.specs.Closing.{close}
 use Rattle.sim_meaning.specs.Entries.{arrays_declared, arrays_of, bounds_of, segments_of}
-use Rattle.sim_meaning.specs.Pending.{Activation, DeclareOp, AttributeOf, AttributeOp, CallOp, FitsOf, FitsOp, KeepOp, KeptOf, Key, MemberOf, MemberOp, NotNoneOf, NotNoneOp, ObjectOp, QuaOf, QuaOp, QualifiedElementOf, QualifiedElementOp, ReferOp, RemoteCallOf, SetOf, SetOp, StoreOp, SwapOp, ToAddress, ToPlace, ToReference, ToReferenceAt, CallOf, Cell, Configuration, CopyOf, CopyOp, Do, Either, ElementOf, ElementOp, ElementsOp, Eval, Exec, Execs, FetchOp, Further, GiveOp, Given, IfOp, ImageOf, Instances, Item, JoinOp, Joined, NoTerm, One, OneOp, Op, PlaceOf, RaiseOp, StandardOf, StandardOp, Target, Term, Terms, TransferOf, TransferOp, Two, TwoOp, Val, ValueAt, ProcessOf, ProcessOp}
+use Rattle.sim_meaning.specs.Pending.{Activation, DeclareOp, AttributeOf, AttributeOp, CallOp, FitsOf, FitsOp, KeepOp, KeptOf, Key, MemberOf, MemberOp, NotNoneOf, NotNoneOp, ObjectOp, QuaOf, QuaOp, QualifiedElementOf, QualifiedElementOp, ReferOp, RemoteCallOf, SetOf, SetOp, StoreOp, SwapOp, ToAddress, ToPlace, ToReference, ToReferenceAt, CallOf, Cell, Configuration, CopyOf, CopyOp, Do, Either, ElementOf, ElementOp, ElementsOp, Eval, Exec, Execs, FetchOp, Further, GiveOp, Given, IfOp, ImageOf, Instances, Item, JoinOp, Joined, NoTerm, One, OneOp, Op, PlaceOf, RaiseOp, StandardOf, StandardOp, Target, Term, Terms, TransferOf, TransferOp, Two, TwoOp, Val, ValueAt, ProcessOf, ProcessOp, VirtualOf, VirtualOp, CheckOp, CallValueOp}
 use Rattle.sim_meaning.specs.Steps.{count, each}
 use Rattle.sim_meaning.specs.Texts.{kind_named, text}
 use Rattle.sim_relate.proofs.Pending.{anys_more, each_pends, each_reads, evals, pends}
-use Rattle.sim_relate.proofs.Known.{Any, Kind, OwnerOf, Refers, given, leaves_as, text_gives, anys, site_at, AllRead, Runs, Settled}
+use Rattle.sim_relate.proofs.Known.{Any, Kind, OwnerOf, Refers, given, leaves_as, text_gives, anys, site_at, AllRead, Runs, Settled, MatchOf}
 use Rattle.sim_relate.proofs.Trees.{OperandAt}
 use Rattle.sim_relate.proofs.Relation.{BeginsAt, OpAt, WorkAt, straight}
 
@@ -50,6 +50,7 @@ abbrev mutual
   opened (NotNoneOf line a) = suc (opened a)
   opened (TransferOf t line a) = suc (opened a)
   opened (SetOf name ts) = suc (opened_first ts)
+  opened (VirtualOf a v n line) = suc (opened a)
   opened (ProcessOf name line a) = suc (opened a)
   opened _ = 0
 
@@ -229,6 +230,14 @@ module _ (s : Source) (code : CodeOf) (m : Instances) (fs : Frames) (Below : Boo
       (puts behind (ObjectOp c line) y.x y.y (Any ∷ ks) (OwnerOf y.text ∷ ks) (record { is = y.there; text = y.text; around = (y.procedure).stands_in; left = ks; «in» = refl; out = refl })
       (each_pends s code m fs Below inst t b u low (Do (CallOp c (count ts) line) ∷ w) ts y.y y.z (OwnerOf y.text ∷ ks) y.actuals
       (puts w (CallOp c (count ts) line) y.z q (anys (count ts) (OwnerOf y.text ∷ ks)) ks' (record { text = y.text; procedure = y.procedure; is = y.call; as_many = y.as_many; left = ks; fits = y.fits; link = OwnerOf y.text; links = refl; «in» = refl; out = a.1 ∙ ap (λ g. given g ks) (ap text_gives (y.procedure).is) }) k)))
+
+  pub virtual_opened : (x : Term) (v n line : ℕ) → Becomes (Do (Eval x) ∷ Do (VirtualOp v line) ∷ Do (CheckOp n line) ∷ Do (CallValueOp line) ∷ w) (Eval (VirtualOf x v n line))
+  virtual_opened x v n line a =
+      let y = a.0 in
+      evals s code m fs Below inst t b u low (Do (VirtualOp v line) ∷ Do (CheckOp n line) ∷ Do (CallValueOp line) ∷ w) x p y.x ks y.object
+      (puts (Do (CheckOp n line) ∷ Do (CallValueOp line) ∷ w) (VirtualOp v line) y.x y.y (Any ∷ ks) (MatchOf v ∷ ks) (record { is = y.found; declared = y.declared; left = ks; «in» = refl; out = refl })
+      (puts (Do (CallValueOp line) ∷ w) (CheckOp n line) y.y y.z (MatchOf v ∷ ks) (MatchOf v ∷ ks) (record { is = y.checked; virtual = v; left = ks; «in» = refl; out = refl })
+      (puts w (CallValueOp line) y.z q (MatchOf v ∷ ks) ks' (record { is = y.called; virtual = v; left = ks; fits = y.fits; «in» = refl; out = a.1 }) k)))
 
   pub qualified_element_opened : (line c : ℕ) (x : Term) (ts : Terms) → Becomes (Do (Eval x) ∷ each ts (Do (QualifiedElementOp (count ts) line c) ∷ w)) (Eval (QualifiedElementOf line c x ts))
   qualified_element_opened line c x ts a =

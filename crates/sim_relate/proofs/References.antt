@@ -59,7 +59,7 @@ module _ (s : Source) (code : CodeOf) (coding : Compiled s code) (l : Limits) (o
   named : (v : Val) (vals' : List Val) → vals ≡ v ∷ vals' → Names s m v
   named v vals' e = (subst (AllName s m) e here.names).0
 
-  object_named : (j : ℕ) → Names s m (meaning.Of (Object j)) → ObjectHere s code coding m fs here.store j
+  pub object_named : (j : ℕ) → Names s m (meaning.Of (Object j)) → ObjectHere s code coding m fs here.store j
   object_named j n = object_here s code coding m fs here.store j n
 
   -- the reference on top: none is E6
@@ -77,7 +77,7 @@ module _ (s : Source) (code : CodeOf) (coding : Compiled s code) (l : Limits) (o
   referred_on line _ _ r z element_at n f = alike_unruled Configuration Machine R o _
   referred_on line _ _ r z image_at n f = alike_unruled Configuration Machine R o _
 
-  pops_object : (line : ℕ) (left : List Kind) (r : ℕ → List Val → Run Configuration) (z : ℕ → List Value → Run Machine) → ks ≡ anys 1 left → ((j : ℕ) (vals' : List Val) (stack' : List Value) → Names s m (meaning.Of (Object j)) → StackAt (HandAt s code m) left vals' stack' → Alike R (r j vals') (z j stack')) → Alike R (pop_object plain line vals o r) (pop_object machine.plain line stack o z)
+  pub pops_object : (line : ℕ) (left : List Kind) (r : ℕ → List Val → Run Configuration) (z : ℕ → List Value → Run Machine) → ks ≡ anys 1 left → ((j : ℕ) (vals' : List Val) (stack' : List Value) → Names s m (meaning.Of (Object j)) → StackAt (HandAt s code m) left vals' stack' → Alike R (r j vals') (z j stack')) → Alike R (pop_object plain line vals o r) (pop_object machine.plain line stack o z)
   unfolding pop_object pop_plain
   pops_object line left r z e f =
       hand_popping Configuration Machine R Val Value (HandAt s code m) plain machine.plain same_plain Any left vals stack o _ _ (kinds_as s code e here.values)

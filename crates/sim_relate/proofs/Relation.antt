@@ -23,7 +23,7 @@ use Rattle.sim_code.specs.Machine.{Frames, Machine, Cells, joined}
 use Rattle.sim_code.specs.Machine as machine
 use Rattle.sim_code.proofs.Lifts.{Both}
 use Rattle.sim_meaning.specs.Levels.{has_levels, is_class, levels_made, levels_of, text_at}
-use Rattle.sim_meaning.specs.Pending.{Activation, ActivateOp, AgainOp, ArrayOp, AttributeOp, BackOp, BlockOp, BranchOp, CallOp, ChooseOp, Configuration, ConnectOp, CopyOp, DeclareOp, Do, DropOp, ElementOp, ElementsOp, EndBlock, EndLevel, EndObject, EndPrefixed, EndProcedure, EndProcessOp, EndProgram, EnterOp, Eval, Exec, Execs, FetchOp, FitsOp, GiveOp, Held, IfOp, InnerOp, Instances, Item, JoinOp, KeepOp, Key, Level, LevelOp, MemberOp, NewOp, NotNoneOp, ObjectOp, OneOp, Op, PastOp, PrefixedOp, ProcessOp, QuaOp, QualifiedElementOp, RaiseOp, ReferOp, SelfOp, SetOp, ShareOp, SimulationOp, StandardOp, StepOp, StepTestOp, StoreOp, SwapOp, Target, Term, TestOp, ToReferenceAt, TransferOp, TwoOp, WhenOp, WhileElementOp, held}
+use Rattle.sim_meaning.specs.Pending.{Activation, ActivateOp, AgainOp, ArrayOp, AttributeOp, BackOp, BlockOp, BranchOp, CallOp, ChooseOp, Configuration, ConnectOp, CopyOp, DeclareOp, Do, DropOp, ElementOp, ElementsOp, EndBlock, EndLevel, EndObject, EndPrefixed, EndProcedure, EndProcessOp, EndProgram, EnterOp, Eval, Exec, Execs, FetchOp, FitsOp, GiveOp, Held, IfOp, InnerOp, Instances, Item, JoinOp, KeepOp, Key, Level, LevelOp, MemberOp, NewOp, NotNoneOp, ObjectOp, OneOp, Op, PastOp, PrefixedOp, ProcessOp, QuaOp, QualifiedElementOp, RaiseOp, ReferOp, SelfOp, SetOp, ShareOp, SimulationOp, StandardOp, StepOp, StepTestOp, StoreOp, SwapOp, Target, Term, TestOp, ToReferenceAt, TransferOp, TwoOp, WhenOp, WhileElementOp, held, VirtualOp, CheckOp, CallValueOp}
 use Rattle.sim_meaning.specs.Entries.{passes}
 use Rattle.sim_meaning.specs.Meaning.{has_result}
 use Rattle.sim_meaning.specs.Texts.{BlockText, ProcedureText, is_class_free, text}
@@ -37,7 +37,7 @@ use Rattle.codegen.specs.Compiled.{RecordOf, type_of_name}
 use Rattle.sim_relate.proofs.Known.{HasClass, Calm, HandAt, IsTemp, Keeps, Kind, Later, Reaches, Refers, Runs, SameFrame, SlotAt, Spot, StackAt, Stands, anys, at_stage, given, is_declared, is_fixed, is_process_in, place_target, placed, reads, site_at, spot, variable_target, LeavesIs}
 use Rattle.sim_relate.proofs.Waiting.{GetsIs, demand, suspended}
 use Rattle.sim_relate.proofs.Trees.{Classed, TermAt, transfer_instr}
-use Rattle.sim_relate.proofs.Operations.{Works, WorksAnyLine, ChoiceIs, IfIs, CallOpIs, NewOpIs, PrefixedOpIs, AttributeOpIs, ObjectOpIs, QualifiedElementOpIs, FitsOpIs, FetchOpIs, SwapIs, ReferIs, StandardOpIs, SetOpIs, ProcessOpIs, SimulationOpIs, BlockOpIs, ActivateOpIs, SelfOpIs, JoinOpIs, AgainIs, ArrayIs, StoreIs, TempIs, ShareIs, GiveIs}
+use Rattle.sim_relate.proofs.Operations.{Works, WorksAnyLine, ChoiceIs, IfIs, CallOpIs, NewOpIs, PrefixedOpIs, AttributeOpIs, ObjectOpIs, QualifiedElementOpIs, FitsOpIs, FetchOpIs, SwapIs, ReferIs, StandardOpIs, SetOpIs, ProcessOpIs, SimulationOpIs, BlockOpIs, ActivateOpIs, SelfOpIs, JoinOpIs, AgainIs, ArrayIs, StoreIs, TempIs, ShareIs, GiveIs, VirtualOpIs, CheckOpIs, CallValueOpIs}
 
 module _ (s : Source) (code : CodeOf) where
   -- ---- statements
@@ -240,6 +240,9 @@ module _ (s : Source) (code : CodeOf) where
   OpAt m fs inst site (NewOp k n line) p q before behind = NewOpIs s code site k n line p q before behind
   OpAt m fs inst site (AttributeOp k key class line) p q before behind = AttributeOpIs s code k key class line p q before behind
   OpAt m fs inst site (ObjectOp k line) p q before behind = ObjectOpIs s code k line p q before behind
+  OpAt m fs inst site (VirtualOp v line) p q before behind = VirtualOpIs s code v line p q before behind
+  OpAt m fs inst site (CheckOp n line) p q before behind = CheckOpIs s code n line p q before behind
+  OpAt m fs inst site (CallValueOp line) p q before behind = CallValueOpIs s code site line p q before behind
   OpAt m fs inst site (QualifiedElementOp n line k) p q before behind = QualifiedElementOpIs s code n line k p q before behind
   OpAt m fs inst site (MemberOp member k) p q before behind = Classed s k × WorksAnyLine s code (member_instr member (class_number s code k)) 1 true p q before behind
   OpAt m fs inst site (QuaOp k line) p q before behind = Classed s k × Works s code (i.Qua (pos (class_number s code k))) line 1 true p q before behind

@@ -106,7 +106,7 @@ module _ (s : Source) (code : CodeOf) (site : Site) where
   declared_fits d line n (Some (entry.Formal x)) es Inner Actuals p q a = formal_fits d line n x.mode x.kind es Inner p q a
   declared_fits d line n (Some (entry.Procedure result k)) es Inner Actuals p q a = (a.link).fits
   declared_fits d line n (Some (entry.Class block)) es Inner Actuals p q a = absurd a
-  declared_fits d line n (Some (entry.Virtual result own)) es Inner Actuals p q a = absurd a
+  declared_fits d line n (Some (entry.Virtual result own)) es Inner Actuals p q a = let x = a.object in (x.push).fits
   declared_fits d line n (Some (entry.Unspecified written)) es Inner Actuals p q a = absurd a
   declared_fits d line n (Some (entry.Attribute name parameter result)) es Inner Actuals p q a = absurd a
   declared_fits d line n None es Inner Actuals p q a = absurd a
@@ -151,7 +151,7 @@ module _ (s : Source) (code : CodeOf) (site : Site) where
   of_object_fits d line n (Some (entry.Formal x)) es Base Inner Actuals p q f a = parameter_of_fits d line n x.kind es Base Inner p q f a
   of_object_fits d line n (Some (entry.Procedure result k)) es Base Inner Actuals p q f a = f p a.x a.object
   of_object_fits d line n (Some (entry.Class block)) es Base Inner Actuals p q f a = absurd a
-  of_object_fits d line n (Some (entry.Virtual result own)) es Base Inner Actuals p q f a = absurd a
+  of_object_fits d line n (Some (entry.Virtual result own)) es Base Inner Actuals p q f a = f p a.x a.object
   of_object_fits d line n (Some (entry.Unspecified written)) es Base Inner Actuals p q f a = absurd a
   of_object_fits d line n (Some (entry.Attribute name parameter result)) es Base Inner Actuals p q f a = f p a.x a.object
   of_object_fits d line n None es Base Inner Actuals p q f a = absurd a

@@ -67,7 +67,7 @@ module _ (s : Source) (m : Instances) (i : ℕ) where
   declared_leaves line d (Some (entry.Formal f)) es terms actuals = formal_leaves line d f.mode f.kind es terms
   declared_leaves line d (Some (entry.Procedure result block)) es terms actuals = in_leaves (home_of s m i d) _ (λ j ks. refl)
   declared_leaves line d (Some (entry.Class block)) es terms actuals = λ ks. refl
-  declared_leaves line d (Some (entry.Virtual result own)) es terms actuals = λ ks. refl
+  declared_leaves line d (Some (entry.Virtual result own)) es terms actuals = in_leaves (home_of s m i d) _ (λ j ks. refl)
   declared_leaves line d (Some (entry.Unspecified written)) es terms actuals = λ ks. refl
   declared_leaves line d (Some (entry.Attribute name parameter result)) es terms actuals = λ ks. refl
   declared_leaves line d None es terms actuals = λ ks. refl

@@ -1,7 +1,8 @@
 -- The code of closed trees.
-use Rattle.std.proofs.Common.{◌≡◌, ◌<◌, ◌≤◌, ℕ, suc, Bool, true, false, List, ◌∷◌, length, Option, Some}
+use Rattle.std.proofs.Common.{◌≡◌, ◌<◌, ◌≤◌, ℕ, zero, suc, Bool, true, false, List, ◌∷◌, length, Option, Some}
 use Rattle.std.specs.Prelude.{⊤, pos, slice_get}
 use Rattle.sim_scope.specs.Access.{encloser}
+use Rattle.sim_scope.specs.Scopes.{entry_is, entry_of, is_virtual}
 use Rattle.sim_scope.specs.Source.{Source, level_of}
 use Rattle.sim_tree.specs.declared.stmt.TypeName.{TypeName}
 use Rattle.sim_tree.specs.Syntax.{Statement}
@@ -18,7 +19,7 @@ use Rattle.sim_code.specs.Sets.{is_set_name, parameter_count}
 use Rattle.sim_code.specs.Simulations.{actual_count, is_process_name, is_simulation_name}
 use Rattle.sim_code.specs.Transfers.{Calling, Detaching, Resuming, Transfer}
 use Rattle.sim_meaning.specs.Levels.{is_class}
-use Rattle.sim_meaning.specs.Pending.{AttributeOf, CallOf, Cell, CopyOf, Either, ElementOf, FitsOf, Further, Given, ImageOf, Instances, Joined, KeptOf, Key, MemberOf, NewOf, NoTerm, NotNoneOf, One, PlaceOf, ProcessOf, QuaOf, QualifiedElementOf, QualifiedPlaceOf, RemoteCallOf, SetOf, SimulationOf, StandardOf, Term, Terms, TransferOf, Two, Unbuilt, ValueAt}
+use Rattle.sim_meaning.specs.Pending.{AttributeOf, CallOf, Cell, CopyOf, Either, ElementOf, FitsOf, Further, Given, ImageOf, Instances, Joined, KeptOf, Key, MemberOf, NewOf, NoTerm, NotNoneOf, One, PlaceOf, ProcessOf, QuaOf, QualifiedElementOf, QualifiedPlaceOf, RemoteCallOf, SetOf, SimulationOf, StandardOf, Term, Terms, TransferOf, Two, Unbuilt, ValueAt, VirtualOf}
 use Rattle.sim_meaning.specs.Entries.{formals_of}
 use Rattle.sim_meaning.specs.Steps.{count}
 use Rattle.sim_meaning.specs.Texts.{ProcedureText, constant_of, text}
@@ -36,6 +37,14 @@ abbrev pub transfer_instr : Transfer → Instr
 transfer_instr Detaching = i.Detach
 transfer_instr Calling = i.Attach
 transfer_instr Resuming = i.Resume
+
+-- the list of actual parameters that stands for so many of them: the first one has none, and the second one has some
+abbrev pub list_number : (actuals : ℕ) → ℕ
+list_number zero = 0
+list_number (suc n) = 1
+
+abbrev pub IsVirtual : Source → ℕ → Type 0
+IsVirtual s v = entry_is is_virtual (entry_of s.tables (record { 0 = v })) ≡ true
 
 module _ (s : Source) (code : CodeOf) where
   -- ---- closed trees
@@ -115,6 +124,18 @@ module _ (s : Source) (code : CodeOf) where
     pub call : At code (i.Call (pos (block_number s k)) (pos many)) line z q
     pub procedure : ProcedureIs k text
     pub as_many : many ≡ length (formals_of s k)
+
+  -- what matches a virtual in the class of an object
+  pub record VirtualIs (site : Site) (n virtual many line : ℕ) (Object' : ℕ → ℕ → Type 0) (p q : ℕ) : Type 0 where
+    pub x : ℕ
+    pub y : ℕ
+    pub z : ℕ
+    pub object : Object' p x
+    pub fits : n < site.room
+    pub declared : IsVirtual s virtual
+    pub found : At code (i.Virt (pos virtual)) line x y
+    pub checked : At code (i.Check (pos (list_number many))) line y z
+    pub called : At code (i.CallV (pos 0)) line z q
 
   -- a new object of the class of a text, which stands in the text of the link
   pub record NewIs (m : Instances) (inst : ℕ) (site : Site) (n j k many line : ℕ) (Actuals : ℕ → ℕ → Type 0) (p q : ℕ) : Type 0 where
@@ -254,6 +275,7 @@ module _ (s : Source) (code : CodeOf) where
     TermAt m inst site n (SetOf name ts) p q = (x : ℕ) × TermsAt m inst site n ts p x × SetIs name (count ts) x q
     TermAt m inst site n (ProcessOf name line a) p q = (x : ℕ) × (TermAt m inst site n a p x × (gives s a ≡ true)) × ProcessIs name line x q
     TermAt m inst site n (SimulationOf j name ts line) p q = SimulationIs m inst site n j name (count ts) line (TermsAt m inst site (suc n) ts) p q
+    TermAt m inst site n (VirtualOf a v many line) p q = VirtualIs site n v many line (λ p q. TermAt m inst site n a p q × (gives s a ≡ true)) p q
     TermAt m inst site n Unbuilt p q = ⊤
 
     -- one value after the other

@@ -38,7 +38,7 @@ use Rattle.sim_sound.specs.Typed.{ClassTyped, IsAttribute, SetProcedureThere, Ty
 use Rattle.sim_sound.proofs.Lists.{same_some}
 use Rattle.sim_sound.proofs.Prefixes.{levels_solid}
 use Rattle.sim_sound.proofs.Reach.{among_block, key_there}
-use Rattle.sim_sound.proofs.Sound.{AddressOf, AttributeFine, GivesResult, IntegersFine, IsPlain, KeyAmong, Kinds, NotStandard, ObjectIn, ProcedureIn, TermFine, TermsFine, Value, formal_kinds, held_kinds, keys_in, own_cells}
+use Rattle.sim_sound.proofs.Sound.{AddressOf, AttributeFine, GivesResult, IntegersFine, IsPlain, KeyAmong, Kinds, NotStandard, ObjectIn, ProcedureIn, TermFine, TermsFine, Value, formal_kinds, held_kinds, keys_in, own_cells, VirtualIn}
 
 -- ---- what is declared
 
@@ -93,6 +93,7 @@ module _ (s : Source) (Known : Type 0) (d : DeclNo) where
   pub known_of : (es : Expressions) (Indices : Type 0) (Actuals : List Formal → Type 0) (e : Option Entry) (h : Option Holds) → DeclaredGives s Known d es Indices Actuals e h → Known
   known_of es Indices Actuals (Some (entry.Procedure result q)) h a = a.1
   known_of es Indices Actuals (Some (entry.Attribute n parameter result)) h a = a.2
+  known_of es Indices Actuals (Some (entry.Virtual result own)) h a = a.1
   known_of es Indices Actuals (Some (entry.Constant ty)) (Some g) a = constant_known es g a
   known_of es Indices Actuals (Some (entry.Variable ty)) (Some g) a = held_known es Indices (Some (held_by s ty)) g a
   known_of es Indices Actuals (Some (entry.Array ty n)) (Some g) a = held_known es Indices (Some (ArrayOf (held_by s ty))) g a
@@ -194,6 +195,10 @@ module _ (s : Source) (ok : Typed s) where
 
   pub procedure_not_standard : (d : DeclNo) (result : Option SimType) (k : ℕ) → entry_of s.tables d ≡ Some (entry.Procedure result k) → NotStandard s (block_of s d)
   procedure_not_standard d result k e = not_standard d (entry.Procedure result k) e (λ a. a)
+
+  -- a virtual of a class gives what its declaration says
+  pub virtual_in : (d : DeclNo) (c : ℕ) (result : Option SimType) (own : Option DeclNo) (h : Option Holds) → entry_of s.tables d ≡ Some (entry.Virtual result own) → has_level s.tables c (block_of s d) ≡ true → FitsIn s (given_by s result) h → VirtualIn s d.0 c h
+  virtual_in d c result own h e level fits = record { result = result; own = own; declares = e; level = level; not_standard = not_standard d (entry.Virtual result own) e (λ a. a); fits = fits }
 
   -- a procedure stands in the text of its declaration, and gives what that says
   pub procedure_in : (d : DeclNo) (result : Option SimType) (k : ℕ) → entry_of s.tables d ≡ Some (entry.Procedure result k) → ProcedureIn s k (block_of s d)
@@ -300,6 +305,7 @@ module _ (s : Source) (ok : Typed s) where
           → ((n : Standard) (parameter result : Option SimType) → e ≡ Some (entry.Attribute n parameter result) → Actuals (attribute_formals parameter) → TermsFine s m i t todo acts (formal_kinds s (attribute_formals parameter))) → DeclaredGives s Known d es Indices Actuals e h → Fine (entry_attribute s line d e object es ts acts) (held_kinds h)
       entry_fine Known es ts acts Indices Actuals (Some (entry.Procedure result k)) h e ints go set a = (c, block_of s d, level, procedure_not_standard d result k e, procedure_in d result k e, gives_result d result k h e a.0, fine, go result k refl a.2)
       entry_fine Known es ts acts Indices Actuals (Some (entry.Attribute n parameter result)) h e ints go set a = set_fine n parameter result acts h e a.0 a.1 (set n parameter result refl a.3)
+      entry_fine Known es ts acts Indices Actuals (Some (entry.Virtual result own)) h e ints go set a = (c, h, virtual_in d c result own h e level a.0, refl, fine)
       entry_fine Known es ts acts Indices Actuals (Some (entry.Constant ty)) (Some h) e ints go set a = constant_fine Known ty es h e a
       entry_fine Known es ts acts Indices Actuals (Some (entry.Variable ty)) (Some h) e ints go set a = variable_fine Known es (held_by s ty) h (attribute_is (held_by s ty) (ap (entry_holds s true) e)) (names_variable s Known es Indices (held_by s ty) h (held_plain s ty) a)
       entry_fine Known es ts acts Indices Actuals (Some (entry.Array ty n)) (Some h) e ints go set a = array_fine Known es ts Indices (held_by s ty) h (attribute_is (ArrayOf (held_by s ty)) (ap (entry_holds s true) e)) ints a

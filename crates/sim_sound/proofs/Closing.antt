@@ -36,18 +36,18 @@ use Rattle.sim_values.specs.Plain.{Nothing, Object}
 use Rattle.sim_code.specs.Instances.{at_level}
 use Rattle.sim_code.specs.Transfers.{Calling, Detaching, Resuming, Transfer}
 use Rattle.sim_code.specs.Simulations.{is_simulation_name}
-use Rattle.sim_meaning.specs.Attributes.{attribute, attribute_denoted, attribute_formals, attribute_if, block_found, cell_of_connection, class_made, class_unless, connected_object, connection_at, declared_attribute, detach_term, fitting, generation, if_any, is_connection, is_standard_attribute, kept_if, membership_term, own_attribute, own_term, parameter_qualification, place_of_attribute, qua_term, simulation_term, this_instance, this_term, transfer_at, transfer_term, with_arrays_kept}
+use Rattle.sim_meaning.specs.Attributes.{attribute, attribute_denoted, attribute_formals, attribute_if, block_found, cell_of_connection, class_made, class_unless, connected_object, connection_at, declared_attribute, detach_term, fitting, generation, if_any, is_connection, is_standard_attribute, kept_if, membership_term, own_attribute, own_term, parameter_qualification, place_of_attribute, qua_term, simulation_term, this_instance, this_term, transfer_at, transfer_term, with_arrays_kept, count_of}
 use Rattle.sim_meaning.specs.Closing.{Joining, Lazily, Negated, Plainly, Sort, actual_term, array_place, array_term, behind_dot, class_parameters, close, close_actuals, close_all, close_place, constant_term, declared_place, declared_term, dot_term, formal_place, formal_term, home_of, home_of_class, image_place, in_instance, is_attribute, is_attribute_denoted, is_image_behind, is_text, is_text_type, is_variable, is_variable_denoted, is_variable_entry, literal_term, name_term, named_place, named_term, object_term, signed_term, sort_of, standard_term, stream_denoted, stream_of, sysout, two_term, variable_place, variable_term}
 use Rattle.sim_meaning.specs.Constants.{text_constant}
 use Rattle.sim_meaning.specs.Entries.{formals_of, is_array_by_value}
 use Rattle.sim_meaning.specs.Levels.{class_at, class_denoted, class_text, has_levels, is_class, qualification}
-use Rattle.sim_meaning.specs.Pending.{Cell, CallOf, CopyOf, Declared, ElementOf, FitsOf, Further, ImageOf, Instances, KeptOf, Key, NoTerm, PlaceOf, StandardOf, Term, Terms, Unbuilt, ValueAt}
+use Rattle.sim_meaning.specs.Pending.{Cell, CallOf, CopyOf, Declared, ElementOf, FitsOf, Further, ImageOf, Instances, KeptOf, Key, NoTerm, PlaceOf, StandardOf, Term, Terms, Unbuilt, ValueAt, VirtualOf, Given}
 use Rattle.sim_meaning.specs.Texts.{constant_of, is_class_free, text}
 use Rattle.sim_sound.specs.Held.{Among, ArrayOf, Fits, Holds, In, InBound, IsFixed, Place, Refers, Sees, SeesConnected, Simply, StandsAround, declared_holds, entry_holds, formal_holds, held_by, reference_to}
-use Rattle.sim_sound.specs.Expressions.{ActualFits, ActualsFit, AreIntegers, AreOf, ArrayNames, BehindGives, CallGives, ConstantNames, DeclaredGives, DotGives, ExprIs, HeldNames, IdentifierGives, IsReference, KnownAt, LiteralIs, NameGives, NamedGives, NewIs, ObjectHas, OfText, OwnGives, OwnKnown, OwnNameGives, SimulationGives, SimulationKnown, SortKinds, StandardGives, ThisFound, ThisIs, VariableNames, passed}
+use Rattle.sim_sound.specs.Expressions.{ActualFits, ActualsFit, AreIntegers, AreOf, ArrayNames, BehindGives, CallGives, ConstantNames, DeclaredGives, DotGives, ExprIs, HeldNames, IdentifierGives, IsReference, KnownAt, LiteralIs, NameGives, NamedGives, NewIs, ObjectHas, OfText, OwnGives, OwnKnown, OwnNameGives, SimulationGives, SimulationKnown, SortKinds, StandardGives, ThisFound, ThisIs, VariableNames, passed, VirtualGives}
 use Rattle.sim_sound.specs.Statements.{LeftHeld, TransferIs}
 use Rattle.sim_sound.specs.Typed.{Typed}
-use Rattle.sim_sound.proofs.Attributes.{entry_fine, entry_lies, gives_result, held_plain, known_of, left_known, left_variable_is, leveled, names_variable, no_left_variable, procedure_in, text_left}
+use Rattle.sim_sound.proofs.Attributes.{entry_fine, entry_lies, gives_result, held_plain, known_of, left_known, left_variable_is, leveled, names_variable, no_left_variable, procedure_in, text_left, virtual_in}
 use Rattle.sim_sound.proofs.Calls.{dot_transfers_not, identifier_transfers_not, not_own, own_denoted, own_is_attribute}
 use Rattle.sim_sound.proofs.Constants.{constant_no_reference, text_no_reference, value_fine}
 use Rattle.sim_sound.proofs.Fitting.{level_itself, level_self, plain_fits}
@@ -293,6 +293,36 @@ module _ (s : Source) (ok : Typed s) (o : AllArrays) (m : Instances) (store : St
         actuals = subst (λ fs. TermsFine s m i t todo (acts fs) (formal_kinds s (formals_of s k))) (sym (formals_same s d result k e)) (go (formals_of s k) a.2);
       })
 
+  -- an instance that stands for a text with levels is an object or a prefixed block
+  object_at : (k j : ℕ) → has_levels (text s k) ≡ true → Whole s m j k → ObjectOf s m j k
+  object_at k j has p =
+      let f = store.instances j p.now p.lives in
+      let at : LevelOf s (p.now).text k = own_level s p.now k (levels_solid (text s k) has) p.stands in
+      let inner : has_levels (text s (p.now).text) ≡ true = level_of_levels s ok f.solid at has in
+      let free : is_class_free s (p.now).text ≡ false = ((leveled s ok (p.now).text inner).typed).stays in
+      record {
+        now = p.now;
+        lives = p.lives;
+        object = inner;
+        levels = level_has s ok (p.now).text k f.solid at;
+        stays = ap (λ z. z && not (p.now).kept) (f.ends ∙ free);
+        words = p.words;
+        has_text = p.has_text;
+        made = p.made;
+      }
+
+  virtual_fixed : (d : DeclNo) (result : Option SimType) (own : Option DeclNo) → entry_of s.tables d ≡ Some (entry.Virtual result own) → IsFixed (entry_of s.tables d) → ⊥
+  virtual_fixed d result own e a = subst IsFixed e a
+
+  -- a virtual of the object around
+  virtual_fine : (d : DeclNo) (result : Option SimType) (own : Option DeclNo) (line n : ℕ) (h : Option Holds) → entry_of s.tables d ≡ Some (entry.Virtual result own) → VirtualGives s (Sees s from d) result h → Fine (in_instance (home_of s m i d) (λ j. VirtualOf (Given (Object j)) d.0 n line)) (held_kinds h)
+  virtual_fine d result own line n h e a =
+      let x = reach d a.1 in
+      let class = ok.virtuals d result own e in
+      let u = block_of s d in
+      found_in (home_of s m i d) x.instance (λ j. VirtualOf (Given (Object j)) d.0 n line) (held_kinds h) x.found
+      (u, h, virtual_in s ok d u result own h e (class_itself s ok u class) a.0, refl, (Refers u, refl, object_at u x.instance (class_has s ok u class) (whole_of s m i d x (virtual_fixed d result own e))))
+
   -- a name of texts behind its text
   of_text_fine : (line : ℕ) (ts : Terms) (Operands : List Kind → Type 0) → ((ks : List Kind) → Operands ks → OperandsFine s m i t todo ts (value_kinds ks)) → (n : Standard) (first : Term) (x : Kinds) (h : Option Holds) → Fine first (Some x) → OperandIs kind.Text x → OfText n Operands h → Fine (StandardOf n (Further first ts) line) (held_kinds h)
   of_text_fine line ts Operands ops n first x h f is a =
@@ -346,21 +376,7 @@ module _ (s : Source) (ok : Typed s) (o : AllArrays) (m : Instances) (store : St
   instance_this : (k : ℕ) (h : Holds) → has_levels (text s k) ≡ true → StandsAround s from k → Fits s (Refers k) h → Fine (this_instance (at_level m (level_of s k) i)) (Some (Value h))
   instance_this k h has stands fits =
       let x = around k stands in
-      let p = x.whole in
-      let f = store.instances x.instance p.now p.lives in
-      let at : LevelOf s (p.now).text k = own_level s p.now k (levels_solid (text s k) has) p.stands in
-      let inner : has_levels (text s (p.now).text) ≡ true = level_of_levels s ok f.solid at has in
-      let free : is_class_free s (p.now).text ≡ false = ((leveled s ok (p.now).text inner).typed).stays in
-      let object : ObjectOf s m x.instance k = record {
-        now = p.now;
-        lives = p.lives;
-        object = inner;
-        levels = level_has s ok (p.now).text k f.solid at;
-        stays = ap (λ z. z && not (p.now).kept) (f.ends ∙ free);
-        words = p.words;
-        has_text = p.has_text;
-        made = p.made;
-      } in
+      let object = object_at k x.instance has x.whole in
       subst (λ z. Fine (this_instance z) (Some (Value h))) (sym x.found) (h, refl, plain_fits s ok o m store (Refers k) h (Object x.instance) fits object)
 
   this_fine : (k : ℕ) (h : Holds) (c d : Bool) → is_connection (text s k) ≡ c → has_levels (text s k) ≡ d → ThisIs s from c d k h → Fine (this_term s m i (Some k)) (Some (Value h))
@@ -386,6 +402,7 @@ module _ (s : Source) (ok : Typed s) (o : AllArrays) (m : Instances) (store : St
     declared_fine : (d : DeclNo) (e : Option Entry) (h : Option Holds) → entry_of s.tables d ≡ e → is_standard_attribute e ≡ false → DeclaredGives s (Sees s from d) d es Indices Actuals e h → Fine (declared_term s m i line d e es ts acts) (held_kinds h)
     declared_fine d (Some (entry.Procedure result k)) h e free a = call_fine d result k line Actuals acts h e go a
     declared_fine d (Some (entry.Attribute n parameter result)) h e free a = absurd (cc)
+    declared_fine d (Some (entry.Virtual result own)) h e free a = virtual_fine d result own line (count_of es) h e a
     declared_fine d (Some (entry.Constant ty)) (Some h) e free a = constant_fine d es h a
     declared_fine d (Some (entry.Variable ty)) (Some h) e free a = variable_fine d es (held_by s ty) h (held_in d (entry.Variable ty) (held_by s ty) e (λ c. refl)) (names_variable s (Sees s from d) es Indices (held_by s ty) h (held_plain s ty) a)
     declared_fine d (Some (entry.Array ty n)) (Some h) e free a = array_fine d line es ts Indices (held_by s ty) h (held_in d (entry.Array ty n) (ArrayOf (held_by s ty)) e (λ c. refl)) ints a

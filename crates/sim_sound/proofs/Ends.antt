@@ -140,6 +140,7 @@ module _ (s : Source) (ok : Typed s) (l : Limits) (o : World) (g : Marks) (long 
       more o' m' Apart e (Some (Rattle.sim_sound.proofs.Sound.Lasting k)) v f ks vs h = absurd f
       more o' m' Apart e (Some Rattle.sim_sound.proofs.Sound.Component) v f ks vs h = absurd f
       more o' m' Apart e (Some (Rattle.sim_sound.proofs.Sound.ObjectIn k)) v f ks vs h = absurd f
+      more o' m' Apart e (Some (Rattle.sim_sound.proofs.Sound.MatchFor k)) v f ks vs h = absurd f
 
   -- what a procedure gives is no array
   result_plain : (h : Holds) → result_holds s t ≡ Some h → IsPlain h

@@ -11,7 +11,7 @@ use Rattle.std.specs.Prelude.{◌+◌}
 use Rattle.sim_meaning.specs.Attributes.{attribute_formals}
 use Rattle.sim_meaning.specs.Entries.{formals_of}
 use Rattle.sim_meaning.specs.Closing.{class_parameters}
-use Rattle.sim_meaning.specs.Pending.{SetOf, SetOp, ProcessOf, ProcessOp, SimulationOf, SimulationOp, Activation, Address, AttributeOf, AttributeOp, CallOf, CallOp, Cell, cell, Configuration, CopyOf, CopyOp, Do, Either, ElementOf, ElementOp, Eval, FetchOp, FitsOf, FitsOp, Further, Given, IfOp, ImageOf, Instances, Item, Joined, JoinOp, KeepOp, KeptOf, Link, MemberOf, MemberOp, NewOf, NewOp, NoTerm, NotNoneOf, NotNoneOp, ObjectOp, Of, One, OneOp, PlaceOf, PrefixedOp, QualifiedElementOf, QualifiedElementOp, QualifiedPlaceOf, QuaOf, QuaOp, RemoteCallOf, StandardOf, StandardOp, Term, Terms, TransferOf, TransferOp, Two, TwoOp, Unbuilt, Val, ValueAt}
+use Rattle.sim_meaning.specs.Pending.{SetOf, SetOp, ProcessOf, ProcessOp, SimulationOf, SimulationOp, Activation, Address, AttributeOf, AttributeOp, CallOf, CallOp, Cell, cell, Configuration, CopyOf, CopyOp, Do, Either, ElementOf, ElementOp, Eval, FetchOp, FitsOf, FitsOp, Further, Given, IfOp, ImageOf, Instances, Item, Joined, JoinOp, KeepOp, KeptOf, Link, MemberOf, MemberOp, NewOf, NewOp, NoTerm, NotNoneOf, NotNoneOp, ObjectOp, Of, One, OneOp, PlaceOf, PrefixedOp, QualifiedElementOf, QualifiedElementOp, QualifiedPlaceOf, QuaOf, QuaOp, RemoteCallOf, StandardOf, StandardOp, Term, Terms, TransferOf, TransferOp, Two, TwoOp, Unbuilt, Val, ValueAt, VirtualOf, VirtualOp, CheckOp, CallValueOp}
 use Rattle.sim_meaning.specs.Steps.{count, each, eval, go}
 use Rattle.sim_sound.specs.Held.{ArrayOf, Refers, Simply}
 use Rattle.sim_sound.specs.Typed.{Typed}
@@ -20,7 +20,7 @@ use Rattle.sim_sound.proofs.Lifts.{Goes, had}
 use Rattle.sim_sound.proofs.Fitting.{plain_val, val_fits}
 use Rattle.sim_sound.proofs.Moves.{placed_as}
 use Rattle.sim_sound.proofs.Running.{Begun, ChainFine, Fine, Operates, WorkFine, runs}
-use Rattle.sim_sound.proofs.Sound.{ObjectIn, PrefixedAt, set_operands, AddressOf, Copied, GivesResult, HandsFine, ImageAddress, IntegersFine, Kinds, Lasting, LinkTo, Marks, OperandsFine, ProcedureIn, ReferenceAddress, Site, TermFine, TermsFine, Value, Waits, class_kinds, component_kind, formal_kinds, given, integers, onto, pushed, see, simple}
+use Rattle.sim_sound.proofs.Sound.{ObjectIn, PrefixedAt, set_operands, AddressOf, Copied, GivesResult, HandsFine, ImageAddress, IntegersFine, Kinds, Lasting, LinkTo, Marks, OperandsFine, ProcedureIn, ReferenceAddress, Site, TermFine, TermsFine, Value, Waits, class_kinds, component_kind, formal_kinds, given, integers, onto, pushed, see, simple, MatchFor}
 use Rattle.sim_sound.proofs.Heads.{headed_as}
 
 -- the configurations that are fine
@@ -305,4 +305,16 @@ module _ (s : Source) (o : World) (g : Marks) (long : length g.sights ≡ length
       goes_on (each ts (Do (SimulationOp name line) ∷ w)) (Link e ∷ vals) todo (LinkTo (block_of s y.declaration) ∷ ks) b ((c.near, c.whole), h)
       (each_fine ts (formal_kinds s (attribute_formals y.parameter)) (Do (SimulationOp name line) ∷ w) todo (LinkTo (block_of s y.declaration) ∷ ks) a.5
       (todo, given r ks, (y, a.1, ks, a.2, c.simulates, refl, ap (λ z. given z ks) (sym a.3), refl), work))
+  eval_goes ok (VirtualOf x v n line) r w vals todo ks b h a work =
+      goes_on (Do (Eval x) ∷ Do (VirtualOp v line) ∷ Do (CheckOp n line) ∷ Do (CallValueOp line) ∷ w) vals todo ks b h (
+        todo,
+        Value (Refers a.0) ∷ ks,
+        (Some (Value (Refers a.0)), a.4, refl, refl),
+        (
+          todo,
+          MatchFor a.1 ∷ ks,
+          (a.0, a.1, ks, a.2, refl, refl, refl),
+          (todo, MatchFor a.1 ∷ ks, (a.1, ks, refl, refl, refl), (todo, given r ks, (a.1, ks, refl, ap (λ z. given z ks) (sym a.3), refl), work)),
+        ),
+      )
   eval_goes ok Unbuilt r w vals todo ks b h a work = absurd a

@@ -23,7 +23,7 @@ use Rattle.sim_sound.proofs.Cells.{plain_anywhere, val_up}
 use Rattle.sim_sound.proofs.Changes.{ElementsFine, given_copy, given_elements, given_is, given_later, given_long, given_world, handed_copy, handed_elements, handed_is, handed_later, handed_long, handed_over_array, handed_world}
 use Rattle.sim_sound.proofs.FirstCells.{ActualsAre, SomeDeep, SomeFine, ValsFine}
 use Rattle.sim_sound.proofs.Later.{All, Later, hand_later, later_none, later_then, val_later}
-use Rattle.sim_sound.proofs.Sound.{ObjectIn, AddressOf, AllArrays, Component, Copied, CopyFine, DeepFine, ImageAddress, IsPlain, KeptFine, Kinds, Lasting, LinkTo, Marks, Open, ReferenceAddress, Sight, ValFine, Value, at_itself, class_kinds, formal_kinds, holds_of, in_hand, kept_kinds, near_below, one_lower, see}
+use Rattle.sim_sound.proofs.Sound.{ObjectIn, AddressOf, AllArrays, Component, Copied, CopyFine, DeepFine, ImageAddress, IsPlain, KeptFine, Kinds, Lasting, LinkTo, Marks, Open, ReferenceAddress, Sight, ValFine, Value, at_itself, class_kinds, formal_kinds, holds_of, in_hand, kept_kinds, near_below, one_lower, see, MatchFor}
 
 -- what is handed over is arrays alone
 owned_same : (n a : ℕ) (x : Option OneArray) (o p : World) → o.arrays ≡ p.arrays → (owned_by n x o a).arrays ≡ (owned_by n x p a).arrays
@@ -176,6 +176,7 @@ module _ (s : Source) (m m' : Instances) (i n : ℕ) (lt : i < n) (noted noted' 
     deep_moved e less (Lasting h) v f = hand_later s (Before g o) m Now m All e0 i tt (Lasting h) v f
     deep_moved e less Component v f = hand_later s (Before g o) m Now m All e0 i tt Component v f
     deep_moved e less (ObjectIn c) v f = hand_later s (Before g o) m Now m All e0 i tt (ObjectIn c) v f
+    deep_moved e less (MatchFor h) v f = hand_later s (Before g o) m Now m All e0 i tt (MatchFor h) v f
 
     some_moved : (e : ℕ) → d < e → (x : Option Kinds) (v : Val) → SomeDeep s (Before g o) m i e x v → SomeDeep s Now m i e x v
     some_moved e less None v f = f

@@ -8,7 +8,7 @@ use Rattle.sim_scope.specs.Source.{Source}
 use Rattle.sim_values.specs.declared.kind.Kind.{Kind}
 use Rattle.sim_values.specs.Plain.{Character, Integer, MainOf, Nothing, Object, Plain, Text, Truth}
 use Rattle.sim_code.specs.Instances.{CellPlace, ElementPlace, ImagePlace, Instance, ends_in, is_given_at_end, live, unless_given}
-use Rattle.sim_meaning.specs.Pending.{SetOf, Activation, Address, ArrayValue, AttributeOf, BackOp, BlockOp, BranchOp, CallOf, Cell, ChooseOp, ConnectOp, CopyOf, Declared, Do, Either, ElementOf, ElementsOp, EndBlock, EndLevel, EndObject, EndPrefixed, EndProcedure, EndProgram, EnterOp, Eval, Exec, Execs, FitsOf, Further, Given, GiveOp, Held, IfOp, ImageOf, InnerOp, Instances, Item, Joined, KeptOf, Key, Level, Link, MemberOf, NewOf, NoTerm, NotNoneOf, Of, One, Op, PlaceOf, PrefixedOp, ProcedureValue, ProcessOf, QuaOf, QualifiedElementOf, QualifiedPlaceOf, RaiseOp, RemoteCallOf, ShareOp, SimulationOf, StandardOf, StepTestOp, StoreOp, Target, Term, Terms, TestOp, ToAddress, ToCell, ToPlace, ToReference, ToReferenceAt, ToText, ToTextAt, ToTextOf, TransferOf, Tree, Two, Unbuilt, Val, ValueAt, WhenOp, WhileElementOp, held}
+use Rattle.sim_meaning.specs.Pending.{SetOf, Activation, Address, ArrayValue, AttributeOf, BackOp, BlockOp, BranchOp, CallOf, Cell, ChooseOp, ConnectOp, CopyOf, Declared, Do, Either, ElementOf, ElementsOp, EndBlock, EndLevel, EndObject, EndPrefixed, EndProcedure, EndProgram, EnterOp, Eval, Exec, Execs, FitsOf, Further, Given, GiveOp, Held, IfOp, ImageOf, InnerOp, Instances, Item, Joined, KeptOf, Key, Level, Link, MemberOf, NewOf, NoTerm, NotNoneOf, Of, One, Op, PlaceOf, PrefixedOp, ProcedureValue, ProcessOf, QuaOf, QualifiedElementOf, QualifiedPlaceOf, RaiseOp, RemoteCallOf, ShareOp, SimulationOf, StandardOf, StepTestOp, StoreOp, Target, Term, Terms, TestOp, ToAddress, ToCell, ToPlace, ToReference, ToReferenceAt, ToText, ToTextAt, ToTextOf, TransferOf, Tree, Two, Unbuilt, Val, ValueAt, WhenOp, WhileElementOp, held, VirtualOf}
 use Rattle.sim_meaning.specs.Attributes.{is_connection}
 use Rattle.sim_meaning.specs.Levels.{has_levels}
 use Rattle.sim_meaning.specs.Sane.{AllKept, AllOf, KeptOf as OnKept}
@@ -17,7 +17,7 @@ use Rattle.sim_sound.specs.Held.{ArrayOf, Holds, Refers, Simply, key_holds}
 use Rattle.sim_sound.proofs.Lists.{there_is}
 use Rattle.sim_sound.proofs.Prefixes.{LevelOf}
 use Rattle.sim_sound.proofs.Running.{ActFine, ChainFine, ChainOn, Expected, IsRelease, NoObjectStands, ObjectStands, Shown, StandsFine, StandsOn, WorkFine, awaited, first_over, is_resumed, resumes}
-use Rattle.sim_sound.proofs.Sound.{ObjectIn, AddressOf, AllArrays, ArrayFine, Beneath, BlockIn, CellFine, CellIs, CellTarget, CellsFine, Component, Copied, CopyFine, DeepFine, ElementFine, Enclosed, Generated, HandFine, HandsFine, ImageAddress, InstanceFine, IntegersFine, KeptFine, KeyAmong, Kinds, Knows, Lasting, Lasts, LevelsFine, LinkTo, MainIn, NamesObject, Near, ObjectOf, OpFine, OperandsFine, Outward, PlainFine, Present, ReferenceAddress, ReferenceFine, Simulates, Site, Sited, StandsFor, Stays, StoreOpFine, Suspended, Takes, TargetFine, TargetsFine, TermFine, TermsFine, ValFine, Value, VariableFine, Waits, alone, array_stored, at_itself, connected, in_connection, in_instance, key_of, near_below, near_staying, no_further, one_lower, one_out, outward, own_made, own_text, staying, value_stored, within}
+use Rattle.sim_sound.proofs.Sound.{ObjectIn, AddressOf, AllArrays, ArrayFine, Beneath, BlockIn, CellFine, CellIs, CellTarget, CellsFine, Component, Copied, CopyFine, DeepFine, ElementFine, Enclosed, Generated, HandFine, HandsFine, ImageAddress, InstanceFine, IntegersFine, KeptFine, KeyAmong, Kinds, Knows, Lasting, Lasts, LevelsFine, LinkTo, MainIn, NamesObject, Near, ObjectOf, OpFine, OperandsFine, Outward, PlainFine, Present, ReferenceAddress, ReferenceFine, Simulates, Site, Sited, StandsFor, Stays, StoreOpFine, Suspended, Takes, TargetFine, TargetsFine, TermFine, TermsFine, ValFine, Value, VariableFine, Waits, alone, array_stored, at_itself, connected, in_connection, in_instance, key_of, near_below, near_staying, no_further, one_lower, one_out, outward, own_made, own_text, staying, value_stored, within, MatchFor}
 
 -- an instance that is as it was, but for values of cells, and cells of connections that are new
 pub record Grown (x y : Instance (List Held)) : Type 0 where
@@ -241,6 +241,9 @@ module _ (s : Source) (o : AllArrays) (m : Instances) (o' : AllArrays) (m' : Ins
   hand_later j ok (ObjectIn c) (Of (Character z)) a = absurd a
   hand_later j ok (ObjectIn c) (Of (Text z)) a = absurd a
   hand_later j ok (ObjectIn c) _ a = absurd a
+  hand_later j ok (MatchFor h) (ProcedureValue k n) a =
+      record { around = a.around; near = knows_later j n ok a.near; whole = present_later n a.around [] (e.apart j n ok a.near) a.whole; procedure = a.procedure; alone = a.alone; fits = a.fits }
+  hand_later j ok (MatchFor h) _ a = absurd a
 
   pub deep_later : (j : ℕ) → Apart j → (d : ℕ) → Copies o o' j (suc d) → (k : Kinds) (v : Val) → DeepFine s o m j d k v → DeepFine s o' m' j d k v
   deep_later j ok d c (Copied k) (ArrayValue a) f = c d k a (omega arith) f
@@ -257,6 +260,7 @@ module _ (s : Source) (o : AllArrays) (m : Instances) (o' : AllArrays) (m' : Ins
   deep_later j ok d c (Lasting h) v f = hand_later j ok (Lasting h) v f
   deep_later j ok d c Component v f = hand_later j ok Component v f
   deep_later j ok d c (ObjectIn k) v f = hand_later j ok (ObjectIn k) v f
+  deep_later j ok d c (MatchFor h) v f = hand_later j ok (MatchFor h) v f
 
   pub hands_later : (j : ℕ) → Apart j → (ks : List Kinds) (vs : List Val) → Copies o o' j (length vs) → HandsFine s o m j ks vs → HandsFine s o' m' j ks vs
   hands_later j ok [] [] c a = a
@@ -317,6 +321,7 @@ module _ (s : Source) (o : AllArrays) (m : Instances) (o' : AllArrays) (m' : Ins
       term_later todo (SetOf name ts) g a = (a.0, a.1, a.2, a.3, terms_later todo ts _ a.4)
       term_later todo (ProcessOf name line x) g a = (a.0, a.1, a.2, a.3, term_later todo x _ a.4)
       term_later todo (SimulationOf n name ts line) g a = (a.0, a.1, a.2, a.3, block_later n _ a.4, terms_later todo ts _ a.5)
+      term_later todo (VirtualOf x v n line) g a = (a.0, a.1, a.2, a.3, term_later todo x _ a.4)
       term_later todo (TransferOf z line x) g a = (a.0, term_later todo x _ a.1)
       term_later todo Unbuilt g a = absurd a
 

@@ -23,14 +23,15 @@ use Rattle.sim_values.specs.declared.kind.Kind.{Kind}
 use Rattle.sim_values.specs.declared.kind.Kind.TheVariants as kind
 use Rattle.sim_code.specs.Instances.{at_level}
 use Rattle.sim_meaning.specs.Attributes.{attribute_place, connected_object, connection_at, declared_attribute, element_at, entry_at, if_any, parameter_at, place_of_attribute, qualified, qualified_place, variable_at}
-use Rattle.sim_meaning.specs.Closing.{Left, LeftAddress, LeftCell, LeftReference, LeftText, LeftUnbuilt, array_left, array_place, block_if, close, close_all, close_left_of, close_place, declared_left, declared_place, formal_left, formal_place, home_of, image_place, in_instance, left_found, left_in, left_variable, named_left, named_place, own_block, own_block_denoted, own_result, reference_place, result_left, result_meant, result_or, result_place, stream_of, unless_connected, variable_left, variable_place}
+use Rattle.sim_meaning.specs.Closing.{Left, LeftAddress, LeftCell, LeftReference, LeftText, LeftUnbuilt, array_left, array_place, block_if, close, close_all, close_left_of, close_place, declared_left, declared_place, formal_left, formal_place, home_of, image_place, in_instance, left_found, left_in, left_variable, named_left, named_place, own_block, own_block_denoted, own_result, reference_place, result_left, result_meant, result_or, result_place, stream_of, unless_connected, variable_left, variable_place, match_left, own_match, result_or_own}
 use Rattle.sim_meaning.specs.Levels.{has_levels}
 use Rattle.sim_values.specs.Standard.{row_of}
-use Rattle.sim_meaning.specs.Pending.{SetOf, ProcessOf, SimulationOf, AttributeOf, CallOf, Cell, CopyOf, Declared, Either, ElementOf, FitsOf, Given, ImageOf, Instances, Joined, KeptOf, MemberOf, NewOf, NoTerm, NotNoneOf, One, PlaceOf, QualifiedElementOf, QualifiedPlaceOf, QuaOf, RemoteCallOf, Result, StandardOf, Term, Terms, TransferOf, Two, Unbuilt, ValueAt}
+use Rattle.sim_meaning.specs.Pending.{SetOf, ProcessOf, SimulationOf, AttributeOf, CallOf, Cell, CopyOf, Declared, Either, ElementOf, FitsOf, Given, ImageOf, Instances, Joined, KeptOf, MemberOf, NewOf, NoTerm, NotNoneOf, One, PlaceOf, QualifiedElementOf, QualifiedPlaceOf, QuaOf, RemoteCallOf, Result, StandardOf, Term, Terms, TransferOf, Two, Unbuilt, ValueAt, VirtualOf}
 use Rattle.sim_meaning.specs.Texts.{ProcedureText, text}
+use Rattle.sim_meaning.specs.Virtuals.{procedure_text, text_of_procedure}
 use Rattle.sim_sound.specs.Held.{ArrayOf, Around, Holds, In, Refers, Sees, Simply, declared_holds, entry_holds, formal_holds, held_by, result_holds}
 use Rattle.sim_sound.specs.Expressions.{AreIntegers, ExprIs, KnownAt, ObjectHas, some_holds, standard_kind}
-use Rattle.sim_sound.specs.Statements.{LeftDeclared, LeftDot, LeftHeld, LeftIs, LeftNamed, LeftOf, NoText, OwnText, PlaceDeclared, PlaceIs, PlaceNamed, ReferenceAt, ReferenceLeft, ResultIs, TextLeft}
+use Rattle.sim_sound.specs.Statements.{LeftDeclared, LeftDot, LeftHeld, LeftIs, LeftNamed, LeftOf, NoText, OwnText, PlaceDeclared, PlaceIs, PlaceNamed, ReferenceAt, ReferenceLeft, ResultIs, TextLeft, LeftResultOr}
 use Rattle.sim_sound.specs.Typed.{ResultWritten, Typed}
 use Rattle.sim_sound.proofs.Attributes.{held_plain, holds_result, left_known, left_variable_is, no_left_variable}
 use Rattle.sim_sound.proofs.Closing.{attribute_lies, expr_fine, integers_fine, lies_at, target_of, value_no_stream}
@@ -268,8 +269,36 @@ module _ (s : Source) (ok : Typed s) (o : AllArrays) (m : Instances) (store : St
   left_named name es None None k at e a = absurd a
   left_named name es (Some c) None k at e a = absurd a
 
+  abbrev ProcedureOf : ℕ → Type 0
+  ProcedureOf block = (d : DeclNo) × (result : Option SimType) × (entry_of s.tables d ≡ Some (entry.Procedure result block))
+
+  procedure_target : (block : ℕ) (h : Holds) → ProcedureOf block → ResultIs s u block h → (j : ℕ) × (at_level m (level_of s block) i ≡ Some j) × CellTarget s m i j Result h
+  procedure_target block h p a = by_result p.0 p.1 p.2
+    where
+      by_result : (d : DeclNo) (result : Option SimType) → entry_of s.tables d ≡ Some (entry.Procedure result block) → (j : ℕ) × (at_level m (level_of s block) i ≡ Some j) × CellTarget s m i j Result h
+      by_result d None x = let no_result : result_holds s block ≡ None = holds_result s ok d None block x in let some_result = a.1 in absurd (cc)
+      by_result d (Some ty) x = let holds : result_holds s block ≡ Some (held_by s ty) = holds_result s ok d (Some ty) block x in let other = a.1 in result_target d ty block h x (cc) a.0
+
+  -- the match of a virtual is a procedure
+  match_procedure : (x : Option DeclNo) (block : ℕ) → text_of_procedure s x ≡ Some block → ProcedureOf block
+  match_procedure None block e = absurd (cc)
+  match_procedure (Some d) block e = by_entry (entry_of s.tables d) refl e
+    where
+      by_entry : (y : Option Entry) → entry_of s.tables d ≡ y → procedure_text y ≡ Some block → ProcedureOf block
+      by_entry (Some (entry.Procedure result q)) is f = let same : q ≡ block = cc in (d, result, is ∙ ap (λ z. Some (entry.Procedure result z)) same)
+      by_entry None is f = absurd (cc)
+      by_entry (Some _) is f = absurd (cc)
+
+  left_or : (name : Identifier) (es : Expressions) (c match : Option ℕ) (k : Kind) → connection_at s name.token.0 ≡ c → text_of_procedure s (own_match s (syntax.Named name es)) ≡ match → LeftResultOr s u c match (Simply k) (LeftNamed s u c (denoted s name.token.0) es (AreIntegers s (In u) es) (Simply k))
+      → LeftFine (left_found c (close_place s m i (syntax.Named name es)) (match_left s m i match (named_left s m i (line_at s name.token.0) (denoted s name.token.0) es))) k
+  left_or name es None None k at e a = left_named name es None (denoted s name.token.0) k at refl a
+  left_or name es None (Some block) k at e a =
+      let x = procedure_target block (Simply k) (match_procedure (own_match s (syntax.Named name es)) block e) a in
+      found_left (at_level m (level_of s block) i) x.0 (λ j. LeftCell j Result) k x.1 x.2
+  left_or name es (Some c) match k at e a = left_named name es (Some c) (denoted s name.token.0) k at refl a
+
   pub variable_fine : (e : Expression) (k : Kind) → LeftIs s u e (Simply k) → LeftFine (left_variable s m i e) k
-  variable_fine (syntax.Named name es) k a = left_named name es (connection_at s name.token.0) (denoted s name.token.0) k refl refl a
+  variable_fine (syntax.Named name es) k a = left_or name es (connection_at s name.token.0) (text_of_procedure s (own_match s (syntax.Named name es))) k refl refl a
   variable_fine (syntax.Dot token a name es) k l =
       let x = dot_place token a name es (denoted s name.token.0) (Simply k) refl l in
       subst (λ z. LeftFine (left_found (declared_attribute z) (close_place s m i (syntax.Dot token a name es)) LeftUnbuilt) k) (sym x.1) x.2
@@ -286,9 +315,6 @@ module _ (s : Source) (ok : Typed s) (o : AllArrays) (m : Instances) (store : St
   own_entry d None token block is own = absurd (cc)
   own_entry d (Some _) token block is own = absurd (cc)
 
-  abbrev ProcedureOf : ℕ → Type 0
-  ProcedureOf block = (d : DeclNo) × (result : Option SimType) × (entry_of s.tables d ≡ Some (entry.Procedure result block))
-
   own_denoted : (x : Option Denotation) (token block : ℕ) → own_block_denoted s token x ≡ Some block → ProcedureOf block
   own_denoted (Some (denotation.Declared d)) token block own = let x = own_entry d (entry_of s.tables d) token block refl own in (d, x.0, x.1)
   own_denoted (Some (denotation.Standard n)) token block own = absurd (cc)
@@ -304,18 +330,21 @@ module _ (s : Source) (ok : Typed s) (o : AllArrays) (m : Instances) (store : St
   own_of_result (syntax.Named name (Then e es)) block own = absurd (cc)
   own_of_result _ block own = absurd (cc)
 
+  meant_or : (x : Option DeclNo) (match own : Option ℕ) (block : ℕ) → text_of_procedure s x ≡ match → result_or_own match own ≡ Some block → (own ≡ Some block → ProcedureOf block) → ProcedureOf block
+  meant_or x None own block e f go = go f
+  meant_or x (Some q) own block e f go = match_procedure x block (e ∙ f)
+
   meant_procedure : (e : Expression) (block : ℕ) → result_meant s e ≡ Some block → ProcedureOf block
   unfolding result_meant
-  meant_procedure (syntax.Named name es) block e = own_of_result (syntax.Named name es) block (unless (connection_at s name.token.0) (own_result s (syntax.Named name es)) block e)
+  meant_procedure (syntax.Named name es) block e =
+      let match = own_match s (syntax.Named name es) in
+      let own = own_result s (syntax.Named name es) in
+      meant_or match (text_of_procedure s match) own block refl (unless (connection_at s name.token.0) (result_or_own (text_of_procedure s match) own) block e) (λ f. own_of_result (syntax.Named name es) block f)
   meant_procedure _ block e = absurd (cc)
 
   -- the result that is meant, which holds this
   meant_target : (e : Expression) (block : ℕ) (h : Holds) → result_meant s e ≡ Some block → ResultIs s u block h → (j : ℕ) × (at_level m (level_of s block) i ≡ Some j) × CellTarget s m i j Result h
-  meant_target e block h is a = let p = meant_procedure e block is in by_result p.0 p.1 p.2
-    where
-      by_result : (d : DeclNo) (result : Option SimType) → entry_of s.tables d ≡ Some (entry.Procedure result block) → (j : ℕ) × (at_level m (level_of s block) i ≡ Some j) × CellTarget s m i j Result h
-      by_result d None x = let no_result : result_holds s block ≡ None = holds_result s ok d None block x in let some_result = a.1 in absurd (cc)
-      by_result d (Some ty) x = let holds : result_holds s block ≡ Some (held_by s ty) = holds_result s ok d (Some ty) block x in let other = a.1 in result_target d ty block h x (cc) a.0
+  meant_target e block h is a = procedure_target block h (meant_procedure e block is) a
 
   text_fine : (e : Expression) (own : Option ℕ) → result_meant s e ≡ own → TextLeft s u e own → TermFine s m i t [] (result_or s m i own (close s m i e)) (simple kind.Text)
   text_fine e None is a = value e (Simply kind.Text) a
@@ -389,6 +418,7 @@ module _ (s : Source) (ok : Typed s) (o : AllArrays) (m : Instances) (store : St
   qualified_fine c (SetOf name ts) n a = absurd (held_no a.1 (Refers c) a.3)
   qualified_fine c (ProcessOf name line x) n a = absurd (held_no a.1 (Refers c) a.3)
   qualified_fine c (SimulationOf e name ts line) n a = absurd (held_no a.1 (Refers c) a.3)
+  qualified_fine c (VirtualOf x v k line) n a = absurd (held_no a.1 (Refers c) a.3)
   qualified_fine c (TransferOf y line x) n a = absurd (none_no (Refers c) a.0)
 
   place_held_at : (e : Expression) (h : Holds) → PlaceIs s u e h → TermFine s m i t [] (close_place s m i e) (Some (AddressOf h))

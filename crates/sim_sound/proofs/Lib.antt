@@ -54,6 +54,7 @@ pub mod Chains
 pub mod Standings
 pub mod Keeping
 pub mod Naming
+pub mod Virtuals
 pub mod Main
 pub mod Examples
 pub mod ClassExamples

@@ -8,7 +8,7 @@ use Rattle.sim_values.specs.declared.kind.Kind.TheVariants as kind
 use Rattle.sim_code.specs.Outcome.{Ended, Ending, Going, NoRule, Normal, Run, World, after, next}
 use Rattle.sim_meaning.specs.Meaning.{do_chain, do_item, do_op, do_work, opening, run, step, sub_block_entered}
 use Rattle.sim_meaning.specs.Sane.{NamesObjects, NamesOn, Sane, StaysSane}
-use Rattle.sim_meaning.specs.Pending.{ActivateOp, Activation, AgainOp, ArrayOp, AttributeOp, BackOp, BlockOp, BranchOp, CallOp, ChooseOp, Configuration, ConnectOp, CopyOp, DeclareOp, Do, DropOp, ElementOp, ElementsOp, EndBlock, EndLevel, EndObject, EndPrefixed, EndProcedure, EndProcessOp, EndProgram, EnterOp, Eval, Exec, Execs, FetchOp, FitsOp, GiveOp, IfOp, InnerOp, Instances, Item, JoinOp, KeepOp, LevelOp, MemberOp, NewOp, NotNoneOp, ObjectOp, OneOp, Op, PastOp, PrefixedOp, ProcessOp, QuaOp, QualifiedElementOp, RaiseOp, ReferOp, SelfOp, SetOp, SimulationOp, ShareOp, StandardOp, StepOp, StepTestOp, StoreOp, SwapOp, TestOp, TransferOp, TwoOp, Val, WhenOp, WhileElementOp}
+use Rattle.sim_meaning.specs.Pending.{ActivateOp, Activation, AgainOp, ArrayOp, AttributeOp, BackOp, BlockOp, BranchOp, CallOp, ChooseOp, Configuration, ConnectOp, CopyOp, DeclareOp, Do, DropOp, ElementOp, ElementsOp, EndBlock, EndLevel, EndObject, EndPrefixed, EndProcedure, EndProcessOp, EndProgram, EnterOp, Eval, Exec, Execs, FetchOp, FitsOp, GiveOp, IfOp, InnerOp, Instances, Item, JoinOp, KeepOp, LevelOp, MemberOp, NewOp, NotNoneOp, ObjectOp, OneOp, Op, PastOp, PrefixedOp, ProcessOp, QuaOp, QualifiedElementOp, RaiseOp, ReferOp, SelfOp, SetOp, SimulationOp, ShareOp, StandardOp, StepOp, StepTestOp, StoreOp, SwapOp, TestOp, TransferOp, TwoOp, Val, WhenOp, WhileElementOp, VirtualOp, CheckOp, CallValueOp}
 use Rattle.sim_sound.specs.Held.{Simply}
 use Rattle.sim_sound.specs.Typed.{Typed}
 use Rattle.sim_sound.proofs.Cells.{site_whole}
@@ -30,6 +30,7 @@ use Rattle.sim_sound.proofs.SetWork.{set_op}
 use Rattle.sim_sound.proofs.SimulationWork.{activate_op, simulation_op}
 use Rattle.sim_sound.proofs.Sound.{HandsFine, Kinds, Marks, OpFine, Takes, Value, see}
 use Rattle.sim_sound.proofs.Transfers.{transfer_op}
+use Rattle.sim_sound.proofs.Virtuals.{call_value_op, check_op, virtual_op}
 use Rattle.sim_sound.proofs.Statements.{branch_goes, choose_goes, elements_goes, exec_goes, execs_goes, raise_goes, step_goes, test_goes, while_goes}
 
 module _ (s : Source) (ok : Typed s) (l : Limits) (o : World) (g : Marks) (long : length g.sights ≡ length o.arrays) where
@@ -80,6 +81,9 @@ module _ (s : Source) (ok : Typed s) (l : Limits) (o : World) (g : Marks) (long 
     op_goes (TransferOp x line) todo todo' before behind a b h work = transfer_op s ok l o g long m i t rest top w vals todo todo' before behind b h work x line a
     op_goes (ProcessOp name line) todo todo' before behind a b h work = process_op s ok l o g long m i t rest top w vals todo todo' before behind b h work name line a
     op_goes (SimulationOp name line) todo todo' before behind a b h work = simulation_op s ok l o g long m i t rest top w vals todo todo' before behind b h work name line a
+    op_goes (VirtualOp v line) todo todo' before behind a b h work = virtual_op s ok l o g long m i t rest top w vals todo todo' before behind b h work v line a
+    op_goes (CheckOp n line) todo todo' before behind a b h work = check_op s ok l o g long m i t rest top w vals todo todo' before behind b h work n line a
+    op_goes (CallValueOp line) todo todo' before behind a b h work = call_value_op s ok l o g long m i t rest top w vals todo todo' before behind b h work line a
     -- values in hand, and assignments
     op_goes DropOp todo todo' before behind a b h work = drop_op s ok l o g long m i t rest top w vals todo todo' before behind b h work a
     op_goes AgainOp todo todo' before behind a b h work = again_op s ok l o g long m i t rest top w vals todo todo' before behind b h work a

@@ -28,7 +28,7 @@ use Rattle.sim_sound.specs.Expressions.{DoneAlone, standard_kind}
 use Rattle.sim_sound.proofs.Cells.{target_cell, val_up}
 use Rattle.sim_sound.proofs.Constants.{NoReference}
 use Rattle.sim_sound.proofs.Running.{StoreFine}
-use Rattle.sim_sound.proofs.Sound.{ObjectIn, AddressOf, Component, Copied, DeepFine, ElementFine, HandFine, HandsFine, ImageAddress, IsImage, Kinds, Lasting, LinkTo, Marks, Open, OperandIs, OperandsAre, PlainFine, ReferenceAddress, ValFine, Value, pushed, see}
+use Rattle.sim_sound.proofs.Sound.{ObjectIn, AddressOf, Component, Copied, DeepFine, ElementFine, HandFine, HandsFine, ImageAddress, IsImage, Kinds, Lasting, LinkTo, Marks, Open, OperandIs, OperandsAre, PlainFine, ReferenceAddress, ValFine, Value, pushed, see, MatchFor}
 use Rattle.sim_sound.proofs.Lifts.{Goes, Shape, a_char, a_text, an_int, any_popped, computed, had, ran, shape, took}
 use Rattle.sim_sound.proofs.Lists.{equal_numbers, there_get}
 use Rattle.sim_sound.proofs.Moves.{knows_near}
@@ -261,6 +261,7 @@ module _ {S : Type 0} (P : World → S → Type 0) (s : Source) (o : World) (g :
   operand_read store k (Lasting t) v is f = absurd is
   operand_read store k Component v is f = absurd is
   operand_read store k (ObjectIn u) v is f = absurd is
+  operand_read store k (MatchFor h) v is f = absurd is
 
   -- an operand is no copy of an array
   at_hand : (k : Kind) (x : Kinds) (d : ℕ) (v : Val) → OperandIs k x → DeepFine s (see g o) m j d x v → HandFine s (see g o) m j x v
@@ -273,6 +274,7 @@ module _ {S : Type 0} (P : World → S → Type 0) (s : Source) (o : World) (g :
   at_hand k (Lasting z) d v is f = absurd is
   at_hand k Component d v is f = absurd is
   at_hand k (ObjectIn u) d v is f = absurd is
+  at_hand k (MatchFor h) d v is f = absurd is
 
   -- a text operand that is put back: the place that it came from, which if it is an image is still the same text
   pub record Back (store : Store) (v : Val) (t : TextVal) : Type 0 where

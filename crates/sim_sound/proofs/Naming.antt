@@ -7,7 +7,7 @@ use Rattle.sim_meaning.specs.Sane.{AllName, IsObject, IsSimulation, Names, Names
 use Rattle.sim_sound.specs.Held.{ArrayOf, Refers, Simply}
 use Rattle.sim_sound.specs.Typed.{Typed}
 use Rattle.sim_sound.proofs.Running.{ChainFine, Fine, opens, runs}
-use Rattle.sim_sound.proofs.Sound.{ObjectIn, AddressOf, AllArrays, Component, Copied, DeepFine, HandsFine, ImageAddress, Kinds, Lasting, LinkTo, ObjectOf, ReferenceAddress, Simulates, Takes, Value}
+use Rattle.sim_sound.proofs.Sound.{ObjectIn, AddressOf, AllArrays, Component, Copied, DeepFine, HandsFine, ImageAddress, Kinds, Lasting, LinkTo, ObjectOf, ReferenceAddress, Simulates, Takes, Value, MatchFor}
 use Rattle.sim_sound.proofs.ProcessClasses.{simulation_is}
 
 module _ (s : Source) (ok : Typed s) (o : AllArrays) (m : Instances) where
@@ -29,6 +29,7 @@ module _ (s : Source) (ok : Typed s) (o : AllArrays) (m : Instances) where
   deep_names i d (Lasting h) j a = absurd a
   deep_names i d Component j a = object_is j a.0 a.1
   deep_names i d (ObjectIn c) j a = object_is j c a
+  deep_names i d (MatchFor h) j a = absurd a
 
   main_names : (i d : ℕ) (k : Kinds) (b : ℕ) → DeepFine s o m i d k (Of (MainOf b)) → IsSimulation s m b
   main_names i d (Value (Simply k)) b a = let x = a.1 in simulation_is_named b x.0 x.1
@@ -42,6 +43,7 @@ module _ (s : Source) (ok : Typed s) (o : AllArrays) (m : Instances) where
   main_names i d (Lasting h) b a = absurd a
   main_names i d Component b a = simulation_is_named b a.0 a.1
   main_names i d (ObjectIn c) b a = simulation_is_named b a.level a.block
+  main_names i d (MatchFor h) b a = absurd a
 
   value_names : (i d : ℕ) (k : Kinds) (v : Val) → DeepFine s o m i d k v → Names s m v
   value_names i d k (Of (Object j)) a = deep_names i d k j a

@@ -44,7 +44,7 @@ use Rattle.sim_sound.proofs.Prefixes.{level_is, level_then}
 use Rattle.sim_sound.proofs.ProcessClasses.{main_bare}
 use Rattle.sim_sound.proofs.References.{any_some_popped, held_reference_goes, object_popped, some_popped}
 use Rattle.sim_sound.proofs.Running.{Begun, Operates}
-use Rattle.sim_sound.proofs.Sound.{ShowsObject, ObjectIn, AddressOf, Addressed, CellTarget, Component, Copied, CopyFine, DeepFine, HandFine, HandsFine, Hidden, ImageAddress, IsAddress, IsCopy, Kinds, Lasting, Leads, LinkTo, MainIn, Marks, NotStandard, ObjectOf, OneKinds, OpFine, Open, PlainFine, ReferenceAddress, ReferenceFine, Sight, TermFine, ValFine, Value, array_stored, elements_of, given, held_kinds, see, value_stored}
+use Rattle.sim_sound.proofs.Sound.{ShowsObject, ObjectIn, AddressOf, Addressed, CellTarget, Component, Copied, CopyFine, DeepFine, HandFine, HandsFine, Hidden, ImageAddress, IsAddress, IsCopy, Kinds, Lasting, Leads, LinkTo, MainIn, Marks, NotStandard, ObjectOf, OneKinds, OpFine, Open, PlainFine, ReferenceAddress, ReferenceFine, Sight, TermFine, ValFine, Value, array_stored, elements_of, given, held_kinds, see, value_stored, MatchFor}
 
 one_longer : (g : List Sight) (o : List OneArray) (z : Sight) (x : OneArray) → length (g ++ z ∷ []) ≡ suc (length g)
 one_longer [] o z x = refl
@@ -118,6 +118,7 @@ module _ (s : Source) (ok : Typed s) (l : Limits) (o : World) (g : Marks) (long 
       leading (Lasting z) k d v is f = absurd is
       leading Component k d v is f = absurd is
       leading (ObjectIn z) k d v is f = absurd is
+      leading (MatchFor z) k d v is f = absurd is
 
   pub join_op : (line : ℕ) → OpFine s (see g o) m i t (JoinOp line) todo todo' before behind → Stepped (JoinOp line)
   join_op line a = joining_goes P s (see g o) m i l line a.0 vals o (λ z p vs. go p m i w (Of z ∷ vs) rest) (hand _ a.1) (λ z t' w' frames vs more. goes (Of (Text z) ∷ vs) (Value (Simply kind.Text) ∷ a.0) ((refl, tt), more) (works _ a.2 a.3))
@@ -147,6 +148,7 @@ module _ (s : Source) (ok : Typed s) (l : Limits) (o : World) (g : Marks) (long 
       by_copy (Lasting k) is vs hands t' w' x new y = absurd is
       by_copy Component is vs hands t' w' x new y = absurd is
       by_copy (ObjectIn k) is vs hands t' w' x new y = absurd is
+      by_copy (MatchFor k) is vs hands t' w' x new y = absurd is
       by_copy ImageAddress is vs hands t' w' x new y = absurd is
       by_copy (LinkTo k) is vs hands t' w' x new y = absurd is
 
@@ -267,6 +269,7 @@ module _ (s : Source) (ok : Typed s) (l : Limits) (o : World) (g : Marks) (long 
   swap_goes (Lasting z) v u k d e is f = absurd is
   swap_goes Component v u k d e is f = absurd is
   swap_goes (ObjectIn z) v u k d e is f = absurd is
+  swap_goes (MatchFor z) v u k d e is f = absurd is
 
   pub swap_op : OpFine s (see g o) m i t SwapOp todo todo' before behind → Stepped SwapOp
   swap_op a =
@@ -275,7 +278,7 @@ module _ (s : Source) (ok : Typed s) (l : Limits) (o : World) (g : Marks) (long 
       goes (u ∷ v ∷ us) (Value (Simply a.1) ∷ a.0 ∷ a.2) (f, (swap_goes a.0 v u a.1 (length vs) (length us) a.3 e, most)) (works _ a.5 a.6)))
 
   -- no main program has an attribute of a class that is not one of the standard classes
-  bare : (c u : ℕ) → has_level s.tables c u ≡ true → NotStandard s u → (z : ℕ) → MainIn s m z c → ⊥
+  pub bare : (c u : ℕ) → has_level s.tables c u ≡ true → NotStandard s u → (z : ℕ) → MainIn s m z c → ⊥
   bare c u e own z x = main_bare s ok x.level u (x.block).simulates (level_then s (level_is s (x.level + 4) c x.levels) (level_is s c u e)) own
 
   pub attribute_op : (u : ℕ) (key : Key) (class : Option ℕ) (line : ℕ) → OpFine s (see g o) m i t (AttributeOp u key class line) todo todo' before behind → Stepped (AttributeOp u key class line)

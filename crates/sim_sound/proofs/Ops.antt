@@ -32,7 +32,7 @@ use Rattle.sim_sound.proofs.Prefixes.{LevelOf, same_is}
 use Rattle.sim_sound.proofs.References.{held_reference_goes}
 use Rattle.sim_sound.proofs.Running.{Begun, ChainFine, Operates, StoreFine, WorkFine}
 use Rattle.sim_sound.proofs.Simulated.{SimulationsFine}
-use Rattle.sim_sound.proofs.Sound.{ObjectIn, AddressOf, AllArrays, CellTarget, Component, Copied, ElementFine, HandFine, HandsFine, ImageAddress, IsPlain, KeyAmong, Kinds, Lasting, Leads, LinkTo, Made, Marks, OperandIs, PlainFine, Present, ReferenceAddress, ValFine, Value, Waits, in_instance as at_cell, key_of, keys_in, own_text, see}
+use Rattle.sim_sound.proofs.Sound.{ObjectIn, AddressOf, AllArrays, CellTarget, Component, Copied, ElementFine, HandFine, HandsFine, ImageAddress, IsPlain, KeyAmong, Kinds, Lasting, Leads, LinkTo, Made, Marks, OperandIs, PlainFine, Present, ReferenceAddress, ValFine, Value, Waits, in_instance as at_cell, key_of, keys_in, own_text, see, MatchFor}
 
 among_cases : (e : DeclNo) (xs : List DeclNo) → Among e xs → (d : DeclNo) (ds : List DeclNo) → xs ≡ d ∷ ds → (e ≡ d) ⊎ Among e ds
 among_cases e xs (first {ds = es}) d ds f = inl (cc)
@@ -220,6 +220,7 @@ module _ (s : Source) (ok : Typed s) (l : Limits) (o : World) (g : Marks) (long 
   fetched_goes q (Lasting z) v w vals todo ks is f b h work = absurd is
   fetched_goes q Component v w vals todo ks is f b h work = absurd is
   fetched_goes q (ObjectIn z) v w vals todo ks is f b h work = absurd is
+  fetched_goes q (MatchFor z) v w vals todo ks is f b h work = absurd is
   fetched_goes q (ReferenceAddress z) v w vals todo ks is f b h work = absurd is
 
 -- ---- a text that is put back to where it came from
@@ -264,6 +265,7 @@ module _ (s : Source) (ok : Typed s) (l : Limits) (o : World) (g : Marks) (long 
   put_text (Address p) x (Lasting u) is a image = absurd is
   put_text (Address p) x Component is a image = absurd is
   put_text (Address p) x (ObjectIn u) is a image = absurd is
+  put_text (Address p) x (MatchFor u) is a image = absurd is
 
   pub back_goes : (first : Option Val) (moved : Option TextVal) → AllBack (IsFine s) s o g m i store first moved → Goes (IsFine s) (putting_back put_back first moved Then m (λ p m. go p m i w vals rest))
   unfolding putting_back

@@ -38,7 +38,7 @@ use Rattle.sim_meaning.specs.Closing.{class_parameters}
 use Rattle.sim_meaning.specs.Entries.{first_cells, formals_of, is_array_by_value, numbers_of}
 use Rattle.sim_meaning.specs.Levels.{has_levels, is_class}
 use Rattle.sim_meaning.specs.Objects.{attributes_from}
-use Rattle.sim_meaning.specs.Pending.{ActivateOp, Address, AgainOp, ArrayOp, ArrayValue, AttributeOf, AttributeOp, BackOp, BlockOp, BranchOp, CallOf, CallOp, Cell, ChooseOp, ConnectOp, CopyOf, CopyOp, Declared, DeclareOp, DropOp, Either, ElementOf, ElementOp, ElementsOp, EndProcessOp, EnterOp, Eval, Exec, Execs, FetchOp, FitsOf, FitsOp, Further, Given, GiveOp, Held, IfOp, ImageOf, InnerOp, Instances, JoinOp, Joined, KeepOp, KeptOf, Key, Level, LevelOp, Link, MemberOf, MemberOp, NewOf, NewOp, NoTerm, NotNoneOf, NotNoneOp, ObjectOp, Of, One, OneOp, Op, PastOp, PlaceOf, PrefixedOp, ProcessOf, ProcessOp, QuaOf, QuaOp, QualifiedElementOf, QualifiedElementOp, QualifiedPlaceOf, RaiseOp, ReferOp, RemoteCallOf, SelfOp, SetOf, SetOp, ShareOp, SimulationOf, SimulationOp, StandardOf, StandardOp, StepOp, StepTestOp, StoreOp, SwapOp, Target, Term, Terms, TestOp, ToAddress, ToCell, ToPlace, ToReference, ToReferenceAt, ToText, ToTextAt, ToTextOf, TransferOf, TransferOp, Two, TwoOp, Unbuilt, Val, ValueAt, WhenOp, WhileElementOp, held}
+use Rattle.sim_meaning.specs.Pending.{ActivateOp, Address, AgainOp, ArrayOp, ArrayValue, AttributeOf, AttributeOp, BackOp, BlockOp, BranchOp, CallOf, CallOp, Cell, ChooseOp, ConnectOp, CopyOf, CopyOp, Declared, DeclareOp, DropOp, Either, ElementOf, ElementOp, ElementsOp, EndProcessOp, EnterOp, Eval, Exec, Execs, FetchOp, FitsOf, FitsOp, Further, Given, GiveOp, Held, IfOp, ImageOf, InnerOp, Instances, JoinOp, Joined, KeepOp, KeptOf, Key, Level, LevelOp, Link, MemberOf, MemberOp, NewOf, NewOp, NoTerm, NotNoneOf, NotNoneOp, ObjectOp, Of, One, OneOp, Op, PastOp, PlaceOf, PrefixedOp, ProcessOf, ProcessOp, QuaOf, QuaOp, QualifiedElementOf, QualifiedElementOp, QualifiedPlaceOf, RaiseOp, ReferOp, RemoteCallOf, SelfOp, SetOf, SetOp, ShareOp, SimulationOf, SimulationOp, StandardOf, StandardOp, StepOp, StepTestOp, StoreOp, SwapOp, Target, Term, Terms, TestOp, ToAddress, ToCell, ToPlace, ToReference, ToReferenceAt, ToText, ToTextAt, ToTextOf, TransferOf, TransferOp, Two, TwoOp, Unbuilt, Val, ValueAt, WhenOp, WhileElementOp, held, VirtualOf, VirtualOp, CheckOp, CallValueOp, ProcedureValue}
 use Rattle.sim_meaning.specs.Texts.{BlockText, ClassText, PrefixedText, ProcedureText, StandardText, Text, is_class_free, text}
 use Rattle.sim_sound.specs.Expressions.{DoneAlone, ExprIs, TwoKinds, some_holds, standard_kind}
 use Rattle.sim_sound.specs.Held.{Among, ArrayOf, Fits, FitsIn, Holds, In, InBound, IsOfKind, Refers, Simply, formal_holds, given_by, key_holds, reference_to, result_holds}
@@ -77,7 +77,7 @@ elements_of (Open h) = h
 elements_of (Hidden h home depth) = h
 
 -- a value; where a variable or an element lies; where a reference lies, with its qualification; where an image lies; an instance of a text; a
--- copy for a parameter by value; an array that is kept; an object or a main program, and one of a class
+-- copy for a parameter by value; an array that is kept; an object or a main program, and one of a class; what matches a virtual that gives this
 pub data Kinds : Type 0 where
   Value : Holds → Kinds
   AddressOf : Holds → Kinds
@@ -88,6 +88,7 @@ pub data Kinds : Type 0 where
   Lasting : Holds → Kinds
   Component : Kinds
   ObjectIn : (class : ℕ) → Kinds
+  MatchFor : Option Holds → Kinds
 
 -- What an activation waits for: a value or none, which is put in its hand; that the object ends, or lets go, that it generated, whose
 -- reference it has in hand already; or that the resumed object above it gives control to the main component that it keeps, and then what
@@ -304,6 +305,23 @@ IsImage zero = Unit {0}
 IsImage (suc zero) = Unit {0}
 IsImage (suc (suc n)) = ⊥
 
+-- a procedure that is declared in a text
+pub record ProcedureIn (s : Source) (k around : ℕ) : Type 0 where
+  pub stands_in : encloser s.tables k ≡ Some around
+  pub result : Option TypeName
+  pub heading : Heading
+  pub body : Statement
+  pub is : text s k ≡ Some (ProcedureText result heading body)
+
+-- a match of a virtual, with the instance in which it is declared: a procedure without parameters, which gives this
+pub record MatchHeld (s : Source) (m : Instances) (j k e : ℕ) (h : Option Holds) : Type 0 where
+  pub around : ℕ
+  pub near : Knows m j e
+  pub whole : Whole s m e around
+  pub procedure : ProcedureIn s k around
+  pub alone : formals_of s k ≡ []
+  pub fits : FitsIn s (result_holds s k) h
+
 abbrev pub HandFine : Source → AllArrays → Instances → ℕ → Kinds → Val → Type 0
 HandFine s o m j (Value h) v = ValFine s o m j h v
 HandFine s o m j (AddressOf h) (Address (ElementPlace a n None)) = ElementFine o m j h a n
@@ -317,6 +335,7 @@ HandFine s o m j Component (Of (Object i)) = (c : ℕ) × ObjectOf s m i c
 HandFine s o m j Component (Of (MainOf b)) = (k : ℕ) × Simulates s m b k
 HandFine s o m j (ObjectIn c) (Of (Object i)) = ObjectOf s m i c
 HandFine s o m j (ObjectIn c) (Of (MainOf b)) = MainIn s m b c
+HandFine s o m j (MatchFor h) (ProcedureValue k e) = MatchHeld s m j k e h
 HandFine s o m j _ _ = ⊥
 
 -- with so many values below
@@ -331,6 +350,7 @@ DeepFine s o m j d (LinkTo u) v = HandFine s o m j (LinkTo u) v
 DeepFine s o m j d (Lasting h) v = HandFine s o m j (Lasting h) v
 DeepFine s o m j d Component v = HandFine s o m j Component v
 DeepFine s o m j d (ObjectIn c) v = HandFine s o m j (ObjectIn c) v
+DeepFine s o m j d (MatchFor h) v = HandFine s o m j (MatchFor h) v
 
 abbrev pub HandsFine : Source → AllArrays → Instances → ℕ → List Kinds → List Val → Type 0
 HandsFine s o m j [] [] = Unit {0}
@@ -389,14 +409,6 @@ class_kinds s (f ∷ fs) = kept_kinds f.mode f.kind (in_hand (is_array_by_value 
 -- a call gives what its procedure's result fits
 abbrev pub GivesResult : Source → (procedure : ℕ) → Option Kinds → Type 0
 GivesResult s k g = (h : Option Holds) × FitsIn s (result_holds s k) h × (held_kinds h ≡ g)
-
--- a procedure that is declared in a text
-pub record ProcedureIn (s : Source) (k around : ℕ) : Type 0 where
-  pub stands_in : encloser s.tables k ≡ Some around
-  pub result : Option TypeName
-  pub heading : Heading
-  pub body : Statement
-  pub is : text s k ≡ Some (ProcedureText result heading body)
 
 -- a class of which objects are made
 pub record ClassIn (s : Source) (k around : ℕ) : Type 0 where
@@ -503,6 +515,15 @@ pub record BlockIn (s : Source) (m : Instances) (j e k : ℕ) : Type 0 where
   pub whole : Whole s m e k
   pub simulates : is_simulation_block s.tables k ≡ true
 
+-- a virtual of a class, which gives this
+pub record VirtualIn (s : Source) (v c : ℕ) (h : Option Holds) : Type 0 where
+  pub result : Option SimType
+  pub own : Option DeclNo
+  pub declares : entry_of s.tables (record { 0 = v }) ≡ Some (entry.Virtual result own)
+  pub level : has_level s.tables c (block_of s (record { 0 = v })) ≡ true
+  pub not_standard : NotStandard s (block_of s (record { 0 = v }))
+  pub fits : FitsIn s (given_by s result) h
+
 -- the object of a procedure of SIMSET, and its actual parameter
 abbrev pub set_class : (s : Source) (name : Standard) → SetIs s name → ℕ
 set_class s name x = (x.there).linkage + (x.there).place
@@ -542,6 +563,7 @@ abbrev mutual
   TermFine s m j t todo (ProcessOf name line a) g = (x : ProcessIs s name) × (h : Option Holds) × FitsIn s (given_by s x.result) h × (held_kinds h ≡ g) × TermFine s m j t todo a (Some (ObjectIn ((x.there).linkage + 3)))
   TermFine s m j t todo (SimulationOf b name ts line) g =
       (x : SimulationIs s name) × (h : Option Holds) × FitsIn s (given_by s x.result) h × (held_kinds h ≡ g) × BlockIn s m j b (block_of s x.declaration) × TermsFine s m j t todo ts (formal_kinds s (attribute_formals x.parameter))
+  TermFine s m j t todo (VirtualOf a v n line) g = (c : ℕ) × (h : Option Holds) × VirtualIn s v c h × (held_kinds h ≡ g) × TermFine s m j t todo a (Some (Value (Refers c)))
   TermFine s m j t todo Unbuilt g = ⊥
 
   pub IntegersFine : Source → Instances → (j t : ℕ) → List DeclNo → Terms → Type 0
@@ -741,6 +763,10 @@ OpFine s o m j t (ProcessOp name line) todo todo' before behind =
     (x : ProcessIs s name) × (h : Option Holds) × (left : List Kinds) × FitsIn s (given_by s x.result) h × (before ≡ ObjectIn ((x.there).linkage + 3) ∷ left) × (behind ≡ given (held_kinds h) left) × (todo' ≡ todo)
 OpFine s o m j t (SimulationOp name line) todo todo' before behind =
     (x : SimulationIs s name) × (h : Option Holds) × (left : List Kinds) × FitsIn s (given_by s x.result) h × (is_simulation_block s.tables (block_of s x.declaration) ≡ true) × (before ≡ onto (formal_kinds s (attribute_formals x.parameter)) (LinkTo (block_of s x.declaration) ∷ left)) × (behind ≡ given (held_kinds h) left) × (todo' ≡ todo)
+OpFine s o m j t (VirtualOp v line) todo todo' before behind =
+    (c : ℕ) × (h : Option Holds) × (left : List Kinds) × VirtualIn s v c h × (before ≡ Value (Refers c) ∷ left) × (behind ≡ MatchFor h ∷ left) × (todo' ≡ todo)
+OpFine s o m j t (CheckOp n line) todo todo' before behind = (h : Option Holds) × (left : List Kinds) × (before ≡ MatchFor h ∷ left) × (behind ≡ before) × (todo' ≡ todo)
+OpFine s o m j t (CallValueOp line) todo todo' before behind = (h : Option Holds) × (left : List Kinds) × (before ≡ MatchFor h ∷ left) × (behind ≡ given (held_kinds h) left) × (todo' ≡ todo)
 OpFine s o m j t KeepOp todo todo' before behind = (h : Holds) × (left : List Kinds) × (before ≡ Value (ArrayOf h) ∷ left) × (behind ≡ Lasting h ∷ left) × (todo' ≡ todo)
 -- values in hand, and assignments
 OpFine s o m j t DropOp todo todo' before behind = (k : Kinds) × (before ≡ k ∷ behind) × (todo' ≡ todo)

@@ -31,11 +31,12 @@ use Rattle.sim_scope.specs.Source.{Source, block_around, denoted, found_at, leve
 use Rattle.sim_code.specs.Instances.{at_level, live}
 use Rattle.sim_code.specs.Transfers.{Transfer}
 use Rattle.sim_meaning.specs.Attributes.{own_attribute, connection_at, transfer_at}
-use Rattle.sim_meaning.specs.Closing.{Left, LeftAddress, LeftCell, LeftReference, LeftText, LeftUnbuilt, class_parameters, close, close_parameters, close_place, declared_left, formal_left, home_of, is_text, left_found, left_in, left_variable, named_left, reference_place, stream_of}
+use Rattle.sim_meaning.specs.Closing.{Left, LeftAddress, LeftCell, LeftReference, LeftText, LeftUnbuilt, class_parameters, close, close_parameters, close_place, declared_left, formal_left, home_of, is_text, left_found, left_in, left_variable, match_left, named_left, own_match, reference_place, stream_of}
 use Rattle.sim_meaning.specs.Levels.{has_levels, levels_inside, text_at}
 use Rattle.sim_meaning.specs.Pending.{ActivateOp, Activation, AgainOp, BackOp, BlockOp, BranchOp, ChooseOp, Configuration, ConnectOp, Do, DropOp, ElementsOp, EnterOp, Eval, Exec, Execs, InnerOp, Instances, Item, Key, Op, PrefixedOp, RaiseOp, StepOp, StepTestOp, StoreOp, Target, Term, TestOp, ToAddress, ToCell, ToPlace, ToReference, ToReferenceAt, ToText, ToTextAt, ToTextOf, TwoOp, Val, WhenOp, WhileElementOp}
 use Rattle.sim_meaning.specs.Statements.{activated, is_again, operand_work, simulation_home, timing, assigned, assigning, begin_of, compound, controlled, controlled_left, dropping, elements, entered_at, exec, execs, finding, first_branch, inner_begun, leaves, lefts, levels_of_instance, looping, prefix_begun, raised, reading, step_tested, while_element}
 use Rattle.sim_meaning.specs.Texts.{text}
+use Rattle.sim_meaning.specs.Virtuals.{text_of_procedure}
 use Rattle.sim_sound.specs.Held.{Holds, In, Refers, Simply, reference_to}
 use Rattle.sim_sound.specs.Expressions.{ActualsFit, AreIntegers, AreOf, DotGives, ExprIs, IdentifierGives}
 use Rattle.sim_sound.specs.Statements.{CallIs, CompoundIs, ControlIs, ElementsAre, InnerIs, OrTransferIs, PrefixedIs, SimulationIs, StatementIs, StatementsAre, TimingIs, TransferIs, is_given}
@@ -85,6 +86,10 @@ declared_cell s m i line d _ = tt
 named_cell : (s : Source) (m : Instances) (i line : ℕ) (x : Option Denotation) → IsCell (named_left s m i line x NoMore)
 named_cell s m i line (Some (denotation.Declared d)) = declared_cell s m i line d (entry_of s.tables d)
 named_cell s m i line _ = tt
+
+match_cell : (s : Source) (m : Instances) (i : ℕ) (match : Option ℕ) (other : Left) → IsCell other → IsCell (match_left s m i match other)
+match_cell s m i None other a = a
+match_cell s m i (Some block) other a = in_cell (at_level m (level_of s block) i) _
 
 found_cell : (c : Option ℕ) (place : Term) (other : Left) → IsCell other → IsCell (left_found c place other)
 found_cell None place other a = a
@@ -206,7 +211,10 @@ module _ (s : Source) (ok : Typed s) (l : Limits) (o : World) (marks : Marks) (l
       goes (Do (ElementsOp (ToReferenceAt (reference_place s m i (syntax.Named x NoMore)) line) es a) ∷ w) (loops (ToReferenceAt (reference_place s m i (syntax.Named x NoMore)) line) k es a (v.0, r.0, r.1) y z)
 
   single_cell : (x : Identifier) → IsCell (left_variable s m i (syntax.Named x NoMore))
-  single_cell x = found_cell (connection_at s x.token.0) (close_place s m i (syntax.Named x NoMore)) (named_left s m i (line_at s x.token.0) (denoted s x.token.0) NoMore) (named_cell s m i (line_at s x.token.0) (denoted s x.token.0))
+  single_cell x =
+      let match = text_of_procedure s (own_match s (syntax.Named x NoMore)) in
+      let named = named_left s m i (line_at s x.token.0) (denoted s x.token.0) NoMore in
+      found_cell (connection_at s x.token.0) (close_place s m i (syntax.Named x NoMore)) (match_left s m i match named) (match_cell s m i match named (named_cell s m i (line_at s x.token.0) (denoted s x.token.0)))
 
   -- ---- `inner`
 

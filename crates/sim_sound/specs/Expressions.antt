@@ -149,8 +149,13 @@ BehindGives None name Object Operands h = AttributeGives name Object Operands h
 abbrev pub SetGives : Source → (Known : Type 0) → Standard → (parameter result : Option SimType) → (Actuals : List Formal → Type 0) → Option Holds → Type 0
 SetGives s Known name parameter result Actuals h = (is_attribute_name name ≡ true) × FitsIn s (given_by s result) h × Known × Actuals (attribute_formals parameter)
 
+-- A call of a virtual gives what its declaration says. None of its actual parameters is evaluated, as matches have no formal ones.
+abbrev pub VirtualGives : Source → (Known : Type 0) → (result : Option SimType) → Option Holds → Type 0
+VirtualGives s Known result h = FitsIn s (given_by s result) h × Known
+
 abbrev pub DeclaredGives : Source → (Known : Type 0) → DeclNo → Expressions → (Indices : Type 0) → (Actuals : List Formal → Type 0) → Option Entry → Option Holds → Type 0
 DeclaredGives s Known d es Indices Actuals (Some (entry.Procedure result k)) h = CallGives s Known result k Actuals h
+DeclaredGives s Known d es Indices Actuals (Some (entry.Virtual result own)) h = VirtualGives s Known result h
 DeclaredGives s Known d es Indices Actuals (Some (entry.Attribute name parameter result)) h = SetGives s Known name parameter result Actuals h
 DeclaredGives s Known d es Indices Actuals (Some (entry.Constant t)) (Some h) = ConstantNames s Known d es h
 DeclaredGives s Known d es Indices Actuals (Some e) (Some h) = HeldNames s Known es Indices (entry_holds s false (Some e)) h

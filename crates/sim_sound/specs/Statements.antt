@@ -9,7 +9,7 @@ use Rattle.sim_scope.specs.Access.{encloser}
 use Rattle.sim_scope.specs.Assignments.{LeftSide, last_value, left_sides}
 use Rattle.sim_scope.specs.Levels.{base, is_simulation_block}
 use Rattle.sim_scope.specs.Scopes.{entry_of}
-use Rattle.sim_scope.specs.Source.{Source, block_around, denoted, found_at, type_at}
+use Rattle.sim_scope.specs.Source.{Source, block_around, denoted, found_at}
 use Rattle.sim_tree.specs.declared.expr.Identifier.{Identifier}
 use Rattle.sim_tree.specs.declared.stmt.Assignment.{Assignment}
 use Rattle.sim_tree.specs.declared.stmt.Assignment.TheVariants as assignment
@@ -19,10 +19,11 @@ use Rattle.sim_values.specs.declared.kind.Kind.{Kind}
 use Rattle.sim_values.specs.declared.kind.Kind.TheVariants as kind
 use Rattle.sim_code.specs.Transfers.{Calling, Detaching, Resuming, Transfer}
 use Rattle.sim_meaning.specs.Attributes.{connection_at, first_in, own_attribute, transfer_at}
-use Rattle.sim_meaning.specs.Closing.{class_parameters, is_text, result_meant, stream_of, typed_token}
+use Rattle.sim_meaning.specs.Closing.{class_parameters, is_text, left_type, own_match, result_meant, stream_of}
 use Rattle.sim_meaning.specs.Levels.{class_at, is_class, qualification}
 use Rattle.sim_meaning.specs.Statements.{begin_of, leaves, simulation_around}
 use Rattle.sim_meaning.specs.Texts.{BlockText, ConnectionText, PrefixedText, text}
+use Rattle.sim_meaning.specs.Virtuals.{text_of_procedure}
 use Rattle.sim_sound.specs.Held.{Around, ArrayOf, Holds, In, Refers, Seen, Simply, entry_holds, held_by, reference_to, result_holds}
 use Rattle.sim_sound.specs.Expressions.{ActualsFit, AreIntegers, AreOf, DotGives, ExprIs, IdentifierGives, KnownAt, ObjectHas, ThisFound}
 
@@ -58,14 +59,20 @@ abbrev pub LeftDot : Source → Option Denotation → (Object : ℕ → Type 0) 
 LeftDot s (Some (denotation.Declared d)) Object es Indices h = LeftDeclared s (ObjectHas s Object d) NoText es Indices (entry_of s.tables d) h
 LeftDot s _ Object es Indices h = ⊥
 
-abbrev pub LeftIs : Source → ℕ → Expression → Holds → Type 0
-LeftIs s t (syntax.Named name es) h = LeftNamed s t (connection_at s name.token.0) (denoted s name.token.0) es (AreIntegers s (In t) es) h
-LeftIs s t (syntax.Dot token a name es) h = LeftDot s (denoted s name.token.0) (λ c. ExprIs s (In t) a (Refers c)) es (AreIntegers s (In t) es) h
-LeftIs s t _ h = ⊥
-
 -- the result of a procedure from its inside
 abbrev pub ResultIs : Source → ℕ → (block : ℕ) → Holds → Type 0
 ResultIs s t block h = Around s.tables t block × (result_holds s block ≡ Some h)
+
+-- the result of the match of a virtual, which is not seen through a connection; or else what is named
+abbrev pub LeftResultOr : Source → ℕ → (connection match : Option ℕ) → Holds → (Other : Type 0) → Type 0
+LeftResultOr s t None (Some block) h Other = ResultIs s t block h
+LeftResultOr s t _ _ h Other = Other
+
+abbrev pub LeftIs : Source → ℕ → Expression → Holds → Type 0
+LeftIs s t (syntax.Named name es) h =
+    LeftResultOr s t (connection_at s name.token.0) (text_of_procedure s (own_match s (syntax.Named name es))) h (LeftNamed s t (connection_at s name.token.0) (denoted s name.token.0) es (AreIntegers s (In t) es) h)
+LeftIs s t (syntax.Dot token a name es) h = LeftDot s (denoted s name.token.0) (λ c. ExprIs s (In t) a (Refers c)) es (AreIntegers s (In t) es) h
+LeftIs s t _ h = ⊥
 
 -- a text that is assigned to: the result of a procedure from its inside, or any text value
 abbrev pub TextLeft : Source → ℕ → Expression → (own : Option ℕ) → Type 0
@@ -95,7 +102,7 @@ ReferenceAt s t e None c = PlaceIs s t e (Refers c)
 -- A reference that is assigned to: it has a qualification, and each value that is assigned is held against it.
 pub record ReferenceLeft (s : Source) (t : ℕ) (e : Expression) : Type 0 where
   pub class : ℕ
-  pub qualified : qualification s (type_at s (typed_token e)) ≡ Some class
+  pub qualified : qualification s (left_type s e) ≡ Some class
   pub at : ReferenceAt s t e (result_meant s e) class
 
 abbrev pub LeftOf : (text : Bool) → Assignment → Source → ℕ → Expression → Kind → Type 0

@@ -34,7 +34,8 @@ use Rattle.sim_meaning.specs.Closing.{class_parameters}
 use Rattle.sim_meaning.specs.Entries.{formals_of, is_held, numbers_of}
 use Rattle.sim_meaning.specs.Levels.{has_levels, is_class}
 use Rattle.sim_meaning.specs.Texts.{BlockText, ClassText, ConnectionText, PrefixedText, ProcedureText, StandardText, Text, constant_of, declared_at, is_class_free, kind_named, kind_of_type, text}
-use Rattle.sim_sound.specs.Held.{Among, ArrayOf, Holds, InBound, IsFormal, IsOfKind, Place, Refers, Simply, entry_holds, formal_holds, held_by, result_holds}
+use Rattle.sim_meaning.specs.Virtuals.{match_in_text}
+use Rattle.sim_sound.specs.Held.{Among, ArrayOf, FitsIn, Holds, InBound, IsFormal, IsOfKind, Place, Refers, Simply, entry_holds, formal_holds, given_by, held_by, result_holds}
 use Rattle.sim_sound.specs.Expressions.{ExprIs}
 use Rattle.sim_sound.specs.Statements.{StatementIs, StatementsAre}
 
@@ -210,6 +211,20 @@ pub record ProcedureThere (s : Source) (d : DeclNo) (k : ℕ) : Type 0 where
   pub around : encloser s.tables k ≡ Some (block_of s d)
   pub owned : owner_of_level s.tables (Some k) ≡ Some d
 
+-- What matches a virtual in the class of a text is a procedure without parameters that stands in a level of the text, and gives what the virtual gives, or
+-- a reference to a subclass.
+pub record MatchThere (s : Source) (result : Option SimType) (k match : ℕ) : Type 0 where
+  pub given : Option TypeName
+  pub heading : Heading
+  pub body : Statement
+  pub is : text s match ≡ Some (ProcedureText given heading body)
+  pub declaration : DeclNo
+  pub own : Option SimType
+  pub declares : entry_of s.tables declaration ≡ Some (entry.Procedure own match)
+  pub level : has_level s.tables k (block_of s declaration) ≡ true
+  pub alone : formals_of s match ≡ []
+  pub gives : FitsIn s (given_by s own) (given_by s result)
+
 -- and so does that of a class
 pub record ClassThere (s : Source) (d : DeclNo) (k : ℕ) : Type 0 where
   pub is : is_class (text s k) ≡ true
@@ -310,6 +325,8 @@ pub record Typed (s : Source) : Type 0 where
   -- each declaration that has a cell is listed in its block
   pub listed : (d : DeclNo) (row : Declaration) (h : Holds) → slice_get s.tables.declarations d.0 ≡ Some row → entry_holds s true (Some row.entry) ≡ Some h → Among d (numbers_of s row.block)
   pub procedures : (d : DeclNo) (result : Option SimType) (k : ℕ) → entry_of s.tables d ≡ Some (entry.Procedure result k) → ProcedureThere s d k
+  pub virtuals : (v : DeclNo) (result : Option SimType) (own : Option DeclNo) → entry_of s.tables v ≡ Some (entry.Virtual result own) → is_class (text s (block_of s v)) ≡ true
+  pub matches : (v : DeclNo) (result : Option SimType) (own : Option DeclNo) (k match : ℕ) → entry_of s.tables v ≡ Some (entry.Virtual result own) → match_in_text s v.0 (Some k) ≡ Some (Some match) → MatchThere s result k match
   pub classes : (d : DeclNo) (k : ℕ) → entry_of s.tables d ≡ Some (entry.Class k) → ClassThere s d k
   pub set_classes : (k : ℕ) (which : StandardClass) → text s k ≡ Some (StandardText which) → SetClassThere s k which
   pub set_procedures : (d : DeclNo) (name : Standard) (parameter result : Option SimType) → entry_of s.tables d ≡ Some (entry.Attribute name parameter result) → is_attribute_name name ≡ true → SetProcedureThere s d name parameter result

@@ -1,7 +1,6 @@
 -- The search for forms that are not built, construct by construct.
-use Rattle.std.proofs.Common.{◌≡◌, ◌<◌, ℕ, suc, arith, Bool, true, false, ◌||◌, List, [], ◌∷◌, Option, Some, None, refl, sym, ap, ◌∙◌, map, length}
+use Rattle.std.proofs.Common.{◌≡◌, ◌<◌, Bool, true, false, ◌||◌, List, [], ◌∷◌, Option, Some, None, refl, sym, ap, ◌∙◌, map, length}
 use Rattle.std.specs.List.{list_any}
-use Rattle.std.specs.Prelude.{◌==◌, not}
 use Rattle.std.specs.declared.alloc.Global.{Global}
 use Rattle.std.specs.declared.boxed.Box.{Box}
 use Rattle.std.specs.declared.vec.Vec.{Vec}
@@ -30,13 +29,13 @@ use Rattle.sim_tree.specs.declared.stmt.Timing.{Timing}
 use Rattle.sim_tree.specs.declared.stmt.TypeName.{TypeName}
 use Rattle.sim_tree.specs.declared.stmt.Variable.{Variable}
 use Rattle.sim_tree.specs.declared.stmt.When.{When}
-use Rattle.sim_tree.specs.SyntaxOfProgram.{heading_syntax, interface_syntax, mode_syntax, program_syntax, specification_syntax, specifier_syntax, virtual_syntax}
+use Rattle.sim_tree.specs.SyntaxOfProgram.{heading_syntax, mode_syntax, program_syntax, specification_syntax, specifier_syntax}
 use Rattle.sim_scope.specs.declared.types.Position.{Position}
 use Rattle.sim_scope.specs.declared.types.Position.TheVariants.{ClassBody, Inside}
 use Rattle.sim_scope.specs.Runs.{Runs, each, run}
 use Rattle.sim_scope.specs.Walk.{program_events, of_statement, of_branch, of_arm, of_block, of_whole, of_declaration}
 use Rattle.sim_scope.proofs.Walks.{runs_none, runs_one, leads_all, leads_next, leads_end, run_empty, run_block, run_block_of_class, run_body_of_class, run_prefixed, run_inner, run_call, run_assignment, run_if, run_while, run_for, run_for_reference, run_inspect, run_inspect_when, run_activation, run_some, run_no_branch, run_arm, run_compound, run_whole_block, run_whole, run_class_body, run_variables, run_arrays, run_procedure, run_class, run_program}
-use Rattle.sim_static.specs.UnbuiltForms.{HasUnbuiltForm, forms, has_code, has_some, has_unbuilt_form, is_by_name, is_name_part, is_of_procedure, is_of_procedure_part, is_of_procedures, is_procedure, is_unbuilt_class, names_code, names_unbuilt, note, yes}
+use Rattle.sim_static.specs.UnbuiltForms.{HasUnbuiltForm, forms, has_code, has_unbuilt_form, is_by_name, is_name_part, is_of_procedure, is_of_procedure_part, is_of_procedures, is_procedure, names_code, note, yes}
 
 -- ---- a heading
 
@@ -64,26 +63,6 @@ heading : (b m : Bool) (name : Identifier) (formals : List Identifier) (modes ms
     → m ≡ (b || names_code ms xs) → Runs note b m (has_code (heading_syntax name formals modes specifications) ∷ [])
 heading b m name formals modes ms specifications xs same also_ now =
     runs_one note b m _ (now ∙ ap (λ z. b || z) (ap (λ z. names_code z xs) same ∙ ap (λ z. names_code modes z) also_ ∙ sym (same_heading name formals modes specifications)))
-
-no_zero : (n : ℕ) → (suc n == 0) ≡ false
-no_zero n = grind arith
-
-same_some : {A B : Type 0} (f : A → B) (xs : List A) → has_some (map f xs) ≡ not (length xs == 0)
-same_some f [] = refl
-same_some f (x ∷ xs) = ap not (sym (no_zero (length xs)))
-
-same_class : (q : Class)
-    → is_unbuilt_class (heading_syntax q.name q.parameters.items q.modes.items q.specifications.items) (interface_syntax q.protections.items q.virtuals.items)
-    ≡ names_unbuilt q.modes.items q.specifications.items q.virtuals.items
-unfolding names_unbuilt
-same_class q =
-    ap (λ z. z || has_some (map virtual_syntax q.virtuals.items)) (same_heading q.name q.parameters.items q.modes.items q.specifications.items)
-    ∙ ap (λ z. names_code q.modes.items q.specifications.items || z) (same_some virtual_syntax q.virtuals.items)
-
--- one class more
-classed : (b m : Bool) (q : Class) → m ≡ (b || names_unbuilt q.modes.items q.specifications.items q.virtuals.items)
-    → Runs note b m (is_unbuilt_class (heading_syntax q.name q.parameters.items q.modes.items q.specifications.items) (interface_syntax q.protections.items q.virtuals.items) ∷ [])
-classed b m q now = runs_one note b m _ (now ∙ ap (λ z. b || z) (sym (same_class q)))
 
 -- ---- statements
 
@@ -152,9 +131,10 @@ pub note_procedure : (b m c : Bool) (x : Decl) (r : Option TypeName) (i : TokenN
 note_procedure b m c x r i q ms xs y is modes specifications same now h =
     run_procedure note forms b m c c x r i q y is (heading b m q.name q.parameters.items q.modes.items ms q.specifications.items xs modes specifications now) same h (runs_none note c)
 
-pub note_class : (b m c : Bool) (x : Decl) (r : Option Identifier) (i : TokenNo) (q : Class) (y : Stmt) → x ≡ d.Class r i q → y ≡ q.body.value
-    → m ≡ (b || names_unbuilt q.modes.items q.specifications.items q.virtuals.items) → Runs note m c (of_statement forms ClassBody y) → Runs note b c (of_declaration forms x)
-note_class b m c x r i q y is same now h = run_class note forms b m c c x r i q y is (classed b m q now) same h (runs_none note c)
+pub note_class : (b m c : Bool) (x : Decl) (r : Option Identifier) (i : TokenNo) (q : Class) (ms : List ModePart) (xs : List Specification) (y : Stmt) → x ≡ d.Class r i q → ms ≡ q.modes.items → xs ≡ q.specifications.items → y ≡ q.body.value
+    → m ≡ (b || names_code ms xs) → Runs note m c (of_statement forms ClassBody y) → Runs note b c (of_declaration forms x)
+note_class b m c x r i q ms xs y is modes specifications same now h =
+    run_class note forms b m c c x r i q y is (heading b m q.name q.parameters.items q.modes.items ms q.specifications.items xs modes specifications now) same h (runs_none note c)
 
 pub ruleset notings = (run_empty, run_block, run_block_of_class, run_body_of_class, run_some, run_no_branch, run_compound, run_class_body, leads_all, leads_next, leads_end, note_prefixed, note_inner, note_called, note_assigned, note_activation, note_if, note_while, note_for, note_for_reference, note_inspect, note_inspect_when, note_arm, note_block, note_whole, note_variables, note_arrays, note_procedure, note_class)
 

@@ -1,6 +1,6 @@
--- Which programs have a form that is not built: virtual procedures, a parameter by name, and a procedure as a parameter. As long as these are not
--- built, `run` refuses such a program before any rule on names and types.
-use Rattle.std.specs.Prelude.{◌≡◌, ◌==◌, Bool, true, false, ◌||◌, not, List, [], ◌∷◌, length}
+-- Which programs have a form that is not built: a parameter by name, and a procedure as a parameter. As long as these are not built, `run` refuses
+-- such a program before any rule on names and types.
+use Rattle.std.specs.Prelude.{◌≡◌, Bool, true, false, ◌||◌, List, [], ◌∷◌}
 use Rattle.std.specs.List.{list_any}
 use Rattle.sim_tree.specs.declared.program.Program.{Program as Tree}
 use Rattle.sim_tree.specs.declared.stmt.Mode.{Mode}
@@ -9,7 +9,6 @@ use Rattle.sim_tree.specs.declared.stmt.ModePart.{ModePart}
 use Rattle.sim_tree.specs.declared.stmt.Specification.{Specification as SpecificationTree}
 use Rattle.sim_tree.specs.declared.stmt.Specifier.{Specifier}
 use Rattle.sim_tree.specs.declared.stmt.Specifier.TheVariants as specifier
-use Rattle.sim_tree.specs.declared.stmt.VirtualSpecification.{VirtualSpecification}
 use Rattle.sim_tree.specs.Syntax.{Array, Heading, Interface, Moded, Procedure, Program, Simple, Specification, Specified}
 use Rattle.sim_tree.specs.SyntaxOfProgram.{program_syntax}
 use Rattle.sim_scope.specs.Runs.{Runs}
@@ -34,23 +33,14 @@ is_of_procedures x = is_procedure x.kind
 abbrev pub has_code : Heading → Bool
 has_code h = list_any is_by_name h.modes || list_any is_of_procedures h.specifications
 
--- a list has something in it
-abbrev pub has_some : {A : Type 0} → List A → Bool
-has_some [] = false
-has_some (x ∷ xs) = true
-
--- a class has such a parameter, or virtual procedures
-abbrev pub is_unbuilt_class : Heading → Interface → Bool
-is_unbuilt_class heading x = has_code heading || has_some x.virtuals
-
--- in the order of the text: of each procedure whether it has such a parameter, and of each class whether it is of these
+-- in the order of the text: of each procedure and each class whether it has such a parameter
 abbrev pub forms : Visit Bool
 forms = record {
   program = λ prefix begin. [];
   block = λ begin. [];
   prefixed = λ class arguments begin. [];
   procedure = λ result token heading. has_code heading ∷ [];
-  class = λ prefix token heading interface. is_unbuilt_class heading interface ∷ [];
+  class = λ prefix token heading interface. has_code heading ∷ [];
   connected = λ opening. [];
   leave = λ end. [];
   variables = λ type names. [];
@@ -99,6 +89,3 @@ is_of_procedure_part x = is_of_procedure x.specifier
 
 unfoldable pub names_code : List ModePart → List SpecificationTree → Bool
 names_code modes specifications = list_any is_name_part modes || list_any is_of_procedure_part specifications
-
-unfoldable pub names_unbuilt : List ModePart → List SpecificationTree → List VirtualSpecification → Bool
-names_unbuilt modes specifications virtuals = names_code modes specifications || not (length virtuals == 0)

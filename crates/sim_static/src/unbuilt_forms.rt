@@ -1,12 +1,12 @@
-//! Programs with a form that is not built: virtual procedures, parameters by name and of procedures.
+//! Programs with a form that is not built: parameters by name and of procedures.
 ghost use Rattle.std.specs.Prelude.{◌≡◌, ◌||◌};
 ghost use Rattle.std.specs.List.{list_any};
 ghost use Rattle.sim_scope.specs.Runs.{each};
 ghost use Rattle.sim_scope.specs.Walk.{of_arm, of_block, of_branch, of_class_body, of_declaration, of_statement, of_whole};
-ghost use Rattle.sim_static.specs.UnbuiltForms.{HasUnbuiltForm, Notes, forms, is_name, is_name_part, is_of_procedure, is_of_procedure_part, names_code, names_unbuilt};
+ghost use Rattle.sim_static.specs.UnbuiltForms.{HasUnbuiltForm, Notes, forms, is_name, is_name_part, is_of_procedure, is_of_procedure_part, names_code};
 
 use sim_scope::Position;
-use sim_tree::{Block, Class, Decl, Mode, ModePart, Program, Specification, Specifier, Stmt, When};
+use sim_tree::{Block, Decl, Mode, ModePart, Program, Specification, Specifier, Stmt, When};
 
 fn is_name(mode: Mode) -> bool
     ensures { result ≡ is_name mode }
@@ -47,14 +47,6 @@ fn names_code(modes: &[ModePart], specifications: &[Specification]) -> bool
     ensures { result ≡ names_code modes.now specifications.now }
 {
     has_names(modes) || has_procedures(specifications)
-}
-
-/// Whether a class has such a parameter, or virtual procedures.
-#[tactic(auto, unfolding(crate::specs::UnbuiltForms::names_unbuilt))]
-fn is_unbuilt_class(class: &Class) -> bool
-    ensures { result ≡ names_unbuilt class.now.modes.items class.now.specifications.items class.now.virtuals.items }
-{
-    names_code(&class.modes, &class.specifications) || !class.virtuals.is_empty()
 }
 
 /// Whether one was met, behind one place more.
@@ -205,13 +197,13 @@ fn declaration(met: bool, decl: &Decl) -> bool
             statement(met, Position::Inside, &procedure.body)
         }
         Decl::Class { class, .. } => {
-            let met = noted(met, is_unbuilt_class(class));
+            let met = noted(met, names_code(&class.modes, &class.specifications));
             statement(met, Position::ClassBody, &class.body)
         }
     }
 }
 
-/// Whether a program has virtual procedures, a parameter by name, or a procedure as a parameter, wherever it stands.
+/// Whether a program has a parameter by name or a procedure as a parameter, wherever it stands.
 #[tactic(auto, using(crate::proofs::Notings::unbuilt))]
 pub fn has_unbuilt_form(program: &Program) -> bool
     ensures { HasUnbuiltForm program.now result }

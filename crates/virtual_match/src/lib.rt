@@ -6,6 +6,6 @@ mod matching;
 mod protections;
 mod qualifying;
 
-pub use matching::{match_of, matches};
+pub use matching::{match_in, match_of, matches, name_of, virtual_for};
 pub use protections::second_round;
 pub use qualifying::qualify;

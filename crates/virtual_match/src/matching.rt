@@ -45,8 +45,8 @@ fn match_of_declared(scopes: &Scopes, declaration: Option<DeclNo>) -> Option<Dec
     match_at(scopes, declaration?)
 }
 
-/// The match of a name in the levels of a class.
-fn match_in(scopes: &Scopes, name: &[u8], block: Option<u32>) -> Option<DeclNo>
+/// The match of a name in the levels of a class or a prefixed block.
+pub fn match_in(scopes: &Scopes, name: &[u8], block: Option<u32>) -> Option<DeclNo>
     ensures { result ≡ match_in scopes.now name.now block }
 {
     match block {
@@ -57,7 +57,7 @@ fn match_in(scopes: &Scopes, name: &[u8], block: Option<u32>) -> Option<DeclNo>
 
 /// What a declaration is called.
 #[tactic(auto, unfolding(crate::specs::Matching::name_of))]
-fn name_of(scopes: &Scopes, declaration: DeclNo) -> &[u8]
+pub fn name_of(scopes: &Scopes, declaration: DeclNo) -> &[u8]
     ensures { result.now ≡ name_of scopes.now declaration }
 {
     match scopes.declarations().get(declaration.0 as usize) {
@@ -129,7 +129,7 @@ fn virtual_from(scopes: &Scopes, name: &[u8], block: Option<u32>) -> Option<Decl
 
 /// The virtual whose match a declaration is to be.
 #[tactic(auto, unfolding(crate::specs::Matching::virtual_for))]
-fn virtual_for(scopes: &Scopes, row: &Declaration) -> Option<DeclNo>
+pub fn virtual_for(scopes: &Scopes, row: &Declaration) -> Option<DeclNo>
     ensures { result ≡ virtual_for scopes.now row.now }
 {
     virtual_from(scopes, row.name.as_bytes(), level_for(scopes, row))

@@ -1,6 +1,6 @@
-use Rattle.std.proofs.Common.{◌≡◌, ◌++◌, drop, map}
-use Rattle.codegen.specs.EmitProgram.{record_or_blank}
+use Rattle.sim_scope.specs.Source.{source_of}
+use Rattle.codegen.proofs.Recorded.{RecordsTo}
 use Rattle.codegen.proofs.program.class_records.Given as goal
 
-abbrev pub invariant-loop-class : goal.invariant-loop-class
-invariant-loop-class l = l.records.items ++ map record_or_blank (drop l.class-index l.classes) ≡ map record_or_blank l.classes
+abbrev pub invariant-loop-index : goal.invariant-loop-index
+invariant-loop-index l = RecordsTo (source_of l.bound) l.classes l.texts l.records.items l.index

@@ -44,19 +44,12 @@ returns-in-ProcVal-clause-row c code line below now eb ec =
 
 pub returns-in-Virt-clause-row : goal.returns-in-Virt-clause-row
 returns-in-Virt-clause-row c code line below now eb ec =
-    for_instr _ code c.args.limits.now line _ _ _ _ _ _ below now c.args.instr _ (c.in-Virt.is) (c.no_rule-in-Virt.ensures c.args.limits.now line c.args.storage.now c.args.regs.now c.args.stack.now below now)
-
-pub returns-in-Check-clause-row : goal.returns-in-Check-clause-row
-returns-in-Check-clause-row c code line below now eb ec =
-    for_instr _ code c.args.limits.now line _ _ _ _ _ _ below now c.args.instr _ (c.in-Check.is) (c.no_rule-in-Check.ensures c.args.limits.now line c.args.storage.now c.args.regs.now c.args.stack.now below now)
+    let enumber : to_z w64 (of_z w64 c.in-Virt.number) ≡ c.in-Virt.number = search rules in
+    for_instr _ code c.args.limits.now line _ _ _ _ _ _ below now c.args.instr _ (c.in-Virt.is ∙ ap i.Virt (sym enumber)) (c.find_match.ensures.row code c.args.limits.now line c.args.storage.now below now eb ec (sym c.deref-in-Virt.ensures.value))
 
 pub returns-in-Param-clause-row : goal.returns-in-Param-clause-row
 returns-in-Param-clause-row c code line below now eb ec =
     for_instr _ code c.args.limits.now line _ _ _ _ _ _ below now c.args.instr _ (c.in-Param.is) (c.no_rule-in-Param.ensures c.args.limits.now line c.args.storage.now c.args.regs.now c.args.stack.now below now)
-
-pub returns-in-CallV-clause-row : goal.returns-in-CallV-clause-row
-returns-in-CallV-clause-row c code line below now eb ec =
-    for_instr _ code c.args.limits.now line _ _ _ _ _ _ below now c.args.instr _ (c.in-CallV.is) (c.no_rule-in-CallV.ensures c.args.limits.now line c.args.storage.now c.args.regs.now c.args.stack.now below now)
 
 pub returns-in-Thunk-clause-row : goal.returns-in-Thunk-clause-row
 returns-in-Thunk-clause-row c code line below now eb ec =

@@ -17,7 +17,7 @@ returns-in-None-clause-row g c s e =
       w.1,
       (
         w.2.0,
-        λ code line e1 e2 e3 e4.
+        λ code line e1 e2 e3 e4 e5.
             for_instr_in c.standard.result code l line _ _ _ _ _ _ _ _ _ _ c.args.instr (i.Std (to_z w64 (of_z w64 c.in-Std.operand))) (c.in-Std.is ∙ ap i.Std (sym ename))
             (obeys_stacks c.standard.result l line _ _ _ _ _ _ c.args.top.now.stack.items _ _ _ _ _ _ c.deref_mut.ensures.value (with_items_is c.args.top.now.stack c.standard.new.stack (search (rules, places)))
             (w.2.1 code line c.args.below.now.items)),
@@ -42,7 +42,7 @@ returns-in-Some-clause-row g c s e = (
   e,
   (
     still_same c.without_ports.result (g.O.Sink.written c.args.out.now),
-    λ code line e1 e2 e3 e4.
+    λ code line e1 e2 e3 e4 e5.
         let l = c.args.limits.now in
         let ename : to_z w64 (of_z w64 c.in-Std.operand) ≡ c.in-Std.operand = search rules in
         let z = to_z w64 (of_z w64 c.in-Std.operand) in
@@ -64,7 +64,7 @@ returns-in-Act-clause-row g c s e = (
   e,
   (
     still_same c.without_ports-in-Act.result (g.O.Sink.written c.args.out.now),
-    λ code line e1 e2 e3 e4.
+    λ code line e1 e2 e3 e4 e5.
         let l = c.args.limits.now in
         let eoperand : to_z w64 (of_z w64 c.in-Act.operand) ≡ c.in-Act.operand = search rules in
         c.without_ports-in-Act.ensures.row _ _ _ _ _ _ _ _ _ _ _ _ _
@@ -88,7 +88,7 @@ returns-in-AssignT-clause-row g c s e = (
   e,
   (
     still_same c.without_ports-in-AssignT.result (g.O.Sink.written c.args.out.now),
-    λ code line e1 e2 e3 e4.
+    λ code line e1 e2 e3 e4 e5.
         let l = c.args.limits.now in
         c.without_ports-in-AssignT.ensures.row _ _ _ _ _ _ _ _ _ _ _ _ _
         (for_instr_in _ code l line _ _ _ _ _ _ _ _ _ _ c.args.instr i.AssignT c.in-AssignT.is
@@ -109,7 +109,7 @@ returns-in-TextK-clause-row g c s e = (
   e,
   (
     still_same c.without_ports-in-TextK.result (g.O.Sink.written c.args.out.now),
-    λ code line e1 e2 e3 e4.
+    λ code line e1 e2 e3 e4 e5.
         let l = c.args.limits.now in
         let enumber : to_z w64 (of_z w64 c.in-TextK.number) ≡ c.in-TextK.number = search rules in
         c.without_ports-in-TextK.ensures.row _ _ _ _ _ _ _ _ _ _ _ _ _
@@ -131,7 +131,7 @@ returns-in-Leave-clause-row g c s e = (
   e,
   (
     still_same c.without_ports-in-Leave.result (g.O.Sink.written c.args.out.now),
-    λ code line e1 e2 e3 e4.
+    λ code line e1 e2 e3 e4 e5.
         c.without_ports-in-Leave.ensures.row _ _ _ _ _ _ _ _ _ _ _ _ _
         (for_instr_in _ code c.args.limits.now line _ _ _ _ _ _ _ _ _ _ c.args.instr i.Leave c.in-Leave.is (c.leave-flow.ensures.row code c.args.limits.now line (outside (g.O.Sink.written c.args.out.now) s) e1)),
   ),
@@ -149,7 +149,7 @@ returns-in-Return-clause-row g c s e = (
   e,
   (
     still_same c.without_ports-in-Return.result (g.O.Sink.written c.args.out.now),
-    λ code line e1 e2 e3 e4.
+    λ code line e1 e2 e3 e4 e5.
         c.without_ports-in-Return.ensures.row _ _ _ _ _ _ _ _ _ _ _ _ _
         (for_instr_in _ code c.args.limits.now line _ _ _ _ _ _ _ _ _ _ c.args.instr i.Return c.in-Return.is (c.give_result-flow.ensures.row code c.args.limits.now line (outside (g.O.Sink.written c.args.out.now) s) e1)),
   ),
@@ -167,7 +167,7 @@ returns-in-Detach-clause-row g c s e = (
   e,
   (
     still_same c.without_ports-in-Detach.result (g.O.Sink.written c.args.out.now),
-    λ code line e1 e2 e3 e4.
+    λ code line e1 e2 e3 e4 e5.
         c.without_ports-in-Detach.ensures.row _ _ _ _ _ _ _ _ _ _ _ _ _
         (for_instr_in _ code c.args.limits.now line _ _ _ _ _ _ _ _ _ _ c.args.instr i.Detach c.in-Detach.is (c.detach-flow.ensures.row c.args.limits.now line (outside (g.O.Sink.written c.args.out.now) s))),
   ),
@@ -185,7 +185,7 @@ returns-in-Attach-clause-row g c s e = (
   e,
   (
     still_same c.without_ports-in-Attach.result (g.O.Sink.written c.args.out.now),
-    λ code line e1 e2 e3 e4.
+    λ code line e1 e2 e3 e4 e5.
         c.without_ports-in-Attach.ensures.row _ _ _ _ _ _ _ _ _ _ _ _ _
         (for_instr_in _ code c.args.limits.now line _ _ _ _ _ _ _ _ _ _ c.args.instr i.Attach c.in-Attach.is (c.attach-flow.ensures.row c.args.limits.now line (outside (g.O.Sink.written c.args.out.now) s))),
   ),
@@ -203,7 +203,7 @@ returns-in-Resume-clause-row g c s e = (
   e,
   (
     still_same c.without_ports-in-Resume.result (g.O.Sink.written c.args.out.now),
-    λ code line e1 e2 e3 e4.
+    λ code line e1 e2 e3 e4 e5.
         c.without_ports-in-Resume.ensures.row _ _ _ _ _ _ _ _ _ _ _ _ _
         (for_instr_in _ code c.args.limits.now line _ _ _ _ _ _ _ _ _ _ c.args.instr i.Resume c.in-Resume.is (c.resume-flow.ensures.row c.args.limits.now line (outside (g.O.Sink.written c.args.out.now) s))),
   ),
@@ -225,7 +225,7 @@ returns-in_default g c =
         e,
         (
           still_same c.without_ports-in_default.result (g.O.Sink.written c.args.out.now),
-          λ code line e1 e2 e3 e4.
+          λ code line e1 e2 e3 e4 e5.
               c.without_ports-in_default.ensures.row _ _ _ _ _ _ _ _ _ _ _ _ _
               (obeys_stacks c.obey_other-flow.result l line _ _ _ _ _ _ c.args.top.now.stack.items _ _ _ _ _ _ c.deref_mut-in_default.ensures.value is
               (c.obey_other-flow.ensures.row code line c.args.below.now.items (outside (g.O.Sink.written c.args.out.now) s) e1 e4)),
@@ -245,7 +245,7 @@ returns-in-Enter-clause-row g c s e = (
   e,
   (
     still_same c.without_ports-in-Enter.result (g.O.Sink.written c.args.out.now),
-    λ code line e1 e2 e3 e4.
+    λ code line e1 e2 e3 e4 e5.
         let eblock : to_z w64 (of_z w64 c.in-Enter.block) ≡ c.in-Enter.block = search rules in
         c.without_ports-in-Enter.ensures.row _ _ _ _ _ _ _ _ _ _ _ _ _
         (for_instr_in _ code c.args.limits.now line _ _ _ _ _ _ _ _ _ _ c.args.instr (i.Enter (to_z w64 (of_z w64 c.in-Enter.block))) (c.in-Enter.is ∙ ap i.Enter (sym eblock)) (c.enter-flow.ensures.row code line (outside (g.O.Sink.written c.args.out.now) s) e1 e2)),
@@ -264,13 +264,55 @@ returns-in-Call-clause-row g c s e = (
   e,
   (
     still_same c.without_ports-in-Call.result (g.O.Sink.written c.args.out.now),
-    λ code line e1 e2 e3 e4.
+    λ code line e1 e2 e3 e4 e5.
         let eblock : to_z w64 (of_z w64 c.in-Call.block) ≡ c.in-Call.block = search rules in
         let evalues : to_z w64 (of_z w64 c.in-Call.values) ≡ c.in-Call.values = search rules in
         c.without_ports-in-Call.ensures.row _ _ _ _ _ _ _ _ _ _ _ _ _
         (for_instr_in _ code c.args.limits.now line _ _ _ _ _ _ _ _ _ _ c.args.instr (i.Call (to_z w64 (of_z w64 c.in-Call.block)) (to_z w64 (of_z w64 c.in-Call.values)))
         (c.in-Call.is ∙ ap (λ z. i.Call z c.in-Call.values) (sym eblock) ∙ ap (λ z. i.Call (to_z w64 (of_z w64 c.in-Call.block)) z) (sym evalues))
         (c.call-flow.ensures.row code line (outside (g.O.Sink.written c.args.out.now) s) e1 e2)),
+  ),
+)
+
+pub returns-in-Check-clause-ends : goal.returns-in-Check-clause-ends
+returns-in-Check-clause-ends g c = flow_still g.O.Sink.written g.O.Sink.faults c.args.out.now _ c.without_ports-in-Check.ensures.other
+
+pub returns-in-Check-clause-read : goal.returns-in-Check-clause-read
+returns-in-Check-clause-read g c = input_still (g.I.Source.faults c.args.input.now) _ c.without_ports-in-Check.ensures.read
+
+pub returns-in-Check-clause-row : goal.returns-in-Check-clause-row
+returns-in-Check-clause-row g c s e = (
+  s,
+  e,
+  (
+    still_same c.without_ports-in-Check.result (g.O.Sink.written c.args.out.now),
+    λ code line e1 e2 e3 e4 e5.
+        let l = c.args.limits.now in
+        let elist : to_z w64 (of_z w64 c.in-Check.list) ≡ c.in-Check.list = search rules in
+        c.without_ports-in-Check.ensures.row _ _ _ _ _ _ _ _ _ _ _ _ _
+        (for_instr_in _ code l line _ _ _ _ _ _ _ _ _ _ c.args.instr (i.Check (to_z w64 (of_z w64 c.in-Check.list))) (c.in-Check.is ∙ ap i.Check (sym elist))
+        (obeys_stacks c.check_actuals-flow.result l line _ _ _ _ _ _ c.args.top.now.stack.items _ _ _ _ _ _ c.deref-in-Check.ensures.value (sym c.deref-in-Check.ensures.value)
+        (c.check_actuals-flow.ensures.row code l line c.args.storage.now c.args.below.now.items (outside (g.O.Sink.written c.args.out.now) s) e1 e5))),
+  ),
+)
+
+pub returns-in-CallV-clause-ends : goal.returns-in-CallV-clause-ends
+returns-in-CallV-clause-ends g c = flow_still g.O.Sink.written g.O.Sink.faults c.args.out.now _ c.without_ports-in-CallV.ensures.other
+
+pub returns-in-CallV-clause-read : goal.returns-in-CallV-clause-read
+returns-in-CallV-clause-read g c = input_still (g.I.Source.faults c.args.input.now) _ c.without_ports-in-CallV.ensures.read
+
+pub returns-in-CallV-clause-row : goal.returns-in-CallV-clause-row
+returns-in-CallV-clause-row g c s e = (
+  s,
+  e,
+  (
+    still_same c.without_ports-in-CallV.result (g.O.Sink.written c.args.out.now),
+    λ code line e1 e2 e3 e4 e5.
+        let evalues : to_z w64 (of_z w64 c.in-CallV.values) ≡ c.in-CallV.values = search rules in
+        c.without_ports-in-CallV.ensures.row _ _ _ _ _ _ _ _ _ _ _ _ _
+        (for_instr_in _ code c.args.limits.now line _ _ _ _ _ _ _ _ _ _ c.args.instr (i.CallV (to_z w64 (of_z w64 c.in-CallV.values))) (c.in-CallV.is ∙ ap i.CallV (sym evalues))
+        (c.call_value-flow.ensures.row code line (outside (g.O.Sink.written c.args.out.now) s) e1 e2)),
   ),
 )
 
@@ -286,7 +328,7 @@ returns-in-NextDecl-clause-row g c s e = (
   e,
   (
     still_same c.without_ports-in-NextDecl.result (g.O.Sink.written c.args.out.now),
-    λ code line e1 e2 e3 e4.
+    λ code line e1 e2 e3 e4 e5.
         let elevel : to_z w64 (of_z w64 c.in-NextDecl.level) ≡ c.in-NextDecl.level = search rules in
         c.without_ports-in-NextDecl.ensures.row _ _ _ _ _ _ _ _ _ _ _ _ _
         (for_instr_in _ code c.args.limits.now line _ _ _ _ _ _ _ _ _ _ c.args.instr (i.NextDecl (to_z w64 (of_z w64 c.in-NextDecl.level))) (c.in-NextDecl.is ∙ ap i.NextDecl (sym elevel)) (c.next_declarations-flow.ensures.row code c.args.limits.now line c.args.storage.now c.args.top.now.stack.items c.args.below.now.items (outside (g.O.Sink.written c.args.out.now) s) e1 e2 e4 (sym c.deref-in-NextDecl.ensures.value))),
@@ -305,7 +347,7 @@ returns-in-Inner-clause-row g c s e = (
   e,
   (
     still_same c.without_ports-in-Inner.result (g.O.Sink.written c.args.out.now),
-    λ code line e1 e2 e3 e4.
+    λ code line e1 e2 e3 e4 e5.
         let elevel : to_z w64 (of_z w64 c.in-Inner.level) ≡ c.in-Inner.level = search rules in
         c.without_ports-in-Inner.ensures.row _ _ _ _ _ _ _ _ _ _ _ _ _
         (for_instr_in _ code c.args.limits.now line _ _ _ _ _ _ _ _ _ _ c.args.instr (i.Inner (to_z w64 (of_z w64 c.in-Inner.level))) (c.in-Inner.is ∙ ap i.Inner (sym elevel)) (c.inner-flow.ensures.row code c.args.limits.now line c.args.storage.now c.args.top.now.stack.items c.args.below.now.items (outside (g.O.Sink.written c.args.out.now) s) e1 e2 e4 (sym c.deref-in-Inner.ensures.value))),
@@ -324,7 +366,7 @@ returns-in-EndLevel-clause-row g c s e = (
   e,
   (
     still_same c.without_ports-in-EndLevel.result (g.O.Sink.written c.args.out.now),
-    λ code line e1 e2 e3 e4.
+    λ code line e1 e2 e3 e4 e5.
         let elevel : to_z w64 (of_z w64 c.in-EndLevel.level) ≡ c.in-EndLevel.level = search rules in
         c.without_ports-in-EndLevel.ensures.row _ _ _ _ _ _ _ _ _ _ _ _ _
         (for_instr_in _ code c.args.limits.now line _ _ _ _ _ _ _ _ _ _ c.args.instr (i.EndLevel (to_z w64 (of_z w64 c.in-EndLevel.level))) (c.in-EndLevel.is ∙ ap i.EndLevel (sym elevel)) (c.end_level-flow.ensures.row code line (outside (g.O.Sink.written c.args.out.now) s) e1 e2 e4)),
@@ -343,7 +385,7 @@ returns-in-New-clause-row g c s e = (
   e,
   (
     still_same c.without_ports-in-New.result (g.O.Sink.written c.args.out.now),
-    λ code line e1 e2 e3 e4.
+    λ code line e1 e2 e3 e4 e5.
         let eclass : to_z w64 (of_z w64 c.in-New.class) ≡ c.in-New.class = search rules in
         let evalues : to_z w64 (of_z w64 c.in-New.values) ≡ c.in-New.values = search rules in
         c.without_ports-in-New.ensures.row _ _ _ _ _ _ _ _ _ _ _ _ _
@@ -365,7 +407,7 @@ returns-in-Pref-clause-row g c s e = (
   e,
   (
     still_same c.without_ports-in-Pref.result (g.O.Sink.written c.args.out.now),
-    λ code line e1 e2 e3 e4.
+    λ code line e1 e2 e3 e4 e5.
         let eblock : to_z w64 (of_z w64 c.in-Pref.block) ≡ c.in-Pref.block = search rules in
         let evalues : to_z w64 (of_z w64 c.in-Pref.values) ≡ c.in-Pref.values = search rules in
         c.without_ports-in-Pref.ensures.row _ _ _ _ _ _ _ _ _ _ _ _ _
