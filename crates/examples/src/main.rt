@@ -33,7 +33,7 @@ const MODELS: [(&str, Option<&str>); 15] = [
 ];
 
 // The collections of data/ whose sources are run, in the order in which they are shown.
-const COLLECTIONS: [&str; 13] = [
+const COLLECTIONS: [&str; 14] = [
     "messages.cases",
     "programs.cases",
     "tokens.cases",
@@ -45,6 +45,7 @@ const COLLECTIONS: [&str; 13] = [
     "sets.cases",
     "simulation.cases",
     "virtuals.cases",
+    "keeping.cases",
     "manual.cases",
     "models.cases",
 ];

@@ -37,6 +37,7 @@ pub mod Registrations
 pub mod Closings
 pub mod Starting
 pub mod Whole
+pub mod KeptFrames
 pub mod Having
 pub mod ReadOperands
 pub mod OperandRows

@@ -28,3 +28,4 @@ pub mod Parameters
 pub mod Generating
 pub mod Preparing
 pub mod Transferring
+pub mod Keeping

@@ -3,14 +3,15 @@ ghost use Rattle.std.specs.Prelude.{◌≡◌, ℕ, ◌+◌, ◌<◌, ◌≤◌,
 ghost use Rattle.std.specs.List.{list_any};
 ghost use Rattle.sim_base.specs.declared.limits.Limits.{Limits as LimitsOf};
 ghost use Rattle.sim_code.specs.Code.{BlockOf, CodeOf};
-ghost use Rattle.sim_code.specs.Machine.{Activation as ActivationOf, Cells, Frames, Machine, Value, arrays_by_value, filled, first_cells, frame_in, frames_kept, in_new, is_held as is_held_of, is_nothing as is_nothing_of, waiting};
+ghost use Rattle.sim_code.specs.Machine.{Activation as ActivationOf, Cells, Frames, Machine, Value, arrays_by_value, filled, first_cells, frame_in, frames_kept, in_new, is_held as is_held_of, is_nothing as is_nothing_of, owner, waiting};
 ghost use Rattle.sim_code.specs.Outcome.{ArrayOf, Run, World};
 ghost use Rattle.frame_arena.specs.Arrays.{AllLeadArrays, RegionOf};
-ghost use Rattle.frame_arena.specs.Frames.{AllLead, Holds, Leads, SlotLeads, number_in, stands_first};
+ghost use Rattle.frame_arena.specs.Frames.{AllLead, Holds, Leads, SlotLeads, number_in, rooms, stands_first};
 ghost use Rattle.frame_arena.specs.Slots.{value_of};
 ghost use Rattle.frame_arena.specs.Stacks.{values_from, values_of};
 ghost use Rattle.object_machine.specs.Calling.{Filled, Fills, IsParent, Supplied, called, cells_set_from, with_actuals};
 ghost use Rattle.object_machine.specs.Entering.{Opens};
+ghost use Rattle.object_machine.specs.Keeping.{KeptIn};
 ghost use Rattle.object_machine.specs.declared.openings.Beginning.{Beginning};
 ghost use Rattle.object_machine.specs.Standing.{AllAtWork, AllFit, AtWork, Leaves, Obeys, Outside, activation_at, below_of};
 ghost use Rattle.sim_values.specs.declared.value.FrameRef.{FrameRef as Reference};
@@ -22,6 +23,7 @@ use crate::cells::held;
 use crate::constants::index;
 use crate::entering::cover;
 use crate::handing::hand_over;
+use crate::keeping::keep_frames;
 use crate::machine::{Activation, Flow, Registers, Storage};
 use crate::openings::{as_frame, open};
 use crate::paying::pay;
@@ -166,29 +168,11 @@ fn is_held(formal: CodeFormal) -> bool
     }
 }
 
-// Whether none is.
-fn holds_none(formals: &[CodeFormal]) -> bool
-    ensures { result ≡ true → list_any is_held_of formals.now ≡ false }
+// Whether one is.
+fn holds_one(formals: &[CodeFormal]) -> bool
+    ensures { result ≡ list_any is_held_of formals.now }
 {
-    for at in 0..formals.len() {
-        let Some(formal) = formals.get(at) else {
-            return false;
-        };
-        if is_held(*formal) {
-            return false;
-        }
-    }
-    true
-}
-
-// Whether the frames on the chain stay as they are when a block is called.
-fn keeps_none(class_free: bool, formals: &[CodeFormal]) -> bool
-    ensures { result ≡ true → (b : BlockOf) (chain : List ActivationOf) (m : Frames) → b.class_free ≡ class_free → b.formals ≡ formals.now → frames_kept b chain m ≡ m }
-{
-    if class_free {
-        return true;
-    }
-    holds_none(formals)
+    formals.iter().any(|formal| is_held(*formal))
 }
 
 // Where the formal parameters of a procedure begin: behind its result.
@@ -277,8 +261,29 @@ fn pass(
     cover(top, below, next)
 }
 
-/// Enters the block of a procedure with actual parameters. It answers want of memory where the frames on the chain would have to be kept, since
-/// the block is not class-free and has a formal by name, an array by reference or a procedure.
+// The frames on the chain are kept where the block is not class-free and has a formal by name, an array by reference or a procedure. It answers
+// whether the frames were all there, as they are in a run.
+fn keep_for(
+    block: &BlockRecord,
+    storage: &mut Storage,
+    top: &Activation,
+    below: &[Activation],
+) -> bool
+    ensures texts { storage.new.texts ≡ storage.old.texts }
+    ensures image { storage.new.image ≡ storage.old.image }
+    ensures same { storage.new ≡ record (storage.old) { frames = storage.new.frames } }
+    ensures stacks { rooms storage.new.frames.items ≡ rooms storage.old.frames.items }
+    ensures row { result ≡ true → (cells : List Slot) (m : Frames) (a : ActivationOf) → owner a ≡ Some top.now.registers.home.stamp → Holds storage.old.frames.items cells m →
+        KeptIn storage.old.frames.items storage.new.frames.items cells m (frames_kept block.now (a ∷ below_of below.now) m) }
+{
+    if block.class_free || !holds_one(&block.formals) {
+        return true;
+    }
+    keep_frames(&mut storage.frames, top.registers.home, below)
+}
+
+/// Enters the block of a procedure with actual parameters. Where it has to keep the frames on the chain and one of them is not there, to which
+/// no run comes, it answers want of memory.
 pub fn enter_called(
     alloc: Global,
     limits: &Limits,
@@ -305,7 +310,7 @@ pub fn enter_called(
     if !is_filled(block.types.len(), first, actuals.count) {
         return Flow::NoRule;
     }
-    if !keeps_none(block.class_free, &block.formals) {
+    if !keep_for(block, storage, top, below) {
         return Flow::Memory;
     }
     let flow = pay(limits, storage, words_instance(block.cells, false));
@@ -326,8 +331,7 @@ pub fn enter_called(
     }
 }
 
-/// Calls a procedure. It answers want of memory where the frames on the chain would have to be kept, since its block is not class-free
-/// and has a formal by name, an array by reference or a procedure.
+/// Calls a procedure.
 pub fn call(
     alloc: Global,
     blocks: &[BlockRecord],

@@ -19,6 +19,7 @@ mod first;
 mod generating;
 mod handing;
 mod images;
+mod keeping;
 mod kept_chains;
 mod leaving;
 mod levelled;

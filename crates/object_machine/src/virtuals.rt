@@ -238,8 +238,7 @@ fn take_value(frames: &[Frame], stack: &[Slot], depth: usize, operand: i64) -> O
     })
 }
 
-/// Calls the procedure in hand with the values above it. It answers want of memory where the frames on the chain would have to be kept, since
-/// its block is not class-free and has a formal by name, an array by reference or a procedure.
+/// Calls the procedure in hand with the values above it.
 pub fn call_value(
     alloc: Global,
     blocks: &[BlockRecord],

@@ -2,7 +2,6 @@
 -- the parts of each text stand in it.
 use Rattle.std.proofs.Common.{◌≡◌, ℕ, ◌+◌, ◌⊎◌, inl, inr, Bool, true, false, List, [], ◌∷◌, Option, Some, None, refl, sym, ap, ◌∙◌, arith, if◌then◌else◌}
 use Rattle.std.proofs.lemmas.Bool.{false≢true}
-use Rattle.std.specs.List.{list_any}
 use Rattle.std.specs.Prelude.{slice_get}
 use Rattle.sim_base.specs.declared.numbering.DeclNo.{DeclNo}
 use Rattle.prefix_bind.specs.Prefixes.{least_of, prefix_faults, prefixed}
@@ -27,17 +26,16 @@ use Rattle.sim_scope.specs.Source.{Source, block_around, block_of}
 use Rattle.sim_scope.specs.Tables.{BlockOf}
 use Rattle.sim_scope.specs.Walk.{program_events}
 use Rattle.sim_tree.specs.declared.expr.Identifier.{Identifier}
-use Rattle.sim_tree.specs.declared.stmt.TypeName.{TypeName}
-use Rattle.sim_tree.specs.Syntax.{Declarations, Heading, Statement, Statements, Expressions}
+use Rattle.sim_tree.specs.Syntax.{Declarations, Heading, Statements, Expressions}
 use Rattle.sim_values.specs.declared.standard.Owner.{Owner}
 use Rattle.sim_values.specs.declared.standard.Owner.TheVariants as owner
 use Rattle.sim_values.specs.declared.standard.Standard.{Standard}
 use Rattle.sim_values.specs.Standard.{row_of}
 use Rattle.sim_meaning.specs.Attributes.{first_in, is_connection}
 use Rattle.sim_meaning.specs.Closing.{class_parameters}
-use Rattle.sim_meaning.specs.Entries.{formals_of, is_held, numbers_of}
+use Rattle.sim_meaning.specs.Entries.{numbers_of}
 use Rattle.sim_meaning.specs.Levels.{is_class, qualification}
-use Rattle.sim_meaning.specs.Texts.{BlockText, ClassText, ConnectionText, ProcedureText, StandardText, Text, is_class_free, text, PrefixedText}
+use Rattle.sim_meaning.specs.Texts.{BlockText, ClassText, ConnectionText, ProcedureText, StandardText, Text, text, PrefixedText}
 use Rattle.sim_meaning.specs.Virtuals.{match_in_text}
 use Rattle.sim_sound.specs.Held.{Among, ArrayOf, Holds, entry_holds, first, held_by, later, reference_to}
 use Rattle.sim_sound.specs.Typed.{ConnectionTyped, FormalsAre, IsAttribute, NoFormal, NoFormals, SetClasses, SetProcedureThere, owner_place, MatchThere}
@@ -63,14 +61,12 @@ use Rattle.sim_allowed.proofs.Matching.{no_parameters, result_given}
 use Rattle.sim_allowed.proofs.Outside.{connected_fine, outside}
 use Rattle.sim_allowed.proofs.Whole.{Agreed}
 
--- What of the texts is known beside: the names of one array declaration are of one type, no match of a virtual has parameters, and a procedure that is
--- not class-free keeps no instances.
+-- What of the texts is known beside: the names of one array declaration are of one type, and no match of a virtual has parameters.
 pub record Written (s : Source) : Type 0 where
   pub arrays : (k i : ℕ) (ds : Declarations) (ss : Statements) → text s k ≡ Some (BlockText i ds ss) → ArraysNamed s ds
   pub class_arrays : (k : ℕ) (prefix : Option Identifier) (h : Heading) (ds : Declarations) (ss : Statements) → text s k ≡ Some (ClassText prefix h ds ss) → ArraysNamed s ds
   pub prefixed_arrays : (k : ℕ) (class : Identifier) (es : Expressions) (ds : Declarations) (ss : Statements) → text s k ≡ Some (PrefixedText class es ds ss) → ArraysNamed s ds
   pub alone : has_match_with_parameters s ≡ false
-  pub keeps_none : (k : ℕ) (result : Option TypeName) (h : Heading) (a : Statement) → text s k ≡ Some (ProcedureText result h a) → is_class_free s k ≡ false → list_any is_held (formals_of s k) ≡ false
 
 -- nothing in a list without formal parameters is one
 no_formal : (s : Source) (d : DeclNo) (ds : List DeclNo) → NoFormals s ds → Among d ds → NoFormal (entry_of s.tables d)
@@ -377,5 +373,4 @@ module _ (s : Source) (a : AllowedIs s) (plain : Plain s.program) where
       connections = connection_typed;
       not_class_free = g.outward;
       no_set_block = g.no_set_block;
-      keeps_none = written.keeps_none;
     }

@@ -1,7 +1,6 @@
 pub mod Said
 pub mod Meant
 pub mod Headings
-pub mod KeepsNone
 pub mod Classes
 pub mod Names
 pub mod Calls

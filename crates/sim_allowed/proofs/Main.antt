@@ -12,27 +12,24 @@ use Rattle.sim_meaning.specs.Meaning.{run}
 use Rattle.sim_sound.specs.Typed.{Typed}
 use Rattle.sim_sound.proofs.Main.{never_no_rule}
 use Rattle.sim_agree.specs.Plain.{Plain}
-use Rattle.sim_allowed.specs.KeptInstances.{keeps_instances}
 use Rattle.sim_allowed.specs.MatchParameters.{has_match_with_parameters}
-use Rattle.sim_allowed.proofs.Agreed.{Written, agreed_where, tables_of}
+use Rattle.sim_allowed.proofs.Agreed.{Written, agreed_where}
 use Rattle.sim_allowed.proofs.Allowed.{AllowedIs, allowed_says, allowed_typed_where}
 use Rattle.sim_allowed.proofs.ArrayKinds.{arrays, class_arrays, prefixed_arrays}
-use Rattle.sim_allowed.proofs.KeepsNone.{keeps_none}
 
-written : (s : Source) → AllowedIs s → Plain s.program → keeps_instances s ≡ false → has_match_with_parameters s ≡ false → Written s
-written s a plain keeps alone = record {
+written : (s : Source) → AllowedIs s → Plain s.program → has_match_with_parameters s ≡ false → Written s
+written s a plain alone = record {
   arrays = arrays s a plain;
   class_arrays = class_arrays s a plain;
   prefixed_arrays = prefixed_arrays s a plain;
   alone = alone;
-  keeps_none = keeps_none s (tables_of s a plain) plain a.order keeps;
 }
 
-pub allowed_typed : (tokens : List Token) (tree : Tree) (s : Source) → IsTree tokens tree → s.program ≡ program_syntax tree → check_of tree ≡ Allowed s.tables s.uses s.found_in s.types → Plain s.program → keeps_instances s ≡ false → has_match_with_parameters s ≡ false → Typed s
-allowed_typed tokens tree s is same allowed plain keeps alone =
+pub allowed_typed : (tokens : List Token) (tree : Tree) (s : Source) → IsTree tokens tree → s.program ≡ program_syntax tree → check_of tree ≡ Allowed s.tables s.uses s.found_in s.types → Plain s.program → has_match_with_parameters s ≡ false → Typed s
+allowed_typed tokens tree s is same allowed plain alone =
     let a = allowed_says tokens tree s is same allowed plain in
-    allowed_typed_where s a plain (agreed_where s a plain (written s a plain keeps alone))
+    allowed_typed_where s a plain (agreed_where s a plain (written s a plain alone))
 
-pub allowed_never_no_rule : (tokens : List Token) (tree : Tree) (s : Source) → IsTree tokens tree → s.program ≡ program_syntax tree → check_of tree ≡ Allowed s.tables s.uses s.found_in s.types → Plain s.program → keeps_instances s ≡ false → has_match_with_parameters s ≡ false
+pub allowed_never_no_rule : (tokens : List Token) (tree : Tree) (s : Source) → IsTree tokens tree → s.program ≡ program_syntax tree → check_of tree ≡ Allowed s.tables s.uses s.found_in s.types → Plain s.program → has_match_with_parameters s ≡ false
     → (l : Limits) (input : List ℕ) (n : ℕ) (o : World) → run s l input n ≡ Ended o NoRule → ⊥
-allowed_never_no_rule tokens tree s is same allowed plain keeps alone = never_no_rule s (allowed_typed tokens tree s is same allowed plain keeps alone)
+allowed_never_no_rule tokens tree s is same allowed plain alone = never_no_rule s (allowed_typed tokens tree s is same allowed plain alone)

@@ -1,7 +1,6 @@
 -- An allowed program is typed, where its tables agree with its texts.
 use Rattle.std.proofs.Common.{◌≡◌, ℕ, suc, true, false, Option, Some, None, ap}
 use Rattle.std.specs.Prelude.{slice_get}
-use Rattle.std.specs.List.{list_any}
 use Rattle.sim_base.specs.declared.numbering.DeclNo.{DeclNo}
 use Rattle.sim_scope.specs.declared.scopes.Declaration.{Declaration}
 use Rattle.sim_scope.specs.declared.types.Entry.TheVariants as entry
@@ -24,7 +23,7 @@ use Rattle.sim_values.specs.declared.standard.Standard.{Standard}
 use Rattle.sim_code.specs.Sets.{is_attribute_name}
 use Rattle.sim_code.specs.Simulations.{is_simulation_name}
 use Rattle.sim_meaning.specs.Closing.{class_parameters}
-use Rattle.sim_meaning.specs.Entries.{formals_of, is_held, numbers_of}
+use Rattle.sim_meaning.specs.Entries.{formals_of, numbers_of}
 use Rattle.sim_meaning.specs.Texts.{BlockText, ClassText, ConnectionText, PrefixedText, ProcedureText, StandardText, Text, is_class_free, text}
 use Rattle.sim_meaning.specs.Virtuals.{match_in_text}
 use Rattle.sim_sound.specs.Held.{Among, ArrayOf, Holds, IsFormal, entry_holds, result_holds}
@@ -89,7 +88,6 @@ pub record Agreed (s : Source) : Type 0 where
   pub connections : (k : ℕ) → text s k ≡ Some ConnectionText → ConnectionTyped s k
   pub not_class_free : (t u : ℕ) → encloser s.tables t ≡ Some u → is_class_free s t ≡ false → is_class_free s u ≡ false
   pub no_set_block : (k u : ℕ) (which : StandardClass) (class : Identifier) (es : Expressions) (ds : Declarations) (ss : Statements) → text s k ≡ Some (PrefixedText class es ds ss) → has_level s.tables k u ≡ true → text s u ≡ Some (StandardText which) → ⊥
-  pub keeps_none : (k : ℕ) (result : Option TypeName) (h : Heading) (a : Statement) → text s k ≡ Some (ProcedureText result h a) → is_class_free s k ≡ false → list_any is_held (formals_of s k) ≡ false
 
 module _ (s : Source) (agreed : Agreed s) (plain : Plain s.program) (filled : Filled s.program) (said : AllSay s (program_events (judging s.tables) s.program)) where
   fine_text : (k : ℕ) (x : Text) → text s k ≡ Some x → TextFine s x
@@ -154,5 +152,4 @@ module _ (s : Source) (agreed : Agreed s) (plain : Plain s.program) (filled : Fi
     not_class_free = agreed.not_class_free;
     prefixes = tabled.prefixes;
     no_set_block = agreed.no_set_block;
-    keeps_none = agreed.keeps_none;
   }

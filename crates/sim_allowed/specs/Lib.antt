@@ -1,2 +1,1 @@
-pub mod KeptInstances
 pub mod MatchParameters

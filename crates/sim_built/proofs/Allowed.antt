@@ -27,7 +27,7 @@ says : (tokens : List Token) (tree : Tree) (s : Source) → IsAllowed tokens tre
 says tokens tree s is = allowed_says tokens tree s is.reads is.checked.program is.checked.allowed (plain tokens tree s is)
 
 typed : (tokens : List Token) (tree : Tree) (s : Source) → IsAllowed tokens tree s → Typed s
-typed tokens tree s is = allowed_typed tokens tree s is.reads is.checked.program is.checked.allowed (plain tokens tree s is) is.keeps is.alone
+typed tokens tree s is = allowed_typed tokens tree s is.reads is.checked.program is.checked.allowed (plain tokens tree s is) is.alone
 
 pub built : (tokens : List Token) (tree : Tree) (s : Source) → IsAllowed tokens tree s → ProgramBuilt s
 built tokens tree s is =

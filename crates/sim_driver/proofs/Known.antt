@@ -24,11 +24,10 @@ use Rattle.sim_scope.specs.Tables.{Tables}
 use Rattle.sim_static.specs.Check.{Allowed, Checked, Refused, answer, check_of}
 use Rattle.sim_static.specs.UnbuiltForms.{has_unbuilt_form}
 use Rattle.sim_static.specs.UnbuiltNames.{has_unbuilt_name}
-use Rattle.sim_allowed.specs.KeptInstances.{keeps_instances}
 use Rattle.sim_allowed.specs.MatchParameters.{has_match_with_parameters}
 use Rattle.sim_built.specs.Allowed.{IsAllowed}
 use Rattle.sim_run.specs.RunEnds.{IsRunnable}
-use Rattle.sim_driver.specs.Compiling.{AllowedCompiles, AllowedCompilesIf, Answers, Bad, BindsAs, BoundCompiles, CheckBinds, CheckRejects, ChecksAs, CheckedCompiles, Compiled, Deep, IsBad, IsDeep, IsParsed, LexedCompiles, Parsed, ParsedCompiles, Rejected, Same, SourceBinds, SourceCompiles, SourceRejects, TokensCompile, TokensReject, TreeBinds, TreeCompiles, TreeCompilesIf, TreeRejects, Whole, lacks_form, must_keep, source_with, token_line}
+use Rattle.sim_driver.specs.Compiling.{AllowedCompiles, AllowedCompilesIf, Answers, Bad, BindsAs, BoundCompiles, CheckBinds, CheckRejects, ChecksAs, CheckedCompiles, Compiled, Deep, IsBad, IsDeep, IsParsed, LexedCompiles, Parsed, ParsedCompiles, Rejected, Same, SourceBinds, SourceCompiles, SourceRejects, TokensCompile, TokensReject, TreeBinds, TreeCompiles, TreeCompilesIf, TreeRejects, Whole, lacks_form, lacks_match, source_with, token_line}
 use Rattle.sim_driver.specs.declared.compiling.Refusal.{Refusal}
 use Rattle.sim_driver.specs.declared.compiling.Refusal.TheVariants as refusal
 use Rattle.command_line.specs.declared.words.Command.{Command}
@@ -206,16 +205,16 @@ rejected_source one command source tokens tree r line spells is rejects c =
 -- a tree whose forms are built, of a program that the static rules allow
 
 allowed_tree : (command : Command) (tokens : List Token) (tree : Tree) (s : Source) → ((c : Compiled) → Same (TreeCompiles command tokens tree c) (CheckedCompiles command tokens tree (check_of tree) c)) → CheckBinds tokens tree s
-    → (keeps : Bool) → must_keep command s ≡ keeps → (c : Compiled) → Same (TreeCompiles command tokens tree c) (AllowedCompilesIf keeps command s c)
-allowed_tree command tokens tree s free binds keeps is c =
-    same_then (TreeCompiles command tokens tree c) (AllowedCompiles command s c) (AllowedCompilesIf keeps command s c)
+    → (unmatched : Bool) → lacks_match command s ≡ unmatched → (c : Compiled) → Same (TreeCompiles command tokens tree c) (AllowedCompilesIf unmatched command s c)
+allowed_tree command tokens tree s free binds unmatched is c =
+    same_then (TreeCompiles command tokens tree c) (AllowedCompiles command s c) (AllowedCompilesIf unmatched command s c)
     (same_then (TreeCompiles command tokens tree c) (CheckedCompiles command tokens tree (check_of tree) c) (AllowedCompiles command s c) (free c) (binds command c))
-    (by_equation (λ b. AllowedCompilesIf b command s c) (must_keep command s) keeps is)
+    (by_equation (λ b. AllowedCompilesIf b command s c) (lacks_match command s) unmatched is)
 
--- the entry of a procedure keeps instances, or a match has parameters
-pub keeping : (command : Command) (tokens : List Token) (tree : Tree) (s : Source) (lacks : Bool) → lacks ≡ lacks_form command tokens (program_syntax tree) → lacks ≡ false → (keeps : Bool) → keeps ≡ must_keep command s → keeps ≡ true → ChecksAs tokens tree s
+-- a match has parameters
+pub lacking_match : (command : Command) (tokens : List Token) (tree : Tree) (s : Source) (lacks : Bool) → lacks ≡ lacks_form command tokens (program_syntax tree) → lacks ≡ false → (unmatched : Bool) → unmatched ≡ lacks_match command s → unmatched ≡ true → ChecksAs tokens tree s
     → TreeRejects command tokens tree rule.FormNotBuilt (record { 0 = 1 })
-keeping command tokens tree s lacks is none keeps same so (binds, checked) = allowed_tree command tokens tree s (lacking_none command tokens tree lacks is none) binds true (sym same ∙ so)
+lacking_match command tokens tree s lacks is none unmatched same so (binds, checked) = allowed_tree command tokens tree s (lacking_none command tokens tree lacks is none) binds true (sym same ∙ so)
 
 -- neither of two is so
 neither : (a b : Bool) → (a || b) ≡ false → (a ≡ false) × (b ≡ false)
@@ -227,19 +226,18 @@ has_none : (command : Command) (tokens : List Token) (p : Program) → lacks_for
 has_none Run tokens p none is = neither (has_unbuilt_name tokens) (has_unbuilt_form p) none
 has_none Check tokens p none is = cc is
 
-keeps_none : (command : Command) (s : Source) → must_keep command s ≡ false → command ≡ Run → (keeps_instances s ≡ false) × (has_match_with_parameters s ≡ false)
-keeps_none Run s none is = neither (keeps_instances s) (has_match_with_parameters s) none
-keeps_none Check s none is = cc is
+lacks_none : (command : Command) (s : Source) → lacks_match command s ≡ false → command ≡ Run → has_match_with_parameters s ≡ false
+lacks_none Run s none is = none
+lacks_none Check s none is = cc is
 
--- what breaks no rule and has only forms that are built can be run, where no entry of a procedure keeps instances and no match has parameters
-pub binds_as : (command : Command) (tokens : List Token) (tree : Tree) (s : Source) (lacks : Bool) → lacks ≡ lacks_form command tokens (program_syntax tree) → lacks ≡ false → (keeps : Bool) → keeps ≡ must_keep command s → keeps ≡ false → (IsAllowed tokens tree s → IsRunnable s)
+-- what breaks no rule and has only forms that are built can be run, where no match has parameters
+pub binds_as : (command : Command) (tokens : List Token) (tree : Tree) (s : Source) (lacks : Bool) → lacks ≡ lacks_form command tokens (program_syntax tree) → lacks ≡ false → (unmatched : Bool) → unmatched ≡ lacks_match command s → unmatched ≡ false → (IsAllowed tokens tree s → IsRunnable s)
     → ChecksAs tokens tree s → BindsAs command tokens tree s
-binds_as command tokens tree s lacks is none keeps same nowhere runs (binds, checked) = (
+binds_as command tokens tree s lacks is none unmatched same nowhere runs (binds, checked) = (
   allowed_tree command tokens tree s (lacking_none command tokens tree lacks is none) binds false (sym same ∙ nowhere),
   λ reads run.
       let free = has_none command tokens (program_syntax tree) (sym is ∙ none) run in
-      let kept = keeps_none command s (sym same ∙ nowhere) run in
-      runs (record { reads = reads; names = free.0; forms = free.1; checked = checked; keeps = kept.0; alone = kept.1 }),
+      runs (record { reads = reads; names = free.0; forms = free.1; checked = checked; alone = lacks_none command s (sym same ∙ nowhere) run }),
 )
 
 pub rejected_tree : (command : Command) (tokens : List Token) (tree : Tree) (r : Rule) (line : Line) → ((c : Compiled) → Same (TreeCompiles command tokens tree c) (CheckedCompiles command tokens tree (check_of tree) c)) → CheckRejects tokens tree r line

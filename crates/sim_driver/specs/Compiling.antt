@@ -21,7 +21,6 @@ use Rattle.sim_tree.specs.declared.program.Program.{Program as Tree}
 use Rattle.sim_static.specs.Check.{Allowed, Checked, Refused, check_of}
 use Rattle.sim_static.specs.UnbuiltForms.{has_unbuilt_form}
 use Rattle.sim_static.specs.UnbuiltNames.{has_unbuilt_name}
-use Rattle.sim_allowed.specs.KeptInstances.{keeps_instances}
 use Rattle.sim_allowed.specs.MatchParameters.{has_match_with_parameters}
 use Rattle.sim_built.specs.Allowed.{IsChecked}
 use Rattle.sim_run.specs.RunEnds.{IsRunnable}
@@ -48,20 +47,19 @@ abbrev pub BoundCompiles : Command → Source → Compiled → Type 0
 BoundCompiles Run s compiled = compiled ≡ Runnable s
 BoundCompiles Check s compiled = compiled ≡ Sound
 
--- For `run` it is not built that the entry of a procedure keeps instances: where a class is declared or a block prefixed in the procedure, and an
--- array by reference is among its parameters. Nor is a procedure with parameters that matches a virtual.
-abbrev pub must_keep : Command → Source → Bool
-must_keep Run s = keeps_instances s || has_match_with_parameters s
-must_keep Check s = false
+-- For `run` it is not built that a procedure with parameters matches a virtual.
+abbrev pub lacks_match : Command → Source → Bool
+lacks_match Run s = has_match_with_parameters s
+lacks_match Check s = false
 
 -- such a program is rejected behind the static rules
-abbrev pub AllowedCompilesIf : (keeps : Bool) → Command → Source → Compiled → Type 0
+abbrev pub AllowedCompilesIf : (lacks : Bool) → Command → Source → Compiled → Type 0
 AllowedCompilesIf true command s compiled = compiled ≡ not_built
 AllowedCompilesIf false command s compiled = BoundCompiles command s compiled
 
 -- what a command makes of a program that breaks no static rule
 abbrev pub AllowedCompiles : Command → Source → Compiled → Type 0
-AllowedCompiles command s compiled = AllowedCompilesIf (must_keep command s) command s compiled
+AllowedCompiles command s compiled = AllowedCompilesIf (lacks_match command s) command s compiled
 
 -- a tree with its tables, what its identifiers denote and where they are found, and what its expressions are
 abbrev pub source_with : Tree → Tables → (uses : List (Option Denotation)) → (found_in : List (Option ℕ)) → (types : List (Option SimType)) → Source

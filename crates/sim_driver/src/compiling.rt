@@ -6,14 +6,14 @@ ghost use Rattle.sim_parser.specs.Claim.{IsWholeSource};
 ghost use Rattle.sim_scope.specs.Source.{source_of};
 ghost use Rattle.sim_tree.specs.SyntaxOfProgram.{program_syntax};
 ghost use Rattle.sim_tree.specs.Tree.{IsTree};
-ghost use Rattle.sim_driver.specs.Compiling.{Answers, BindsAs, CheckRejects, ChecksAs, IsProgram, SourceRejects, TokensReject, TreeRejects, lacks_form, must_keep, token_line};
+ghost use Rattle.sim_driver.specs.Compiling.{Answers, BindsAs, CheckRejects, ChecksAs, IsProgram, SourceRejects, TokensReject, TreeRejects, lacks_form, lacks_match, token_line};
 ghost use Rattle.sim_driver.specs.declared.compiling.Refusal.TheVariants as refusal;
 ghost use Rattle.command_line.specs.declared.words.Command.{Command as AnyCommand};
 
 use command_line::Command;
 use sim_base::{Line, Rule, Token, TokenNo, line_of};
+use sim_built::has_match_with_parameters;
 use sim_built::laws::allowed_programs_run;
-use sim_built::{has_match_with_parameters, keeps_instances};
 use sim_expr_parser::SyntaxRefusal;
 use sim_lexer::{LexRefusal, lex};
 use sim_parser::parse;
@@ -100,12 +100,12 @@ fn lacks_form(command: Command, tokens: &[Token], tree: &sim_tree::Program) -> b
     }
 }
 
-// Whether the entry of a procedure of a program keeps instances, or a procedure that matches a virtual has parameters, for `run`.
-fn must_keep(command: Command, bound: &Bound) -> bool
-    ensures { result ≡ must_keep command (source_of bound.now) }
+// Whether a procedure of a program matches a virtual and has parameters, for `run`.
+fn lacks_match(command: Command, bound: &Bound) -> bool
+    ensures { result ≡ lacks_match command (source_of bound.now) }
 {
     match command {
-        Command::Run => keeps_instances(bound) || has_match_with_parameters(bound),
+        Command::Run => has_match_with_parameters(bound),
         Command::Check => false,
     }
 }
@@ -120,8 +120,8 @@ fn not_built() -> Refusal
     }
 }
 
-// The program of a tree of these tokens. As long as a form is not built, a source that has it is refused first; one whose run would keep
-// instances, or that has a match with parameters, is refused behind the static rules.
+// The program of a tree of these tokens. As long as a form is not built, a source that has it is refused first; one that has a match with
+// parameters is refused behind the static rules.
 fn bind_tree(
     alloc: Global,
     command: Command,
@@ -134,7 +134,7 @@ fn bind_tree(
         return Err(not_built());
     }
     let bound = bind_checked(alloc, tokens, tree)?;
-    if must_keep(command, &bound) {
+    if lacks_match(command, &bound) {
         return Err(not_built());
     }
     allowed_programs_run();

@@ -15,6 +15,15 @@ use Rattle.sim_sound.proofs.Lists.{append_at, append_before, equal_numbers, if_f
 
 -- ---- arrays alone
 
+-- what is beneath an instance does not lie in the arrays
+beneath_same : (o o' : AllArrays) (m : Instances) → o'.beneath ≡ o.beneath → {j e : ℕ} → Beneath o m j e → Beneath o' m j e
+beneath_same o o' m same at_itself = at_itself
+beneath_same o o' m same (one_lower {j = j} ends is way) = one_lower ends (ap (λ z. slice_get z j) same ∙ is) (beneath_same o o' m same way)
+
+near_same : (o o' : AllArrays) (m : Instances) (j e : ℕ) → o'.beneath ≡ o.beneath → Near o m j e → Near o' m j e
+near_same o o' m j e same (near_staying a) = near_staying a
+near_same o o' m j e same (near_below way) = near_below (beneath_same o o' m same way)
+
 arrays_later : (s : Source) (o o' : AllArrays) (m : Instances) → o'.beneath ≡ o.beneath → ((j : ℕ) (h : Holds) (a : ℕ) → ArrayFine o m j h a → ArrayFine o' m j h a) → ((j : ℕ) (h : Holds) (a n : ℕ) → ElementFine o m j h a n → ElementFine o' m j h a n) → ((h : Holds) (a : ℕ) → KeptFine o h a → KeptFine o' h a) → Later s o m o' m All
 arrays_later s o o' m same f g k = record {
   arrays = λ j h a ok x. f j h a x;
@@ -24,19 +33,11 @@ arrays_later s o o' m same f g k = record {
   stays = λ j a. tt;
   apart = λ j e a b. tt;
   near = λ j e a b. tt;
+  nears = λ j e ok a. near_same o o' m j e same a;
   beneath = λ j x is. ap (λ z. slice_get z j) same ∙ is;
   objects = λ j a. a;
   nobody = λ j a. a;
 }
-
--- what is beneath an instance does not lie in the arrays
-beneath_same : (o o' : AllArrays) (m : Instances) → o'.beneath ≡ o.beneath → {j e : ℕ} → Beneath o m j e → Beneath o' m j e
-beneath_same o o' m same at_itself = at_itself
-beneath_same o o' m same (one_lower {j = j} ends is way) = one_lower ends (ap (λ z. slice_get z j) same ∙ is) (beneath_same o o' m same way)
-
-near_same : (o o' : AllArrays) (m : Instances) (j e : ℕ) → o'.beneath ≡ o.beneath → Near o m j e → Near o' m j e
-near_same o o' m j e same (near_staying a) = near_staying a
-near_same o o' m j e same (near_below way) = near_below (beneath_same o o' m same way)
 
 owned_same : (o o' : AllArrays) (m : Instances) (j : ℕ) (it : OneArray) → o'.beneath ≡ o.beneath → (it.kept ≡ true) ⊎ Near o m j it.owner → (it.kept ≡ true) ⊎ Near o' m j it.owner
 owned_same o o' m j it same a = ⊎_elim (λ k. inl k) (λ n. inr (near_same o o' m j it.owner same n)) a

@@ -79,7 +79,7 @@ module _ (s : Source) (ok : Typed s) (o : World) (g : Marks) (long : length g.si
   -- nothing else is changed
   module _ (ns : List Notice) (some : SomeNotice ns) (a : Fine ns) where
     later_then : Later s (see g o) m (see g (Then ns)) m All
-    later_then = later_instances s (see g o) (see g (Then ns)) m m refl refl (λ j x e. e) (λ j x lives. record { now = x; lives = lives; grown = as_it_was x }) (λ j a. a) (λ j a. a)
+    later_then = later_instances s (see g o) (see g (Then ns)) m m refl refl (λ j x e. e) (λ j x lives. record { now = x; lives = lives; grown = as_it_was x }) (λ j a. a) (λ j a. a) (λ j a. a)
 
     copies : (j d : ℕ) → Copies (see g o) (see g (Then ns)) j d
     copies = still_copies s (see g o) (see g (Then ns)) m m refl refl (λ j x e. e) (λ j x lives. record { now = x; lives = lives; grown = as_it_was x })

@@ -1,6 +1,6 @@
 -- A block, a procedure or an object is entered.
-use Rattle.std.proofs.Common.{Bool, List, None, Option, Some, [], ap, arith, false, inr, length, map, refl, subst, suc, sym, true, ℕ, ◌++◌, ◌<◌, ◌∙◌, ◌∷◌, ◌≡◌, ◌⊎◌}
-use Rattle.std.specs.Prelude.{if◌then◌else◌, not, slice_get, ◌&&◌}
+use Rattle.std.proofs.Common.{Bool, List, None, Option, Some, [], ap, arith, false, inl, inr, length, map, refl, subst, suc, sym, true, ℕ, ◌++◌, ◌<◌, ◌∙◌, ◌∷◌, ◌≡◌, ◌⊎◌}
+use Rattle.std.specs.Prelude.{not, slice_get, ◌&&◌}
 use Rattle.std.specs.List.{list_any}
 use Rattle.sim_base.specs.declared.limits.Limits.{Limits}
 use Rattle.sim_base.specs.declared.numbering.DeclNo.{DeclNo}
@@ -13,14 +13,14 @@ use Rattle.sim_tree.specs.Syntax.{Declarations, Heading, Statement, Statements}
 use Rattle.simset.specs.Instances.{Memberships}
 use Rattle.sim_code.specs.Arrays.{handed_over}
 use Rattle.sim_code.specs.Events.{entering, having, pop_many, popping, when}
-use Rattle.sim_code.specs.Instances.{Instance, ends_in, entered, is_given_at_end, is_live, kept_on, live}
+use Rattle.sim_code.specs.Instances.{Instance, ends_in, entered, is_given_at_end, is_live, live}
 use Rattle.sim_code.specs.Instances as instances
 use Rattle.sim_code.specs.Outcome.{Run, Simulation, World}
 use Rattle.sim_meaning.specs.Attributes.{is_connection}
 use Rattle.sim_meaning.specs.Entries.{arrays_by_value, filled_behind, first_cells, formals_of, in_instance, instances_kept, is_held, new_instance, numbers_of, passes, words_of_cells}
 use Rattle.sim_meaning.specs.Levels.{has_levels}
 use Rattle.sim_meaning.specs.Meaning.{block_work, called, has_result, procedure_entered, sub_block_entered}
-use Rattle.sim_meaning.specs.Pending.{Activation, Address, ArrayValue, Configuration, Declared, Do, EndBlock, EndProcedure, Exec, Execs, Held, Instances, Item, Key, Link, Of, ProcedureValue, Tree, Val, instance_in, owner}
+use Rattle.sim_meaning.specs.Pending.{Activation, Address, ArrayValue, Configuration, Declared, Do, EndBlock, EndProcedure, Exec, Execs, Held, Instances, Item, Key, Link, Of, ProcedureValue, Tree, Val, instance_in}
 use Rattle.sim_meaning.specs.Sane.{Other}
 use Rattle.sim_meaning.specs.Texts.{BlockText, ClassText, ConnectionText, PrefixedText, ProcedureText, StandardText, Text, is_class_free, text}
 use Rattle.sim_sound.specs.Held.{ArrayOf, Holds, InBound}
@@ -31,13 +31,14 @@ use Rattle.sim_sound.proofs.Cells.{key_level, keys_alone, made_alone, own_site}
 use Rattle.sim_sound.proofs.Chains.{others_kept, others_on}
 use Rattle.sim_sound.proofs.Changes.{ElementsFine}
 use Rattle.sim_sound.proofs.Evals.{IsFine, Work, goes_on}
-use Rattle.sim_sound.proofs.FirstCells.{ActualsAre, FilledBehind, ValsFine, all_taken, block_cells, block_key, formals_some, held_there, procedure_cells, taken}
-use Rattle.sim_sound.proofs.Handing.{Handed, formals_hand, hand_all, handed_members, handed_same, handed_simulations, marks_of}
-use Rattle.sim_sound.proofs.Later.{All, Copies, Later, all_apart, fine_later, hands_later, instance_later, kept_later, live_less, present_later, standing_apart, stays_later, work_later}
+use Rattle.sim_sound.proofs.FirstCells.{ActualsAre, FilledBehind, ValsFine, actuals_later, all_taken, block_cells, block_key, formals_some, held_there, procedure_cells, taken}
+use Rattle.sim_sound.proofs.Handing.{Handed, Outlives, formals_hand, hand_all, handed_members, handed_same, handed_simulations, marks_of}
+use Rattle.sim_sound.proofs.InstancesKept.{Kept, entry_keeps}
+use Rattle.sim_sound.proofs.Later.{All, Copies, Later, Steady, all_apart, fine_later, hands_later, instance_later, kept_later, knows_later, live_less, own_later, present_later, standing_apart, stays_later, steady_same, work_later}
 use Rattle.sim_sound.proofs.Lifts.{Goes, any_popped, enters, had, ran, whens}
 use Rattle.sim_sound.proofs.Lists.{append_at, same_some}
 use Rattle.sim_sound.proofs.Members.{MembersFine, OneMore, members_more, plain_no_linkage, plain_no_simulation}
-use Rattle.sim_sound.proofs.Moves.{Begins, copies_entered, knows_near, later_entered, marked, near_new, on_top, one_more, operates_entered, placed_as, steady_entered, store_entered}
+use Rattle.sim_sound.proofs.Moves.{Begins, copies_entered, knows_near, later_entered, marked, near_new, on_top, one_more, operates_entered, operates_on, placed_as, steady_entered, store_entered}
 use Rattle.sim_sound.proofs.ProcessClasses.{plain_no_process}
 use Rattle.sim_sound.proofs.Prefixes.{LevelOf, prefix_level, same_level}
 use Rattle.sim_sound.proofs.Running.{Begun, ChainFine, Fine, Headed, Operates, Placed, StoreFine, WorkFine, first_of}
@@ -88,7 +89,7 @@ module _ (s : Source) (ok : Typed s) (v : AllArrays) (m : Instances) (k : ℕ) (
   present_new todo made = record { now = made_new; lives = new_lives; stands = own_text same_level; words = x; has_text = is; made = made }
 
   instance_new : ((u : ℕ) → LevelOf s k u → (key : Key) → KeyAmong key (keys_in s u (text s u)) → KeyAmong key (map key_of cells)) → CellsFine s seen_now now (length m.instances) k cells → Enclosed s seen_now now (length m.instances) k e → InstanceFine s seen_now now (length m.instances) made_new
-  instance_new keys fine out = record { level = refl; solid = solid; keys = keys; holds = λ u at key a. key_level s ok solid at key a; cells = fine; ends = passing_is; not_kept = refl; out = out }
+  instance_new keys fine out = record { level = refl; solid = solid; keys = keys; holds = λ u at key a. key_level s ok solid at key a; cells = fine; ends = passing_is; out = out }
 
   pub begun_new : StoreFine s v m → Begins z → ((u : ℕ) → LevelOf s k u → (key : Key) → KeyAmong key (keys_in s u (text s u)) → KeyAmong key (map key_of cells)) → CellsFine s seen_now now (length m.instances) k cells → Enclosed s seen_now now (length m.instances) k e → (todo : List DeclNo) → Made s k todo cells → MembersFine s linkages now → SimulationsFine s blocks now → Begun s seen_now now (length m.instances) k todo
   unfolding present_new
@@ -223,18 +224,6 @@ module _ (s : Source) (ok : Typed s) (l : Limits) (o : World) (marks : Marks) (l
 
   -- ---- a procedure
 
-  -- no instance is kept
-  pub not_kept : (k : ℕ) (result : Option TypeName) (h : Heading) (a : Statement) → text s k ≡ Some (ProcedureText result h a) → (chain : List Activation) → instances_kept s k chain m ≡ m
-  not_kept k result h a is chain = by_flag (is_class_free s k) refl
-    where
-      by_flag : (b : Bool) → is_class_free s k ≡ b → instances_kept s k chain m ≡ m
-      by_flag true e = ap (λ b. if not b && list_any is_held (formals_of s k) then kept_on owner chain m else m) e
-      by_flag false e = ap (λ b. if not (is_class_free s k) && b then kept_on owner chain m else m) (ok.keeps_none k result h a is e) ∙ never (not (is_class_free s k))
-        where
-          never : (b : Bool) → (if b && false then kept_on owner chain m else m) ≡ m
-          never true = refl
-          never false = refl
-
   pub link_is : (u : ℕ) (v : Val) (f : ℕ → Run Configuration) → HandFine s (see marks o) m i (LinkTo u) v → ((j : ℕ) → Knows m i j → Whole s m j u → Goes (IsFine s) (f j)) → Goes (IsFine s) (having (instance_in v) o f)
   link_is u (Link j) f a go = had (IsFine s) (Some j) j o f refl (go j a.0 a.1)
   link_is u (Of z) f a go = absurd a
@@ -261,7 +250,7 @@ module _ (s : Source) (ok : Typed s) (l : Limits) (o : World) (marks : Marks) (l
     pub below_handed : (v : Waits) → ChainFine s (see marks o) m rest v → ChainFine s (see (marks_of marks g') p) m rest v
     below_handed v c = fine_later s (see marks o) m (see (marks_of marks g') p) m All e (Other i) copies (λ j k. (refl, refl)) rest (all_apart rest) (others_on marks.beneath m i rest top) v c
 
-  module _ (k line : ℕ) (result : Option TypeName) (h : Heading) (a : Statement) (vs vs' : List Val) (d j u : ℕ) (todo : List DeclNo) (left : List Kinds) (g : Option Kinds) (is : text s k ≡ Some (ProcedureText result h a)) (stands : encloser s.tables k ≡ Some u) (knows : Knows m i j) (whole : Whole s m j u) (acts : ActualsAre s (see marks o) m i d (formal_kinds s (formals_of s k)) vs) (less : length vs' < d) (gives : GivesResult s k g) (b : Begun s (see marks o) m i t todo) (hands : HandsFine s (see marks o) m i left vs') (work : Work s o marks long m i t rest top w todo (given g left)) where
+  module _ (k line : ℕ) (result : Option TypeName) (h : Heading) (a : Statement) (vs vs' : List Val) (d j u : ℕ) (todo : List DeclNo) (left : List Kinds) (g : Option Kinds) (is : text s k ≡ Some (ProcedureText result h a)) (stands : encloser s.tables k ≡ Some u) (knows : Knows m i j) (whole : Whole s m j u) (acts : ActualsAre s (see marks o) m i d (formal_kinds s (formals_of s k)) vs) (less : length vs' < d) (gives : GivesResult s k g) (b : Begun s (see marks o) m i t todo) (hands : HandsFine s (see marks o) m i left vs') (work : Work s o marks long m i t rest top w todo (given g left)) (lasts : is_class_free s k ≡ false → list_any is_held (formals_of s k) ≡ true → Stays m i) where
     abbrev X : Text
     X = ProcedureText result h a
 
@@ -296,16 +285,16 @@ module _ (s : Source) (ok : Typed s) (l : Limits) (o : World) (marks : Marks) (l
     later_with : (c : List Held) (z : List Sight) (q : World) → Later s (see (marks_of marks z) q) m (see (marks_of noted z) q) (After c) All
     later_with c z q = later_new s ok (see (marks_of marks z) q) m k (Some j) c Nobody X is solid (Some i) q.members q.simulations
 
-    -- one that takes arrays by reference is class-free
-    passing : (c : List Held) → list_any is_held fs ≡ true → (is_given_at_end (After c) N ≡ true) × (slice_get noted.beneath N ≡ Some (Some i))
-    passing c held = (by_flag (is_class_free s k) refl, new_noted s ok (see marks o) m k (Some j) c Nobody X is solid (Some i) o.members o.simulations b.store)
+    -- where it takes arrays by reference, the instance that enters it is there for as long
+    outlives : (c : List Held) → list_any is_held fs ≡ true → Outlives s m (After c) i N top.before marks noted (later_with c)
+    outlives c held = by_flag (is_class_free s k) refl
       where
-        by_flag : (f : Bool) → is_class_free s k ≡ f → is_given_at_end (After c) N ≡ true
-        by_flag true free = new_passes s ok (see marks o) m k (Some j) c Nobody X is solid (Some i) o.members o.simulations free
-        by_flag false free = absurd (let none : list_any is_held fs ≡ false = ok.keeps_none k result h a is free in cc)
+        by_flag : (f : Bool) → is_class_free s k ≡ f → Outlives s m (After c) i N top.before marks noted (later_with c)
+        by_flag true free = inl (new_passes s ok (see marks o) m k (Some j) c Nobody X is solid (Some i) o.members o.simulations free, new_noted s ok (see marks o) m k (Some j) c Nobody X is solid (Some i) o.members o.simulations b.store)
+        by_flag false free = inr (stays_later s (see marks o) m (see noted o) (After c) All (later_with c marks.sights o) i (lasts free held))
 
     handed : (c : List Held) → Handed s m (After c) i N top.before marks noted (later_with c) o marks.sights d P (λ z. (kk : ℕ) → ValsFine s z (After c) N kk (holds_of s fs) vs)
-    handed c = hand_all s m (After c) i N top.before marks noted (later_with c) fs (formal_kinds s fs) (formals_hand s ((is_given_at_end (After c) N ≡ true) × (slice_get noted.beneath N ≡ Some (Some i))) (numbers_of s k) fs typed_procedure.formals (passing c)) vs o marks.sights long d acts
+    handed c = hand_all s m (After c) i N top.before marks noted (later_with c) fs (formal_kinds s fs) (formals_hand s (Outlives s m (After c) i N top.before marks noted (later_with c)) (numbers_of s k) fs typed_procedure.formals (outlives c)) vs o marks.sights long d acts
 
     filled : (c : List Held) → FilledBehind s (see (marks_of noted (handed c).sights) P) (After c) N k result vs first
     filled c = procedure_cells s (see (marks_of noted (handed c).sights) P) (After c) N k result h a fs vs typed_procedure.result typed_procedure.formals ((handed c).values k)
@@ -378,15 +367,46 @@ module _ (s : Source) (ok : Typed s) (l : Limits) (o : World) (marks : Marks) (l
       goes = work_later s (see marks o) m V m All e i t tt refl (rest ≡ []) (rest ≡ []) (λ q. q) (λ q. ChainFine s (see marks o) m rest q) (λ q. ChainFine s V m rest q) (below_handed P (handed Cells).sights e copies b.store (handed Cells).elements linkages blocks) w todo (given g left) work;
     }
 
-    pub procedure_goes : Goes (IsFine s) (procedure_entered s l o m i w vs' rest k line vs j (Some X))
-    procedure_goes =
+    -- after the instances that it needs were kept
+    pub enters_procedure : Goes (IsFine s) (having (filled_behind result vs first) o (λ c. entering l line (words_of_cells first) o (λ q. in_instance s (handed_over N (arrays_by_value fs vs) q) m k (Some j) c (λ now. Do (Exec a) ∷ EndProcedure (has_result result) ∷ []) (Chain vs'))))
+    enters_procedure =
         let ns = arrays_by_value fs vs in
-        had (IsFine s) (filled_behind result vs first) Cells o (λ c. entering l line (words_of_cells first) o (λ q. in_instance s (handed_over N ns q) (instances_kept s k (Chain vs') m) k (Some j) c (λ now. Do (Exec a) ∷ EndProcedure (has_result result) ∷ []) (Chain vs'))) (filled first).filled_is
-        (enters (IsFine s) l line (words_of_cells first) o (λ q. in_instance s (handed_over N ns q) (instances_kept s k (Chain vs') m) k (Some j) Cells (λ now. Do (Exec a) ∷ EndProcedure (has_result result) ∷ []) (Chain vs')) (λ t' w'.
-        subst (λ z. Goes (IsFine s) (in_instance s (handed_over N ns (ran o t' w')) z k (Some j) Cells (λ now. Do (Exec a) ∷ EndProcedure (has_result result) ∷ []) (Chain vs'))) (sym (not_kept k result h a is (Chain vs')))
-        (same_arrays P (handed_over N ns (ran o t' w')) _ (handed_same N ns o (ran o t' w') refl) (linkages ∙ sym (handed_members N ns (ran o t' w'))) (blocks ∙ sym (handed_simulations N ns (ran o t' w')))
+        had (IsFine s) (filled_behind result vs first) Cells o (λ c. entering l line (words_of_cells first) o (λ q. in_instance s (handed_over N ns q) m k (Some j) c (λ now. Do (Exec a) ∷ EndProcedure (has_result result) ∷ []) (Chain vs'))) (filled first).filled_is
+        (enters (IsFine s) l line (words_of_cells first) o (λ q. in_instance s (handed_over N ns q) m k (Some j) Cells (λ now. Do (Exec a) ∷ EndProcedure (has_result result) ∷ []) (Chain vs')) (λ t' w'.
+        same_arrays P (handed_over N ns (ran o t' w')) _ (handed_same N ns o (ran o t' w') refl) (linkages ∙ sym (handed_members N ns (ran o t' w'))) (blocks ∙ sym (handed_simulations N ns (ran o t' w')))
         (enters_fine s ok P G (handed Cells).long m k (Some j) Cells Nobody [] tt (Do (Exec a) ∷ EndProcedure (has_result result) ∷ []) (Chain vs') P store (chain_placed vs') (chain_headed vs') (inr refl) begun
-        ([], [], (refl, refl, refl, (k, own_site s V' M N k [] begun, typed_procedure.body)), (result, h, a, is, refl, g, gives, (None, stands_new m (new_instance s k (Some j) Cells) Nobody (top.placed).as_many), below_new s ok V m k (Some j) Cells Nobody X is solid (Some i) V.members V.simulations tt (Chain vs') (Takes g) chain))))))
+        ([], [], (refl, refl, refl, (k, own_site s V' M N k [] begun, typed_procedure.body)), (result, h, a, is, refl, g, gives, (None, stands_new m (new_instance s k (Some j) Cells) Nobody (top.placed).as_many), below_new s ok V m k (Some j) Cells Nobody X is solid (Some i) V.members V.simulations tt (Chain vs') (Takes g) chain)))))
+
+module _ (s : Source) (ok : Typed s) (l : Limits) (o : World) (marks : Marks) (long : length marks.sights ≡ length o.arrays) (m : Instances) (i t : ℕ) (rest : List Activation) (top : Operates marks.beneath m i rest) (w : List Item) (vals : List Val) where
+  -- the instances that the procedure needs are kept first
+  procedure_goes : (k line : ℕ) (result : Option TypeName) (h : Heading) (a : Statement) (vs vs' : List Val) (d j u : ℕ) (todo : List DeclNo) (left : List Kinds) (g : Option Kinds) → text s k ≡ Some (ProcedureText result h a) → encloser s.tables k ≡ Some u → Knows m i j → Whole s m j u → ActualsAre s (see marks o) m i d (formal_kinds s (formals_of s k)) vs → length vs' < d → GivesResult s k g → Begun s (see marks o) m i t todo → HandsFine s (see marks o) m i left vs' → Work s o marks long m i t rest top w todo (given g left)
+      → Goes (IsFine s) (procedure_entered s l o m i w vs' rest k line vs j (Some (ProcedureText result h a)))
+  procedure_goes k line result h a vs vs' d j u todo left g is stands knows whole acts less gives b hands work =
+      subst (λ z. Goes (IsFine s) (having (filled_behind result vs first) o (λ c. entering l line (words_of_cells first) o (λ q. in_instance s (handed_over z (arrays_by_value (formals_of s k) vs) q) n k (Some j) c (λ now. Do (Exec a) ∷ EndProcedure (has_result result) ∷ []) (Below vs'))))) (y.same).count
+      (enters_procedure s ok l o marks long n i t rest (operates_on marks.beneath m n i rest y.same top) w vals k line result h a vs vs' d j u todo left g is stands (knows_later s v m v n All y.later i j tt knows) (present_later s v m v n All y.later j u [] tt whole)
+      (actuals_later s v m v n y.later i (λ z e x c deep f. f) (formal_kinds s (formals_of s k)) vs d acts) less gives
+      (record { store = y.store; here = present_later s v m v n All y.later i t todo tt b.here; own = own_later s v m v n All y.later i t todo tt b.here ∙ b.own })
+      (hands_later s v m v n All y.later i tt left vs' (λ e x c deep f. f) hands)
+      (work_later s v m v n All y.later i t tt (steady i).1 (rest ≡ []) (rest ≡ []) (λ q. q) (λ q. ChainFine s v m rest q) (λ q. ChainFine s v n rest q) (λ q c. fine_later s v m v n All y.later All (λ e x f p z r deep copy. copy) (λ e f. steady e) rest (all_apart rest) (all_apart rest) q c) w todo (given g left) work)
+      y.lasts)
+    where
+      v : AllArrays
+      v = see marks o
+
+      first : List Held
+      first = first_cells s k (ProcedureText result h a)
+
+      Below : List Val → List Activation
+      Below vs = record { instance = i; work = w; values = vs } ∷ rest
+
+      n : Instances
+      n = instances_kept s k (Below vs') m
+
+      y : Kept s v m n i (is_class_free s k) (list_any is_held (formals_of s k))
+      y = entry_keeps s v m (Below vs') (Takes g) (waits_on s ok l o marks long m i t rest top w vals vs' todo left g b hands work) b.store i refl k
+
+      steady : (e : ℕ) → Steady v m v n e
+      steady = steady_same v m v n (y.same).standings refl
 
   pub called_goes : (k n line : ℕ) (todo : List DeclNo) (before behind : List Kinds) → CallOpFine s k n before behind → Begun s (see marks o) m i t todo → HandsFine s (see marks o) m i before vals → Work s o marks long m i t rest top w todo behind → Goes (IsFine s) (called s l o m i w vals rest k n line)
   called_goes k n line todo before behind c b h work =
@@ -398,8 +418,8 @@ module _ (s : Source) (ok : Typed s) (l : Limits) (o : World) (marks : Marks) (l
       (subst (λ z. Goes (IsFine s) (pop_many (length r.values) [] z o next)) (sym r.are)
       (subst (Goes (IsFine s)) (sym (all_taken r.values r.rest o next))
       (any_popped (IsFine s) s (see marks o) m i (LinkTo c.around) c.left r.rest o (λ v vs. having (instance_in v) o (λ j. when (is_live m j) o (procedure_entered s l o m i w vs rest k line r.values j (text s k)))) r.more (λ v vs same here more.
-      link_is c.around v (λ j. when (is_live m j) o (procedure_entered s l o m i w vs rest k line r.values j (text s k))) here (λ j near whole.
-      whens (IsFine s) (is_live m j) o (procedure_entered s l o m i w vs rest k line r.values j (text s k)) (lives_is j whole.now whole.lives)
+      link_is s ok l o marks long m i t rest top w vals c.around v (λ j. when (is_live m j) o (procedure_entered s l o m i w vs rest k line r.values j (text s k))) here (λ j near whole.
+      whens (IsFine s) (is_live m j) o (procedure_entered s l o m i w vs rest k line r.values j (text s k)) (lives_is s ok l o marks long m i t rest top w vals j whole.now whole.lives)
       (subst (λ z. Goes (IsFine s) (procedure_entered s l o m i w vs rest k line r.values j z)) (sym q.is)
       (procedure_goes k line q.result q.heading q.body r.values vs (length r.rest) j c.around todo c.left c.gives q.is q.stands_in near whole r.fine (below_top r.rest v vs same) c.result b more (subst (λ z. Work s o marks long m i t rest top w todo z) c.out work))))))))
     where

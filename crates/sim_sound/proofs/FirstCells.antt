@@ -23,6 +23,7 @@ use Rattle.sim_meaning.specs.Levels.{has_levels, qualification}
 use Rattle.sim_sound.specs.Held.{Among, ArrayOf, Holds, IsOfKind, Refers, Simply, entry_holds, first, formal_holds, held_by, key_holds, later, reference_to, result_holds}
 use Rattle.sim_sound.specs.Typed.{FormalsAre, NoFormal, NoFormals, ResultWritten}
 use Rattle.sim_sound.proofs.Changes.{cell_of, equal_same}
+use Rattle.sim_sound.proofs.Later.{All, Copies, Later, deep_later}
 use Rattle.sim_sound.proofs.Sound.{AllArrays, CellFine, CellsFine, DeepFine, HandsFine, KeyAmong, Kinds, ValFine, first_key, formal_kinds, holds_of, in_hand, key_of, later_key, onto}
 
 -- the first value of a kind names no object
@@ -200,6 +201,18 @@ ActualsAre s o m j d [] [] = Unit {0}
 ActualsAre s o m j d [] (v ∷ vs) = ⊥
 ActualsAre s o m j d (x ∷ xs) [] = ⊥
 ActualsAre s o m j d (x ∷ xs) (v ∷ vs) = SomeDeep s o m j d x v × ActualsAre s o m j (suc d) xs vs
+
+-- they stay fine
+module _ (s : Source) (o : AllArrays) (m : Instances) (o' : AllArrays) (m' : Instances) (e : Later s o m o' m' All) (j : ℕ) (copies : (d : ℕ) → Copies o o' j d) where
+  some_later : (d : ℕ) (x : Option Kinds) (v : Val) → SomeDeep s o m j d x v → SomeDeep s o' m' j d x v
+  some_later d None v f = f
+  some_later d (Some x) v f = deep_later s o m o' m' All e j tt d (copies (suc d)) x v f
+
+  pub actuals_later : (xs : List (Option Kinds)) (vs : List Val) (d : ℕ) → ActualsAre s o m j d xs vs → ActualsAre s o' m' j d xs vs
+  actuals_later [] [] d a = a
+  actuals_later [] (v ∷ vs) d a = absurd a
+  actuals_later (x ∷ xs) [] d a = absurd a
+  actuals_later (x ∷ xs) (v ∷ vs) d a = (some_later d x v a.0, actuals_later xs vs (suc d) a.1)
 
 pub record Taken (s : Source) (o : AllArrays) (m : Instances) (i : ℕ) (hs : List (Option Kinds)) (left : List Kinds) (vals : List Val) : Type 0 where
   pub values : List Val

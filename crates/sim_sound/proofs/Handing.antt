@@ -1,5 +1,5 @@
 -- The arrays that go over to the instance of a procedure or a class: of a procedure those that are copies, of a class all.
-use Rattle.std.proofs.Common.{◌≡◌, ℕ, suc, ◌<◌, Bool, true, false, List, [], ◌∷◌, length, Option, Some, None, inl, refl, sym, ap, ◌∙◌, subst, arith}
+use Rattle.std.proofs.Common.{◌≡◌, ℕ, suc, ◌<◌, Bool, true, false, List, [], ◌∷◌, length, Option, Some, None, ◌⊎◌, inl, ⊎_elim, refl, sym, ap, ◌∙◌, subst, arith}
 use Rattle.std.specs.Prelude.{◌||◌, if◌then◌else◌, slice_get, slice_set}
 use Rattle.std.specs.List.{list_any}
 use Rattle.sim_base.specs.declared.numbering.DeclNo.{DeclNo}
@@ -23,7 +23,7 @@ use Rattle.sim_sound.proofs.Cells.{plain_anywhere, val_up}
 use Rattle.sim_sound.proofs.Changes.{ElementsFine, given_copy, given_elements, given_is, given_later, given_long, given_world, handed_copy, handed_elements, handed_is, handed_later, handed_long, handed_over_array, handed_world}
 use Rattle.sim_sound.proofs.FirstCells.{ActualsAre, SomeDeep, SomeFine, ValsFine}
 use Rattle.sim_sound.proofs.Later.{All, Later, hand_later, later_none, later_then, val_later}
-use Rattle.sim_sound.proofs.Sound.{ObjectIn, AddressOf, AllArrays, Component, Copied, CopyFine, DeepFine, ImageAddress, IsPlain, KeptFine, Kinds, Lasting, LinkTo, Marks, Open, ReferenceAddress, Sight, ValFine, Value, at_itself, class_kinds, formal_kinds, holds_of, in_hand, kept_kinds, near_below, one_lower, see, MatchFor}
+use Rattle.sim_sound.proofs.Sound.{ObjectIn, AddressOf, AllArrays, Component, Copied, CopyFine, DeepFine, ImageAddress, IsPlain, KeptFine, Kinds, Lasting, LinkTo, Marks, Open, ReferenceAddress, Sight, Stays, ValFine, Value, at_itself, class_kinds, formal_kinds, holds_of, in_hand, kept_kinds, near_below, near_staying, one_lower, see, MatchFor}
 
 -- what is handed over is arrays alone
 owned_same : (n a : ℕ) (x : Option OneArray) (o p : World) → o.arrays ≡ p.arrays → (owned_by n x o a).arrays ≡ (owned_by n x p a).arrays
@@ -146,9 +146,9 @@ module _ (s : Source) (m m' : Instances) (i n : ℕ) (lt : i < n) (noted noted' 
   abbrev pub Behind : List Sight → World → AllArrays
   Behind g o = see (marks_of noted' g) o
 
-  -- the new instance was entered on top of the other one, and is given back at its end
-  abbrev pub Passing : Type 0
-  Passing = (is_given_at_end m' n ≡ true) × (slice_get noted'.beneath n ≡ Some (Some i))
+  -- the new instance was entered on top of the other one, and is given back at its end, or the other one stays
+  abbrev pub Outlives : Type 0
+  Outlives = ((is_given_at_end m' n ≡ true) × (slice_get noted'.beneath n ≡ Some (Some i))) ⊎ Stays m' i
 
   -- what is left after that: the values are those of the new instance, and the copies that have fewer values below them stay
   pub record Handed (o : World) (g : List Sight) (d : ℕ) (o' : World) (Values : AllArrays → Type 0) : Type 0 where
@@ -227,12 +227,12 @@ module _ (s : Source) (m m' : Instances) (i n : ℕ) (lt : i < n) (noted noted' 
         })
 
     by_kind : Rest o g → ((h : Holds) (a0 : ℕ) (copy : CopyFine (Before g o) i d h a0) → Rest (handed_world o (marks_of noted g) m i d h a0 copy n) (opened a0 h))
-        → (b : Bool) (x : Option Kinds) (h : Option Holds) (v : Val) → HandsTo Passing b x h → SomeDeep s (Before g o) m i d x v
+        → (b : Bool) (x : Option Kinds) (h : Option Holds) (v : Val) → HandsTo Outlives b x h → SomeDeep s (Before g o) m i d x v
         → Whole h v (if b then with_array_of v ns else ns)
     by_kind r copied false _ _ v (as_value {h = h} plain) f =
         other_value h v (λ z p e. plain_anywhere s (Behind z p) m' i n h v plain (val_later s (Before z p) m (Behind z p) m' All (enter z p) i tt h v (val_later s (Before g o) m (Before z p) m All e i tt h v f))) r
-    by_kind r copied false _ _ v (as_array {h = h} passing) f =
-        other_value (ArrayOf h) v (λ z p e. val_up s (Behind z p) m' n i (near_below (one_lower passing.0 passing.1 at_itself)) (ArrayOf h) v (val_later s (Before z p) m (Behind z p) m' All (enter z p) i tt (ArrayOf h) v (val_later s (Before g o) m (Before z p) m All e i tt (ArrayOf h) v f))) r
+    by_kind r copied false _ _ v (as_array {h = h} outlives) f =
+        other_value (ArrayOf h) v (λ z p e. val_up s (Behind z p) m' n i (⊎_elim (λ q. near_below (one_lower q.0 q.1 at_itself)) (λ q. near_staying q) outlives) (ArrayOf h) v (val_later s (Before z p) m (Behind z p) m' All (enter z p) i tt (ArrayOf h) v (val_later s (Before g o) m (Before z p) m All e i tt (ArrayOf h) v f))) r
     by_kind r copied true _ _ (ArrayValue a0) (as_copy {h = h}) f = copy_handed h a0 f (copied h a0 f)
     by_kind r copied true _ _ (Of p) as_copy f = absurd f
     by_kind r copied true _ _ (Link z) as_copy f = absurd f
@@ -295,7 +295,7 @@ module _ (s : Source) (m m' : Instances) (i n : ℕ) (lt : i < n) (noted noted' 
   past_copy o g d h a0 copy xs vs a =
       actuals_moved o g d (Before (slice_set g a0 (Open h)) (handed_world o (marks_of noted g) m i d h a0 copy n)) (handed_later o (marks_of noted g) m i d h a0 copy n s) (λ e k b less f. handed_copy o (marks_of noted g) m i d h a0 copy n i e k b (λ q same. omega (arith, same, less)) f) (suc d) (omega arith) xs vs a
 
-  pub hand_all : (fs : List Formal) (xs : List (Option Kinds)) → AllHandTo s Passing fs xs → (vs : List Val) (o : World) (g : List Sight) → length g ≡ length o.arrays → (d : ℕ) → ActualsAre s (Before g o) m i d xs vs → Handed o g d (handed_over n (arrays_by_value fs vs) o) (λ z. (kk : ℕ) → ValsFine s z m' n kk (holds_of s fs) vs)
+  pub hand_all : (fs : List Formal) (xs : List (Option Kinds)) → AllHandTo s Outlives fs xs → (vs : List Val) (o : World) (g : List Sight) → length g ≡ length o.arrays → (d : ℕ) → ActualsAre s (Before g o) m i d xs vs → Handed o g d (handed_over n (arrays_by_value fs vs) o) (λ z. (kk : ℕ) → ValsFine s z m' n kk (holds_of s fs) vs)
   unfolding handed_over
   hand_all [] [] b [] o g long d a = record { sights = g; long = long; later = λ b mm. later_none s (see (marks_of b g) o) mm; copies = λ j e k a less c. c; elements = λ all. all; values = λ kk. tt }
   hand_all [] [] b (v ∷ vs) o g long d a = absurd a

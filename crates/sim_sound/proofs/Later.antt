@@ -1,5 +1,5 @@
 -- What is fine stays so in later stores.
-use Rattle.std.proofs.Common.{◌≡◌, ◌<◌, ℕ, suc, true, false, List, [], ◌∷◌, length, map, Option, Some, None, refl, sym, ap, ◌∙◌, subst, arith}
+use Rattle.std.proofs.Common.{◌≡◌, ◌<◌, ℕ, suc, Bool, true, false, List, [], ◌∷◌, length, map, Option, Some, None, refl, sym, ap, ◌∙◌, subst, arith}
 use Rattle.std.specs.Prelude.{slice_get, ◌&&◌, not}
 use Rattle.sim_base.specs.declared.numbering.DeclNo.{DeclNo}
 use Rattle.sim_chains.specs.Components.{AttachedObject, DetachedObject, NoObject, ResumedObject, Standing, TerminatedObject}
@@ -7,7 +7,7 @@ use Rattle.sim_scope.specs.Levels.{has_level}
 use Rattle.sim_scope.specs.Source.{Source}
 use Rattle.sim_values.specs.declared.kind.Kind.{Kind}
 use Rattle.sim_values.specs.Plain.{Character, Integer, MainOf, Nothing, Object, Plain, Text, Truth}
-use Rattle.sim_code.specs.Instances.{CellPlace, ElementPlace, ImagePlace, Instance, ends_in, is_given_at_end, live, unless_given}
+use Rattle.sim_code.specs.Instances.{CellPlace, ElementPlace, ImagePlace, Instance, ends_in, live, unless_given}
 use Rattle.sim_meaning.specs.Pending.{SetOf, Activation, Address, ArrayValue, AttributeOf, BackOp, BlockOp, BranchOp, CallOf, Cell, ChooseOp, ConnectOp, CopyOf, Declared, Do, Either, ElementOf, ElementsOp, EndBlock, EndLevel, EndObject, EndPrefixed, EndProcedure, EndProgram, EnterOp, Eval, Exec, Execs, FitsOf, Further, Given, GiveOp, Held, IfOp, ImageOf, InnerOp, Instances, Item, Joined, KeptOf, Key, Level, Link, MemberOf, NewOf, NoTerm, NotNoneOf, Of, One, Op, PlaceOf, PrefixedOp, ProcedureValue, ProcessOf, QuaOf, QualifiedElementOf, QualifiedPlaceOf, RaiseOp, RemoteCallOf, ShareOp, SimulationOf, StandardOf, StepTestOp, StoreOp, Target, Term, Terms, TestOp, ToAddress, ToCell, ToPlace, ToReference, ToReferenceAt, ToText, ToTextAt, ToTextOf, TransferOf, Tree, Two, Unbuilt, Val, ValueAt, WhenOp, WhileElementOp, held, VirtualOf}
 use Rattle.sim_meaning.specs.Attributes.{is_connection}
 use Rattle.sim_meaning.specs.Levels.{has_levels}
@@ -17,20 +17,20 @@ use Rattle.sim_sound.specs.Held.{ArrayOf, Holds, Refers, Simply, key_holds}
 use Rattle.sim_sound.proofs.Lists.{there_is}
 use Rattle.sim_sound.proofs.Prefixes.{LevelOf}
 use Rattle.sim_sound.proofs.Running.{ActFine, ChainFine, ChainOn, Expected, IsRelease, NoObjectStands, ObjectStands, Shown, StandsFine, StandsOn, WorkFine, awaited, first_over, is_resumed, resumes}
-use Rattle.sim_sound.proofs.Sound.{ObjectIn, AddressOf, AllArrays, ArrayFine, Beneath, BlockIn, CellFine, CellIs, CellTarget, CellsFine, Component, Copied, CopyFine, DeepFine, ElementFine, Enclosed, Generated, HandFine, HandsFine, ImageAddress, InstanceFine, IntegersFine, KeptFine, KeyAmong, Kinds, Knows, Lasting, Lasts, LevelsFine, LinkTo, MainIn, NamesObject, Near, ObjectOf, OpFine, OperandsFine, Outward, PlainFine, Present, ReferenceAddress, ReferenceFine, Simulates, Site, Sited, StandsFor, Stays, StoreOpFine, Suspended, Takes, TargetFine, TargetsFine, TermFine, TermsFine, ValFine, Value, VariableFine, Waits, alone, array_stored, at_itself, connected, in_connection, in_instance, key_of, near_below, near_staying, no_further, one_lower, one_out, outward, own_made, own_text, staying, value_stored, within, MatchFor}
+use Rattle.sim_sound.proofs.Sound.{ObjectIn, AddressOf, AllArrays, ArrayFine, BlockIn, CellFine, CellIs, CellTarget, CellsFine, Component, Copied, CopyFine, DeepFine, ElementFine, Enclosed, Generated, HandFine, HandsFine, ImageAddress, InstanceFine, IntegersFine, KeptFine, KeyAmong, Kinds, Knows, Lasting, Lasts, LevelsFine, LinkTo, MainIn, NamesObject, Near, ObjectOf, OpFine, OperandsFine, Outward, PlainFine, Present, ReferenceAddress, ReferenceFine, Simulates, Site, Sited, StandsFor, Stays, StoreOpFine, Suspended, Takes, TargetFine, TargetsFine, TermFine, TermsFine, ValFine, Value, VariableFine, Waits, alone, array_stored, connected, in_connection, in_instance, key_of, no_further, one_out, outward, own_made, own_text, staying, value_stored, within, MatchFor}
 
--- an instance that is as it was, but for values of cells, and cells of connections that are new
+-- an instance that is as it was, but for values of cells, and cells of connections that are new; and it may be kept now
 pub record Grown (x y : Instance (List Held)) : Type 0 where
   pub text : y.text ≡ x.text
   pub level : y.level ≡ x.level
   pub encloser : y.encloser ≡ x.encloser
   pub passing : y.passing ≡ x.passing
-  pub kept : y.kept ≡ x.kept
+  pub kept : x.kept ≡ true → y.kept ≡ true
   pub keys : (key : Key) → KeyAmong key (map key_of x.cells) → KeyAmong key (map key_of y.cells)
   pub holds : (key : Key) → held key y.cells ≡ None → held key x.cells ≡ None
 
 pub as_it_was : (x : Instance (List Held)) → Grown x x
-as_it_was x = record { text = refl; level = refl; encloser = refl; passing = refl; kept = refl; keys = λ key a. a; holds = λ key a. a }
+as_it_was x = record { text = refl; level = refl; encloser = refl; passing = refl; kept = λ k. k; keys = λ key a. a; holds = λ key a. a }
 
 pub record StillThere (m : Instances) (j : ℕ) (x : Instance (List Held)) : Type 0 where
   pub now : Instance (List Held)
@@ -46,6 +46,7 @@ pub record Later (s : Source) (o : AllArrays) (m : Instances) (o' : AllArrays) (
   pub stays : (j : ℕ) → Stays m j → Apart j
   pub apart : (j e : ℕ) → Apart j → Knows m j e → Apart e
   pub near : (j e : ℕ) → Apart j → Near o m j e → Apart e
+  pub nears : (j e : ℕ) → Apart j → Near o m j e → Near o' m' j e
   pub beneath : (j : ℕ) (x : Option ℕ) → slice_get o.beneath j ≡ Some x → slice_get o'.beneath j ≡ Some x
   pub objects : (j : ℕ) → ObjectStands m j → ObjectStands m' j
   pub nobody : (j : ℕ) → NoObjectStands m j → NoObjectStands m' j
@@ -69,22 +70,26 @@ stands_grown : (s : Source) (x y : Instance (List Held)) → Grown x y → (t : 
 stands_grown s x y g t (own_text at) = own_text (subst (λ z. LevelOf s z t) (sym g.text) at)
 stands_grown s x y g t (connected {u = u} is around there a) = connected is around (g.keys _ there) (stands_grown s x y g u a)
 
-pub flags_grown : (x y : Instance (List Held)) → Grown x y → (y.passing && not y.kept) ≡ (x.passing && not x.kept)
-flags_grown x y g = ap (λ z. z && not y.kept) g.passing ∙ ap (λ z. x.passing && not z) g.kept
+-- what is not given back at its end
+pub kept_stays : (passing k k' : Bool) → (k ≡ true → k' ≡ true) → (passing && not k) ≡ false → (passing && not k') ≡ false
+kept_stays false k k' f e = refl
+kept_stays true true k' f e = ap not (f refl)
+kept_stays true false k' f e = absurd (cc)
+
+pub flags_grown : (x y : Instance (List Held)) → Grown x y → (x.passing && not x.kept) ≡ false → (y.passing && not y.kept) ≡ false
+flags_grown x y g e = ap (λ z. z && not y.kept) g.passing ∙ kept_stays x.passing x.kept y.kept g.kept e
+
+-- and what is
+pub flags_were : (x y : Instance (List Held)) → Grown x y → (y.passing && not y.kept) ≡ true → (x.passing && not x.kept) ≡ true
+flags_were x y g e = by_flag (x.passing && not x.kept) refl
+  where
+    by_flag : (b : Bool) → (x.passing && not x.kept) ≡ b → b ≡ true
+    by_flag true f = refl
+    by_flag false f = absurd (let no = flags_grown x y g f in cc)
 
 module _ (s : Source) (o : AllArrays) (m : Instances) (o' : AllArrays) (m' : Instances) (Apart : ℕ → Type 0) (e : Later s o m o' m' Apart) where
   pub stays_later : (j : ℕ) → Stays m j → Stays m' j
-  stays_later j a = let y = e.there j a.now (e.stays j a) a.lives in record { now = y.now; lives = y.lives; stays = flags_grown a.now y.now y.grown ∙ a.stays }
-
-  pub ends_later : (j : ℕ) → Apart j → is_given_at_end m j ≡ true → is_given_at_end m' j ≡ true
-  ends_later j ok a = by_live (live m j) refl (a)
-    where
-      by_live : (x : Option (Instance (List Held))) → live m j ≡ x → ends_in (live m j) ≡ true → is_given_at_end m' j ≡ true
-      by_live None is f = let no : ends_in (live m j) ≡ false = ap ends_in is in cc
-      by_live (Some x) is f =
-          let y = e.there j x ok is in
-          let were : (x.passing && not x.kept) ≡ true = sym (ap ends_in is) ∙ f in
-          ap ends_in y.lives ∙ flags_grown x y.now y.grown ∙ were
+  stays_later j a = let y = e.there j a.now (e.stays j a) a.lives in record { now = y.now; lives = y.lives; stays = flags_grown a.now y.now y.grown a.stays }
 
   outward_later : (j k : ℕ) → Apart j → Outward m j k → Outward m' j k
   outward_later j _ ok no_further = no_further
@@ -96,19 +101,10 @@ module _ (s : Source) (o : AllArrays) (m : Instances) (o' : AllArrays) (m' : Ins
   knows_later j k ok (staying a) = staying (stays_later k a)
   knows_later j k ok (outward a) = outward (outward_later j k ok a)
 
-  pub beneath_later : (j k : ℕ) → Apart j → Beneath o m j k → Beneath o' m' j k
-  beneath_later j _ ok at_itself = at_itself
-  beneath_later j k ok (one_lower {k = i} passing is path) =
-      one_lower (ends_later j ok passing) (e.beneath j (Some i) is) (beneath_later i k (e.near j i ok (near_below (one_lower passing is at_itself))) path)
-
-  pub near_later : (j k : ℕ) → Apart j → Near o m j k → Near o' m' j k
-  near_later j k ok (near_staying a) = near_staying (stays_later k a)
-  near_later j k ok (near_below a) = near_below (beneath_later j k ok a)
-
   pub stands_on_later : (j : ℕ) (x : Instance (List Held)) (under : Option ℕ) → Apart j → live m j ≡ Some x → StandsOn o.beneath m j under → StandsOn o'.beneath m' j under
   stands_on_later j x under ok lives on passing =
       let y = e.there j x ok lives in
-      e.beneath j under (on (ap ends_in lives ∙ sym (flags_grown x y.now y.grown) ∙ sym (ap ends_in y.lives) ∙ passing))
+      e.beneath j under (on (ap ends_in lives ∙ flags_were x y.now y.grown (sym (ap ends_in y.lives) ∙ passing)))
 
   pub present_later : (j t : ℕ) (todo : List DeclNo) → Apart j → Present s m j t todo → Present s m' j t todo
   present_later j t todo ok p =
@@ -134,7 +130,7 @@ module _ (s : Source) (o : AllArrays) (m : Instances) (o' : AllArrays) (m' : Ins
         lives = y.lives;
         object = ap (λ z. has_levels (text s z)) (y.grown).text ∙ p.object;
         levels = ap (λ z. has_level s.tables z class) (y.grown).text ∙ p.levels;
-        stays = flags_grown p.now y.now y.grown ∙ p.stays;
+        stays = flags_grown p.now y.now y.grown p.stays;
         words = p.words;
         has_text = ap (text s) (y.grown).text ∙ p.has_text;
         made = λ u at d k holds there none. p.made u (subst (λ z. LevelOf s z u) (y.grown).text at) d k holds there ((y.grown).holds (Declared d.0) none);
@@ -143,7 +139,7 @@ module _ (s : Source) (o : AllArrays) (m : Instances) (o' : AllArrays) (m' : Ins
   pub lasts_later : (j u : ℕ) → Lasts s m j u → Lasts s m' j u
   lasts_later j u p =
       let y = e.there j p.now (e.stays j (record { now = p.now; lives = p.lives; stays = p.stays })) p.lives in
-      record { now = y.now; lives = y.lives; solid = ap (λ z. is_connection (text s z)) (y.grown).text ∙ p.solid; level = subst (λ z. LevelOf s z u) (sym (y.grown).text) p.level; stays = flags_grown p.now y.now y.grown ∙ p.stays }
+      record { now = y.now; lives = y.lives; solid = ap (λ z. is_connection (text s z)) (y.grown).text ∙ p.solid; level = subst (λ z. LevelOf s z u) (sym (y.grown).text) p.level; stays = flags_grown p.now y.now y.grown p.stays }
 
   pub simulates_later : (b k : ℕ) → Simulates s m b k → Simulates s m' b k
   simulates_later b k p = record { lasts = lasts_later b k p.lasts; simulates = p.simulates }
@@ -192,10 +188,10 @@ module _ (s : Source) (o : AllArrays) (m : Instances) (o' : AllArrays) (m' : Ins
 
   pub enclosed_later : (j t : ℕ) (out : Option ℕ) → Apart j → Enclosed s o m j t out → Enclosed s o' m' j t out
   enclosed_later j t out ok (alone is around) = alone is around
-  enclosed_later j t out ok (within {e = n} {u = u} is around less near whole) = within is around less (near_later j n ok near) (present_later n u [] (e.near j n ok near) whole)
+  enclosed_later j t out ok (within {e = n} {u = u} is around less near whole) = within is around less (e.nears j n ok near) (present_later n u [] (e.near j n ok near) whole)
 
   pub instance_later : (j : ℕ) (x : Instance (List Held)) → Apart j → InstanceFine s o m j x → InstanceFine s o' m' j x
-  instance_later j x ok f = record { level = f.level; solid = f.solid; keys = f.keys; holds = f.holds; cells = cells_later j x.text ok x.cells f.cells; ends = f.ends; not_kept = f.not_kept; out = enclosed_later j x.text x.encloser ok f.out }
+  instance_later j x ok f = record { level = f.level; solid = f.solid; keys = f.keys; holds = f.holds; cells = cells_later j x.text ok x.cells f.cells; ends = f.ends; out = enclosed_later j x.text x.encloser ok f.out }
 
   -- ---- what is in hand, and what is pending
 
@@ -518,6 +514,7 @@ later_then s o m o' m' o'' m'' e f = record {
   stays = λ j a. tt;
   apart = λ j k a b. tt;
   near = λ j k a b. tt;
+  nears = λ j k ok x. f.nears j k tt (e.nears j k tt x);
   beneath = λ j x is. f.beneath j x (e.beneath j x is);
   objects = λ j a. f.objects j (e.objects j a);
   nobody = λ j a. f.nobody j (e.nobody j a);
@@ -529,7 +526,7 @@ later_then s o m o' m' o'' m'' e f = record {
       level = b.level ∙ a.level;
       encloser = b.encloser ∙ a.encloser;
       passing = b.passing ∙ a.passing;
-      kept = b.kept ∙ a.kept;
+      kept = λ k. b.kept (a.kept k);
       keys = λ key k. b.keys key (a.keys key k);
       holds = λ key h. a.holds key (b.holds key h);
     }
@@ -543,6 +540,7 @@ later_none s o m = record {
   stays = λ j a. tt;
   apart = λ j k a b. tt;
   near = λ j k a b. tt;
+  nears = λ j k ok x. x;
   beneath = λ j x is. is;
   objects = λ j a. a;
   nobody = λ j a. a;

@@ -40,6 +40,7 @@ pub mod FirstCells
 pub mod ClassCells
 pub mod Handing
 pub mod ArrayWork
+pub mod InstancesKept
 pub mod Entering
 pub mod ClassLevels
 pub mod LevelWork

@@ -24,7 +24,7 @@ use Rattle.sim_sound.proofs.Changes.{array_there, cells_set, held_stays, keys_se
 use Rattle.sim_sound.proofs.Members.{MembersFine, OneMore, StillAll, members_later}
 use Rattle.sim_sound.proofs.Simulated.{SimulationsFine}
 use Rattle.sim_sound.proofs.Simulating.{simulations_later}
-use Rattle.sim_sound.proofs.Later.{All, Copies, Grown, Later, Steady, StillThere, as_it_was, cells_later, enclosed_later, flags_grown, instance_later, kept_all, kept_later, lasts_later, live_less, near_later, object_later, plain_later, standing_apart, standing_later, steady_same}
+use Rattle.sim_sound.proofs.Later.{All, Copies, Grown, Later, Steady, StillThere, as_it_was, cells_later, enclosed_later, flags_grown, instance_later, kept_all, kept_later, lasts_later, live_less, object_later, plain_later, standing_apart, standing_later, steady_same}
 use Rattle.sim_sound.proofs.Lists.{append_at, append_before, if_false, no_some, old_or_new, one_longer, other_numbers, same_some, set_len, set_other, set_same, there_is}
 
 -- ---- an instance that is there
@@ -152,22 +152,8 @@ operates_on b m n i rest same top = record { before = subst (λ z. i < z) (sym s
 
 -- all are still there, with the same arrays, and what was noted
 module _ (s : Source) (o o' : AllArrays) (m n : Instances) (real : o'.real ≡ o.real) (sights : o'.sights ≡ o.sights) (noted : (j : ℕ) (x : Option ℕ) → slice_get o.beneath j ≡ Some x → slice_get o'.beneath j ≡ Some x) (there : (j : ℕ) (x : Instance (List Held)) → live m j ≡ Some x → StillThere n j x) where
-  still_stays : (j : ℕ) → Stays m j → Stays n j
-  still_stays j a = let y = there j a.now a.lives in record { now = y.now; lives = y.lives; stays = flags_grown a.now y.now y.grown ∙ a.stays }
-
-  still_ends : (j : ℕ) → is_given_at_end m j ≡ true → is_given_at_end n j ≡ true
-  still_ends j e =
-      let x = ending_there m j e in
-      let y = there j x.0 x.1 in
-      ap ends_in y.lives ∙ flags_grown x.0 y.now y.grown ∙ sym (ap ends_in x.1) ∙ e
-
-  still_beneath : (j e : ℕ) → Beneath o m j e → Beneath o' n j e
-  still_beneath j _ at_itself = at_itself
-  still_beneath j e (one_lower {k = k} ends on a) = one_lower (still_ends j ends) (noted j (Some k) on) (still_beneath k e a)
-
-  still_near : (j e : ℕ) → Near o m j e → Near o' n j e
-  still_near j e (near_staying a) = near_staying (still_stays e a)
-  still_near j e (near_below a) = near_below (still_beneath j e a)
+  pub still_stays : (j : ℕ) → Stays m j → Stays n j
+  still_stays j a = let y = there j a.now a.lives in record { now = y.now; lives = y.lives; stays = flags_grown a.now y.now y.grown a.stays }
 
   still_lives : (a : ℕ) (it : OneArray) → unless_given (slice_get o.real a) ≡ Some it → unless_given (slice_get o'.real a) ≡ Some it
   still_lives a it e = ap (λ z. unless_given (slice_get z a)) real ∙ e
@@ -175,26 +161,41 @@ module _ (s : Source) (o o' : AllArrays) (m n : Instances) (real : o'.real ≡ o
   still_known : (a : ℕ) (x : Sight) → slice_get o.sights a ≡ Some x → slice_get o'.sights a ≡ Some x
   still_known a x e = ap (λ z. slice_get z a) sights ∙ e
 
-  still_array : (j : ℕ) (h : Holds) (a : ℕ) → ArrayFine o m j h a → ArrayFine o' n j h a
-  still_array j h a f = record { it = f.it; lives = still_lives a f.it f.lives; known = still_known a _ f.known; owned = ⊎_elim (λ k. inl k) (λ k. inr (still_near j (f.it).owner k)) f.owned; count = f.count }
-
   pub still_copies : (j d : ℕ) → Copies o o' j d
   still_copies j d e h a less f = record { it = f.it; lives = still_lives a f.it f.lives; hidden = still_known a _ f.hidden; owned = f.owned; count = f.count }
 
-  pub later_instances : ((j : ℕ) → ObjectStands m j → ObjectStands n j) → ((j : ℕ) → NoObjectStands m j → NoObjectStands n j) → Later s o m o' n All
-  unfolding still_array
-  later_instances objects nobody = record {
-    arrays = λ j h a ok f. still_array j h a f;
-    elements = λ j h a i ok f. record { array = still_array j h a f.array; there = f.there };
-    kept = λ h a f. record { it = f.it; lives = still_lives a f.it f.lives; known = still_known a _ f.known; keeps = f.keeps; count = f.count };
-    there = λ j x ok lives. there j x lives;
-    stays = λ j a. tt;
-    apart = λ j e a b. tt;
-    near = λ j e a b. tt;
-    beneath = noted;
-    objects = objects;
-    nobody = nobody;
-  }
+  module _ (nears : (j e : ℕ) → Near o m j e → Near o' n j e) where
+    still_array : (j : ℕ) (h : Holds) (a : ℕ) → ArrayFine o m j h a → ArrayFine o' n j h a
+    still_array j h a f = record { it = f.it; lives = still_lives a f.it f.lives; known = still_known a _ f.known; owned = ⊎_elim (λ k. inl k) (λ k. inr (nears j (f.it).owner k)) f.owned; count = f.count }
+
+    pub later_nears : ((j : ℕ) → ObjectStands m j → ObjectStands n j) → ((j : ℕ) → NoObjectStands m j → NoObjectStands n j) → Later s o m o' n All
+    unfolding still_array
+    later_nears objects nobody = record {
+      arrays = λ j h a ok f. still_array j h a f;
+      elements = λ j h a i ok f. record { array = still_array j h a f.array; there = f.there };
+      kept = λ h a f. record { it = f.it; lives = still_lives a f.it f.lives; known = still_known a _ f.known; keeps = f.keeps; count = f.count };
+      there = λ j x ok lives. there j x lives;
+      stays = λ j a. tt;
+      apart = λ j e a b. tt;
+      near = λ j e a b. tt;
+      nears = λ j e ok a. nears j e a;
+      beneath = noted;
+      objects = objects;
+      nobody = nobody;
+    }
+
+  -- where all are given back at their end as before
+  module _ (ends : (j : ℕ) → is_given_at_end m j ≡ true → is_given_at_end n j ≡ true) where
+    still_beneath : (j e : ℕ) → Beneath o m j e → Beneath o' n j e
+    still_beneath j _ at_itself = at_itself
+    still_beneath j e (one_lower {k = k} passing on a) = one_lower (ends j passing) (noted j (Some k) on) (still_beneath k e a)
+
+    still_near : (j e : ℕ) → Near o m j e → Near o' n j e
+    still_near j e (near_staying a) = near_staying (still_stays e a)
+    still_near j e (near_below a) = near_below (still_beneath j e a)
+
+    pub later_instances : ((j : ℕ) → ObjectStands m j → ObjectStands n j) → ((j : ℕ) → NoObjectStands m j → NoObjectStands n j) → Later s o m o' n All
+    later_instances objects nobody = later_nears still_near objects nobody
 
 -- ---- cells that are changed
 
@@ -222,14 +223,20 @@ module _ (s : Source) (o : AllArrays) (m : Instances) (e : ℕ) (y : Instance (L
           record {
             now = other;
             lives = ap (live set_in) same ∙ set_lives;
-            grown = subst (λ z. Grown z other) is (record { text = refl; level = refl; encloser = refl; passing = refl; kept = refl; keys = keys; holds = holds });
+            grown = subst (λ z. Grown z other) is (record { text = refl; level = refl; encloser = refl; passing = refl; kept = λ k. k; keys = keys; holds = holds });
           }
 
       there : j ≢ e → StillThere set_in j x
       there differ = record { now = x; lives = elsewhere j differ ∙ now; grown = as_it_was x }
 
+  still_ending : (j : ℕ) → is_given_at_end m j ≡ true → is_given_at_end set_in j ≡ true
+  still_ending j a = ⊎_elim (λ same. here same) (λ differ. ap ends_in (elsewhere j differ) ∙ a) (cases_eq j e)
+    where
+      here : j ≡ e → is_given_at_end set_in j ≡ true
+      here same = ap ends_in (ap (live set_in) same ∙ set_lives) ∙ sym (ap ends_in (ap (live m) same ∙ lives)) ∙ a
+
   pub later_cells : Later s o m o set_in All
-  later_cells = later_instances s o o m set_in refl refl (λ j x e. e) still (λ j a. a) (λ j a. a)
+  later_cells = later_instances s o o m set_in refl refl (λ j x e. e) still still_ending (λ j a. a) (λ j a. a)
 
   fine_set : InstanceFine s o m e y → CellsFine s o m e y.text cells → InstanceFine s o set_in e other
   fine_set f fine = record {
@@ -239,7 +246,6 @@ module _ (s : Source) (o : AllArrays) (m : Instances) (e : ℕ) (y : Instance (L
     holds = f.holds;
     cells = cells_later s o m o set_in All later_cells e y.text tt cells fine;
     ends = f.ends;
-    not_kept = f.not_kept;
     out = enclosed_later s o m o set_in All later_cells e y.text y.encloser tt f.out;
   }
 
@@ -385,9 +391,12 @@ module _ (s : Source) (o : AllArrays) (m : Instances) (y : Instance (List Held))
   still_there : (j : ℕ) (x : Instance (List Held)) → live m j ≡ Some x → StillThere after j x
   still_there j x lives = record { now = x; lives = ap instances.unless_given (append_before m.instances y j (live_less m j x lives)) ∙ lives; grown = as_it_was x }
 
+  still_ending_then : (j : ℕ) → is_given_at_end m j ≡ true → is_given_at_end after j ≡ true
+  still_ending_then j e = let x = ending_there m j e in ap ends_in (ap instances.unless_given (append_before m.instances y j (live_less m j x.0 x.1))) ∙ e
+
   pub later_entered : Later s o m (on_top o u b q) after All
   later_entered =
-      later_instances s o (on_top o u b q) m after refl refl still_noted still_there
+      later_instances s o (on_top o u b q) m after refl refl still_noted still_there still_ending_then
       (λ j a. (a.0, append_before m.standings z j (there_is m.standings j a.0 a.1) ∙ a.1, a.2))
       (λ j a. (a.0, append_before m.standings z j (there_is m.standings j (NoObject a.0) a.1) ∙ a.1))
 
@@ -430,7 +439,7 @@ module _ (s : Source) (o : AllArrays) (m : Instances) (y : Instance (List Held))
 
   -- the new one knows what the one below it has near
   pub near_new : (i e : ℕ) → StoreFine s o m → u ≡ Some i → is_given_at_end after (length m.instances) ≡ true → Near o m i e → Near (on_top o u b q) after (length m.instances) e
-  near_new i e store is ends near = near_then (on_top o u b q) after (length m.instances) i e (near_below (one_lower ends (noted_new ∙ ap Some is) at_itself)) (near_later s o m (on_top o u b q) after All later_entered i e tt near)
+  near_new i e store is ends near = near_then (on_top o u b q) after (length m.instances) i e (near_below (one_lower ends (noted_new ∙ ap Some is) at_itself)) (later_entered.nears i e tt near)
     where
       noted_new : slice_get (on_top o u b q).beneath (length m.instances) ≡ Some u
       noted_new = ap (slice_get (on_top o u b q).beneath) (sym store.noted) ∙ append_at o.beneath u
@@ -601,6 +610,7 @@ module _ (s : Source) (o : AllArrays) (m : Instances) (i : ℕ) (store : StoreFi
     stays = λ j a. stays_not m i j ends a;
     apart = λ j e ok k. near_apart j e ok (knows_near s o m store j e k);
     near = near_apart;
+    nears = given_near;
     beneath = λ j x e. e;
     objects = λ j a. (a.0, ap (λ z. slice_get z j) (kept_given m i (slice_get m.instances i)) ∙ a.1, a.2);
     nobody = λ j a. (a.0, ap (λ z. slice_get z j) (kept_given m i (slice_get m.instances i)) ∙ a.1);
@@ -676,6 +686,7 @@ later_sure s o m o' m' P A p e = record {
   stays = λ j a q. e.stays j a;
   apart = λ j k ok a q. e.apart j k (ok p) a;
   near = λ j k ok a q. e.near j k (ok p) a;
+  nears = λ j k ok a. e.nears j k (ok p) a;
   beneath = e.beneath;
   objects = e.objects;
   nobody = e.nobody;
@@ -691,6 +702,7 @@ later_never s o m P A never = record {
   stays = λ j a q. absurd (never q);
   apart = λ j k ok a q. absurd (never q);
   near = λ j k ok a q. absurd (never q);
+  nears = λ j k ok a. a;
   beneath = λ j x a. a;
   objects = λ j a. a;
   nobody = λ j a. a;

@@ -189,7 +189,7 @@ module _ (s : Source) (ok : Typed s) (l : Limits) (o : World) (marks : Marks) (l
     fine_first = subst (CellsFine s seen_first M N k) same_cells (none_waits s seen_first M N k (filled Cells).cells (filled Cells).waits)
 
     fine : CellsFine s V' M N k Cells
-    fine = cells_later s seen_first M V' M All (later_instances s seen_first V' M M refl refl (λ q x e. e) (λ q x lives. record { now = x; lives = lives; grown = as_it_was x }) (λ q a. a) (λ q a. a)) N k tt Cells fine_first
+    fine = cells_later s seen_first M V' M All (later_instances s seen_first V' M M refl refl (λ q x e. e) (λ q x lives. record { now = x; lives = lives; grown = as_it_was x }) (λ q a. a) (λ q a. a) (λ q a. a)) N k tt Cells fine_first
 
     e : Later s (see marks o) m V m All
     e = (handed Cells).later marks m

@@ -1,7 +1,6 @@
 -- A program with a set is typed: `simset` in front, which brings the classes of sets.
 use Rattle.std.proofs.Common.{◌≡◌, ◌<◌, ℕ, zero, suc, List, [], ◌∷◌, length, true, false, Option, Some, None, refl, subst, arith}
 use Rattle.std.specs.Prelude.{slice_get}
-use Rattle.std.specs.List.{list_any}
 use Rattle.sim_base.specs.declared.numbering.DeclNo.{DeclNo}
 use Rattle.sim_scope.specs.declared.scopes.Declaration.{Declaration}
 use Rattle.sim_scope.specs.declared.types.Entry.{Entry}
@@ -21,7 +20,7 @@ use Rattle.sim_sound.proofs.Acyclic.{prefixes_from}
 use Rattle.sim_sound.proofs.Examples.{TextHolds, none_among, number, text_holds, true_never}
 use Rattle.sim_sound.proofs.Lists.{no_some}
 use Rattle.sim_sound.proofs.Prefixes.{LevelOf, level_is, prefix_level, same_level}
-use Rattle.sim_meaning.specs.Entries.{formals_of as formals_in, is_held, numbers_of}
+use Rattle.sim_meaning.specs.Entries.{numbers_of}
 use Rattle.std.specs.Fmt.{digits}
 use Rattle.sim_code.specs.Arrays.{element_place, making_array, copying_array, keeping_array, finding_element, giving_back, handed_over}
 use Rattle.sim_code.specs.Events.{pop_object, qualifying, referring, stopping, no_rule, ticking, taking, entering, having, when, computing, choosing, popping, pop_many, pop_plain, pop_truth, pop_integers, pop_operands, pop_text, answering, applying_one, applying_two, testing_step, performing, putting_back, assigning, making_text, joining}
@@ -399,14 +398,6 @@ y_no_class : (which : StandardClass) → text link_in_set 0 ≡ Some (StandardTe
 unfolding digits element_place making_array copying_array keeping_array finding_element giving_back handed_over stopping no_rule ticking taking entering having when computing choosing popping pop_many pop_plain pop_truth pop_integers pop_operands pop_text answering applying_one applying_two testing_step performing putting_back assigning making_text joining at_level kept_on pushing index level_of_machine cell_at jumping block_at own_block leaving with_result putting put_back is_text home_of first_cells leaving_of_meaning constants_of putting_of_steps back_of_steps text_constants text_constant is_variable stream_of own_result own_match result_meant is_inside text is_class_free declared_at constant_of calculate compare compare_as_texts connect same_objects same_texts two_of one_of step_test take_integer take_character take_text take_nothing row_of standard_effect default_mode mode_allowed marked type_named result_named mode_named first_of_procedure first_of_class variable_marks array_marks parameter_marks moded_marks specified_marks headed_marks procedure_marks class_marks virtual_name_marks program_marks inner_marks declaring of_segment of_mode_part of_specification of_specifier of_virtual of_heading declared_by declarations_of run_of_runs lookup shown_of_scopes encloser searched block_at_of_scopes declaration_from binding entry_of formals_of formal_of result_of source_of denoted type_at line_at level_of block_of block_around standard_name text_attribute sysin_attribute sysout_attribute signature undeclared program_events of_statement of_branch of_arm of_block of_whole of_class_body of_declaration accessible protects is_kind some_around_of some_around base brought_by level_shows shown_of is_detach ends_search outward virtual_of represented standard_at qualified_marks qualified_result connection_at transfer_at found_at is_attribute qualification class_prefix_marks prefixed_marks prefix_marks standard_marks marks_of_standard standard_prefix standard_texts class_block has_level is_simulation_block some_level_of shows_detach class_formals class_formals_of found_in if_found object_ended pop_object qualifying referring belongs class_at is_in is_of levels levels_of first_along is_this this_block this_of with_entry_at putting_reference own_attribute brought_marks brings_class provides_attribute
 y_no_class which e = cc
 
-y_keeps : (k : ℕ) → list_any is_held (formals_in link_in_set k) ≡ false
-unfolding digits element_place making_array copying_array keeping_array finding_element giving_back handed_over stopping no_rule ticking taking entering having when computing choosing popping pop_many pop_plain pop_truth pop_integers pop_operands pop_text answering applying_one applying_two testing_step performing putting_back assigning making_text joining at_level kept_on pushing index level_of_machine cell_at jumping block_at own_block leaving with_result putting put_back is_text home_of first_cells leaving_of_meaning constants_of putting_of_steps back_of_steps text_constants text_constant is_variable stream_of own_result own_match result_meant is_inside text is_class_free declared_at constant_of calculate compare compare_as_texts connect same_objects same_texts two_of one_of step_test take_integer take_character take_text take_nothing row_of standard_effect default_mode mode_allowed marked type_named result_named mode_named first_of_procedure first_of_class variable_marks array_marks parameter_marks moded_marks specified_marks headed_marks procedure_marks class_marks virtual_name_marks program_marks inner_marks declaring of_segment of_mode_part of_specification of_specifier of_virtual of_heading declared_by declarations_of run_of_runs lookup shown_of_scopes encloser searched block_at_of_scopes declaration_from binding entry_of formals_of formal_of result_of source_of denoted type_at line_at level_of block_of block_around standard_name text_attribute sysin_attribute sysout_attribute signature undeclared program_events of_statement of_branch of_arm of_block of_whole of_class_body of_declaration accessible protects is_kind some_around_of some_around base brought_by level_shows shown_of is_detach ends_search outward virtual_of represented standard_at qualified_marks qualified_result connection_at transfer_at found_at is_attribute qualification class_prefix_marks prefixed_marks prefix_marks standard_marks marks_of_standard standard_prefix standard_texts class_block has_level is_simulation_block some_level_of shows_detach class_formals class_formals_of found_in if_found object_ended pop_object qualifying referring belongs class_at is_in is_of levels levels_of first_along is_this this_block this_of with_entry_at putting_reference own_attribute brought_marks brings_class provides_attribute
-y_keeps zero = refl
-y_keeps (suc zero) = refl
-y_keeps (suc (suc zero)) = refl
-y_keeps (suc (suc (suc zero))) = refl
-y_keeps (suc (suc (suc (suc k)))) = refl
-
 y_block_alone : (k u : ℕ) (which : StandardClass) → k ≡ 0 → LevelOf link_in_set k u → text link_in_set u ≡ Some (StandardText which) → ⊥
 y_block_alone k u which e at is =
     let same : u ≡ 0 = alone_level link_in_set y_first (subst (λ z. LevelOf link_in_set z u) e at) in
@@ -434,5 +425,4 @@ y_typed = record {
   simulation_procedures = λ d name parameter result e named. absurd (true_never (is_simulation_name name) (subst (EntryThere link_in_set d) e (y_entries d.0)).1 named);
   bare = λ d row which at is. row_bare link_in_set (slice_get link_in_set.tables.declarations d.0) row which at is (y_bare d.0);
   no_set_block = λ k u which class es ds ss e level is. y_block_alone k u which (y_no_block k class es ds ss e) (level_is link_in_set k u level) is;
-  keeps_none = λ k result h a is e. y_keeps k;
 }

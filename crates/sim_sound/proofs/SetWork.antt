@@ -98,7 +98,7 @@ module _ (s : Source) (ok : Typed s) (l : Limits) (o : World) (g : Marks) (long 
   next p value vs = go p m i w (with_value value vs) rest
 
   later_then_on : (n : Memberships) → Later s (see g o) m (see g (Then n)) m All
-  later_then_on n = later_instances s (see g o) (see g (Then n)) m m refl refl (λ j x e. e) (λ j x lives. record { now = x; lives = lives; grown = as_it_was x }) (λ j a. a) (λ j a. a)
+  later_then_on n = later_instances s (see g o) (see g (Then n)) m m refl refl (λ j x e. e) (λ j x lives. record { now = x; lives = lives; grown = as_it_was x }) (λ j a. a) (λ j a. a) (λ j a. a)
 
   copies_on : (n : Memberships) (j d : ℕ) → Copies (see g o) (see g (Then n)) j d
   copies_on n = still_copies s (see g o) (see g (Then n)) m m refl refl (λ j x e. e) (λ j x lives. record { now = x; lives = lives; grown = as_it_was x })

@@ -294,7 +294,7 @@ module _ (s : Source) (ok : Typed s) (l : Limits) (o : World) (g : Marks) (long 
     O = record o { members = n }
 
     set_later : Later s (see g o) m (see g O) m All
-    set_later = later_instances s (see g o) (see g O) m m refl refl (λ j x e. e) (λ j x lives. record { now = x; lives = lives; grown = as_it_was x }) (λ j a. a) (λ j a. a)
+    set_later = later_instances s (see g o) (see g O) m m refl refl (λ j x e. e) (λ j x lives. record { now = x; lives = lives; grown = as_it_was x }) (λ j a. a) (λ j a. a) (λ j a. a)
 
     set_copies : (j d : ℕ) → Copies (see g o) (see g O) j d
     set_copies = still_copies s (see g o) (see g O) m m refl refl (λ j x e. e) (λ j x lives. record { now = x; lives = lives; grown = as_it_was x })

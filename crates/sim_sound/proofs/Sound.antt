@@ -281,7 +281,6 @@ pub record InstanceFine (s : Source) (o : AllArrays) (m : Instances) (j : ℕ) (
   pub holds : (u : ℕ) → LevelOf s x.text u → (key : Key) → KeyAmong key (keys_in s u (text s u)) → key_holds s x.text key ≡ key_holds s u key
   pub cells : CellsFine s o m j x.text x.cells
   pub ends : x.passing ≡ is_class_free s x.text
-  pub not_kept : x.kept ≡ false
   pub out : Enclosed s o m j x.text x.encloser
 
 -- ---- values in hand

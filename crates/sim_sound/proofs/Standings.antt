@@ -216,7 +216,7 @@ module _ (s : Source) (o o' : AllArrays) (m : Instances) (y : ℕ) (x z : Standi
       (cases_eq j y)
 
   pub later_changed : Later s o m o' changed All
-  later_changed = later_instances s o o' m changed real sights (λ j u e. ap (λ q. slice_get q j) under ∙ e) (λ j u lives. record { now = u; lives = lives; grown = as_it_was u }) still_object still_none
+  later_changed = later_instances s o o' m changed real sights (λ j u e. ap (λ q. slice_get q j) under ∙ e) (λ j u lives. record { now = u; lives = lives; grown = as_it_was u }) (λ j a. a) still_object still_none
 
   pub copies_changed : (j d : ℕ) → Copies o o' j d
   copies_changed = still_copies s o o' m changed real sights (λ j u e. ap (λ q. slice_get q j) under ∙ e) (λ j u lives. record { now = u; lives = lives; grown = as_it_was u })

@@ -7,17 +7,19 @@ use Rattle.frame_arena.specs.Frames.{Leads}
 use Rattle.frame_arena.specs.Stacks.{values_from, values_of}
 use Rattle.object_machine.specs.declared.machine.Flow.TheVariants as flow
 use Rattle.object_machine.specs.Entering.{Opens, Pays, as_frame, paid}
+use Rattle.object_machine.specs.Keeping.{KeptIn}
 use Rattle.object_machine.specs.Standing.{AllAtWork, AtWork, Leaves, Obeys, activation_at, below_of}
 use Rattle.object_machine.proofs.BlockFacts.{same_found}
 use Rattle.object_machine.proofs.Called.{values_long}
 use Rattle.object_machine.proofs.Calls.{all_fit, map_long, none_fit}
 use Rattle.object_machine.proofs.Firsts.{pays_off}
 use Rattle.object_machine.proofs.Going.{along, no_rule_in}
+use Rattle.object_machine.proofs.KeptFrames.{stores_kept, works_kept}
 use Rattle.object_machine.proofs.calling.enter_called.Goals as goal
 
-pub returns-then-not-keeps_none-clause-row : goal.returns-then-not-keeps_none-clause-row
+pub returns-then-not-keep_for-clause-row : goal.returns-then-not-keep_for-clause-row
 unfolding Obeys Leaves
-returns-then-not-keeps_none-clause-row c line now lead before o m s = tt
+returns-then-not-keep_for-clause-row c line now lead before o m s = tt
 
 pub returns-in-Err-clause-row : goal.returns-in-Err-clause-row
 unfolding Obeys Leaves
@@ -46,8 +48,8 @@ unfolding Obeys
 returns-in_default c = record {
   fits = c.requires.fits;
   others = c.requires.others;
-  texts = c.pay-flow.ensures.texts;
-  image = c.pay-flow.ensures.image;
+  texts = c.pay-flow.ensures.texts ∙ c.keep_for.ensures.texts;
+  image = c.pay-flow.ensures.image ∙ c.keep_for.ensures.image;
   row = λ line now lead before o m s.
       let l = c.args.limits.now in
       let t = c.args.top.now in
@@ -65,9 +67,14 @@ returns-in_default c = record {
       let cells : b.cells ≡ c.block.inside.cells = ap (λ b. b.cells) (sym c.block.view_is) in
       let w : c.words_instance.result ≡ words_of_block b = c.words_instance.ensures.words ∙ ap (λ n. instance_words n false) (sym cells) in
       let whole = all_fit l o m a under line vs (values_of acts.under stack) acts.parent.stamp c.args.number b q fill.cells is in
-      let pays : Pays c.pay-flow.result l line (words_of_block b) c.pay-flow.new.storage before now o m = subst (λ n. Pays c.pay-flow.result l line n c.pay-flow.new.storage before now o m) w (c.pay-flow.ensures.row line before now o m s.stores) in
+      let p = c.args.storage.now in
+      let p0 = c.keep_for.new.storage in
+      let m2 = frames_kept b (a ∷ under) m in
+      let kept : KeptIn p.frames.items p0.frames.items p.cells.items m m2 = subst (λ w. KeptIn p.frames.items p0.frames.items p.cells.items m (frames_kept b (a ∷ below_of w) m)) c.deref.ensures.value (c.keep_for.ensures.row c.if-not-keep_for.false p.cells.items m a refl s.stores.frames) in
+      let stores = stores_kept l p before now o m m2 p0 c.keep_for.ensures.same c.keep_for.ensures.stacks kept s.stores in
+      let pays : Pays c.pay-flow.result l line (words_of_block b) c.pay-flow.new.storage before now o m2 = subst (λ n. Pays c.pay-flow.result l line n c.pay-flow.new.storage before now o m2) w (c.pay-flow.ensures.row line before now o m2 stores) in
       along l line c.pay-flow.new.storage c.args.below.now.items before now c.pay-flow.result t.registers stack _ _ whole
-      (pays_off c.pay-flow.result l line (words_of_block b) c.pay-flow.new.storage before now o m c.in_default.not-On pays t.registers stack c.args.below.now.items _);
+      (pays_off c.pay-flow.result l line (words_of_block b) c.pay-flow.new.storage before now o m2 c.in_default.not-On pays t.registers stack c.args.below.now.items _);
 }
 
 pub returns-in-Ok-clause-row : goal.returns-in-Ok-clause-row
@@ -92,19 +99,22 @@ returns-in-Ok-clause-row c line now lead before o m s =
     let cells : b.cells ≡ c.block.inside.cells = ap (λ b. b.cells) (sym c.block.view_is) in
     let w : c.words_instance.result ≡ words_of_block b = c.words_instance.ensures.words ∙ ap (λ n. instance_words n false) (sym cells) in
     let whole = all_fit l o m a under line vs rest acts.parent.stamp k b q fill.cells is in
-    let pays : Pays flow.On l line (words_of_block b) c.pay-flow.new.storage before now o m = subst (λ n. Pays flow.On l line n c.pay-flow.new.storage before now o m) w (c.in-On.ensures.row line before now o m s.stores) in
+    let p0 = c.keep_for.new.storage in
+    let m2 = frames_kept b (a ∷ under) m in
+    let kept : KeptIn p.frames.items p0.frames.items p.cells.items m m2 = subst (λ w. KeptIn p.frames.items p0.frames.items p.cells.items m (frames_kept b (a ∷ below_of w) m)) c.deref.ensures.value (c.keep_for.ensures.row c.if-not-keep_for.false p.cells.items m a refl s.stores.frames) in
+    let stores = stores_kept l p before now o m m2 p0 c.keep_for.ensures.same c.keep_for.ensures.stacks kept s.stores in
+    let still = works_kept l p before now o m m2 p0 c.keep_for.ensures.same kept in
+    let pays : Pays flow.On l line (words_of_block b) c.pay-flow.new.storage before now o m2 = subst (λ n. Pays flow.On l line n c.pay-flow.new.storage before now o m2) w (c.in-On.ensures.row line before now o m2 stores) in
     let world = paid o (words_of_block b) in
     let p1 = c.pay-flow.new.storage in
     let same = c.in-On.ensures.same refl in
-    let works : AtWork p1 world m t.registers stack = subst (λ v. AtWork v world m t.registers stack) (sym same) s.top in
-    let others : AllAtWork p1 world m c.args.below.now.items = subst (λ v. AllAtWork v world m c.args.below.now.items) (sym same) s.others in
-    let leads : Leads p1.frames.items m acts.parent = subst (λ v. Leads v.frames.items m acts.parent) (sym same) (lead p.cells.items m s.stores.frames s.top.slots) in
-    let opens = subst (λ g. Opens l p1 c.open.new.storage k b g (Some acts.parent) c.in-Ok.next before now world m) c.as_frame.ensures
-    (c.in-Ok.ensures.row l before now world m pays.1 (λ r is. subst (λ f. Leads p1.frames.items m f) (same_found (Some acts.parent) acts.parent r refl is) leads)) in
-    let kept : frames_kept b (a ∷ under) m ≡ m = c.keeps_none.ensures c.if-not-keeps_none.false b (a ∷ under) m (ap (λ b. b.class_free) (sym c.block.view_is)) (ap (λ b. b.formals) (sym c.block.view_is) ∙ sym c.deref.ensures.value) in
+    let works : AtWork p1 world m2 t.registers stack = subst (λ v. AtWork v world m2 t.registers stack) (sym same) (still t.registers stack s.top) in
+    let others : AllAtWork p1 world m2 c.args.below.now.items = subst (λ v. AllAtWork v world m2 c.args.below.now.items) (sym same) (λ k u there. still u.registers u.stack.items (s.others k u there)) in
+    let leads : Leads p1.frames.items m2 acts.parent = subst (λ v. Leads v.frames.items m2 acts.parent) (sym same) (kept.leads acts.parent (lead p.cells.items m s.stores.frames s.top.slots)) in
+    let opens = subst (λ g. Opens l p1 c.open.new.storage k b g (Some acts.parent) c.in-Ok.next before now world m2) c.as_frame.ensures
+    (c.in-Ok.ensures.row l before now world m2 pays.1 (λ r is. subst (λ f. Leads p1.frames.items m2 f) (same_found (Some acts.parent) acts.parent r refl is) leads)) in
     let formals : b.formals ≡ c.deref-in-Ok.result.now = ap (λ b. b.formals) (sym c.block.view_is) ∙ sym c.deref-in-Ok.ensures.value in
     let top = c.pass.new.top in
     let f = c.pass.result in
-    let o2 = handed_over (length m.instances) (arrays_by_value b.formals vs) world in
-    along l line c.pass.new.storage c.pass.new.below.items before now f top.registers top.stack.items _ _ (whole ∙ pays.0 _ ∙ ap (λ m2. in_frame o2 m2 k b (Some acts.parent.stamp) fill.cells (waiting a rest ∷ under)) kept)
-    (c.pass.ensures.row l line before now p1 world m k b (as_frame b) (Some acts.parent) fill.cells formals opens works others fill.is)
+    along l line c.pass.new.storage c.pass.new.below.items before now f top.registers top.stack.items _ _ (whole ∙ pays.0 _ ∙ ap (λ n. in_frame (handed_over n (arrays_by_value b.formals vs) world) m2 k b (Some acts.parent.stamp) fill.cells (waiting a rest ∷ under)) (sym kept.count))
+    (c.pass.ensures.row l line before now p1 world m2 k b (as_frame b) (Some acts.parent) fill.cells formals opens works others fill.is)

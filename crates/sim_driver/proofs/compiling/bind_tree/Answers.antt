@@ -2,7 +2,7 @@ use Rattle.std.proofs.lemmas.Result.{err_from_is_err_and}
 use Rattle.sim_scope.specs.declared.bound.Bound.{Bound}
 use Rattle.sim_scope.specs.Source.{source_of}
 use Rattle.sim_driver.specs.Compiling.{BindsAs, CheckRejects, ChecksAs, TreeRejects}
-use Rattle.sim_driver.proofs.Known.{binds_as, keeping, lacking, lacking_none, refusal_of, rejected_tree}
+use Rattle.sim_driver.proofs.Known.{binds_as, lacking, lacking_match, lacking_none, refusal_of, rejected_tree}
 use Rattle.sim_driver.proofs.compiling.bind_tree.Goals as goal
 
 pub returns-then-lacks_form : goal.returns-then-lacks_form
@@ -24,10 +24,10 @@ returns-in_err-bound c =
     (λ rule line rejects. rejected_tree command tokens tree rule line free rejects)
     c.in_err-bound.ensures)
 
-pub returns-then-must_keep : goal.returns-then-must_keep
-returns-then-must_keep c =
+pub returns-then-lacks_match : goal.returns-then-lacks_match
+returns-then-lacks_match c =
     let bound = c.in_ok-bound.bound in
-    rw c.not_built-then-must_keep.ensures (keeping c.args.command c.args.tokens.now c.args.tree (source_of bound) c.lacks_form.result c.lacks_form.ensures c.if-lacks_form.false c.must_keep.result c.must_keep.ensures c.if-must_keep.true c.in_ok-bound.ensures)
+    rw c.not_built-then-lacks_match.ensures (lacking_match c.args.command c.args.tokens.now c.args.tree (source_of bound) c.lacks_form.result c.lacks_form.ensures c.if-lacks_form.false c.lacks_match.result c.lacks_match.ensures c.if-lacks_match.true c.in_ok-bound.ensures)
 
 pub returns : goal.returns
 returns c =
@@ -35,6 +35,6 @@ returns c =
     let tree = c.args.tree in
     let s = source_of c.in_ok-bound.bound in
     let runs = c.allowed_programs_run.ensures in
-    binds_as c.args.command tokens tree s c.lacks_form.result c.lacks_form.ensures c.if-lacks_form.false c.must_keep.result c.must_keep.ensures c.if-must_keep.false
+    binds_as c.args.command tokens tree s c.lacks_form.result c.lacks_form.ensures c.if-lacks_form.false c.lacks_match.result c.lacks_match.ensures c.if-lacks_match.false
     (λ allowed. record { built = runs.built tokens tree s allowed; ruled = runs.ruled tokens tree s allowed; stays_sane = runs.stays_sane tokens tree s allowed; names_objects = runs.names_objects tokens tree s allowed })
     c.in_ok-bound.ensures
