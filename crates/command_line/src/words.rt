@@ -14,6 +14,8 @@ pub enum Command {
     Run,
     /// `check`: to say what refuses it, and to run nothing.
     Check,
+    /// `print`: to write its canonical text, and to run nothing.
+    Print,
 }
 
 /// A command, its limits and the name of its file.
@@ -58,7 +60,7 @@ impl Command {
     {
         match self {
             Command::Run => true,
-            Command::Check => false,
+            Command::Check | Command::Print => false,
         }
     }
 }
@@ -70,6 +72,7 @@ fn command_of(word: &str) -> Option<Command>
     match word {
         "run" => Some(Command::Run),
         "check" => Some(Command::Check),
+        "print" => Some(Command::Print),
         _ => None,
     }
 }

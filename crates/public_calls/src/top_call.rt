@@ -96,7 +96,7 @@ pub fn check(
 #[test]
 fn words(rt: HostRuntime) {
     let usage =
-        b"usage: simula run [--storage W] [--ticks N] [--in-length N] [--out-length N] FILE, check FILE\n".as_slice();
+        b"usage: simula run [--storage W] [--ticks N] [--in-length N] [--out-length N] FILE, check|print FILE\n".as_slice();
     let unread = b"cannot read the file\n".as_slice();
     let rows = [
         ([].as_slice(), 5, b"".as_slice(), usage),
@@ -111,16 +111,89 @@ fn words(rt: HostRuntime) {
             usage,
         ),
         (&["run", "--storage", "999", "source.sim"], 5, b"", usage),
+        (&["print", "--storage=1000", "source.sim"], 5, b"", usage),
         (&["run", "--", "--ticks=5", "source.sim"], 5, b"", usage),
         (&["check", "other.sim"], 6, b"", unread),
         (&["run", "source.sim"], 0, b"  42\n", b""),
         (&["check", "source.sim"], 0, b"", b""),
+        (
+            &["print", "source.sim"],
+            0,
+            b"begin\n  outint(42, 4);\n  outimage\nend\n",
+            b"",
+        ),
     ];
     for (row, (words, status, out, diag)) in rows.into_iter().enumerate() {
         let setting = sound(b"begin outint(42,4); outimage end");
         let wanted = Wanted { status, out, diag };
         check(&rt, rt.alloc(), row, words, setting, wanted);
     }
+}
+
+// `print` asks the rules of spelling and of the grammar alone.
+#[test]
+fn printing(rt: HostRuntime) {
+    let unexpected = b"line 1: Y1 unexpected token\n".as_slice();
+    let rows = [
+        (b"".as_slice(), 1, b"".as_slice(), unexpected),
+        (
+            b"begin\n# end",
+            1,
+            b"",
+            b"line 2: X1 byte begins no token\n",
+        ),
+        (
+            b"BEGIN comment hello; INTEGER A,b = -5; ; Text t; ; ;\nIF a LT 3 THEN BEGIN a := 2R11 END ELSE outtext(\"x\"\"y\" \"z!65!!9!!\");\nt.PUTCHAR(''');;\nEND of it ; ;",
+            0,
+            b"begin\n  integer a, b = - 5;\n  text t;\n  if a < 3 then begin\n    a := 3\n  end else outtext(\"x\"\"yzA!9!!33!\");\n  t.putchar('!39!');\n  ;\nend\n",
+            b"",
+        ),
+        (
+            b"begin class c; protected hidden n; begin integer n end; ref(c) x; undeclared end",
+            0,
+            b"begin\n  class c;\n  hidden protected n;\n  begin\n    integer n;\n  end;\n  ref (c) x;\n  undeclared\nend\n",
+            b"",
+        ),
+    ];
+    for (row, (source, status, out, diag)) in rows.into_iter().enumerate() {
+        let wanted = Wanted { status, out, diag };
+        check(
+            &rt,
+            rt.alloc(),
+            row,
+            &["print", "source.sim"],
+            sound(source),
+            wanted,
+        );
+        if status == 0 {
+            let again = Wanted { status, out, diag };
+            check(
+                &rt,
+                rt.alloc(),
+                row,
+                &["print", "source.sim"],
+                sound(out),
+                again,
+            );
+        }
+    }
+    let failing = Setting {
+        out_failing: &[0],
+        ..sound(b"begin end")
+    };
+    let wanted = Wanted {
+        status: 8,
+        out: b"",
+        diag: b"output fault\n",
+    };
+    check(
+        &rt,
+        rt.alloc(),
+        4,
+        &["print", "source.sim"],
+        failing,
+        wanted,
+    );
 }
 
 // The program takes 1001 words and 4 ticks, and reads a line of 81 characters.

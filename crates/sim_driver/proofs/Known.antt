@@ -21,17 +21,18 @@ use Rattle.sim_scope.specs.declared.scopes.Denotation.{Denotation}
 use Rattle.sim_scope.specs.declared.types.SimType.{SimType}
 use Rattle.sim_scope.specs.Source.{Source, source_of}
 use Rattle.sim_scope.specs.Tables.{Tables}
+use Rattle.sim_print.specs.Canonical.{canonical_text}
 use Rattle.sim_static.specs.Check.{Allowed, Checked, Refused, answer, check_of}
 use Rattle.sim_static.specs.UnbuiltForms.{has_unbuilt_form}
 use Rattle.sim_static.specs.UnbuiltNames.{has_unbuilt_name}
 use Rattle.sim_allowed.specs.MatchParameters.{has_match_with_parameters}
 use Rattle.sim_built.specs.Allowed.{IsAllowed}
 use Rattle.sim_run.specs.RunEnds.{IsRunnable}
-use Rattle.sim_driver.specs.Compiling.{AllowedCompiles, AllowedCompilesIf, Answers, Bad, BindsAs, BoundCompiles, CheckBinds, CheckRejects, ChecksAs, CheckedCompiles, Compiled, Deep, IsBad, IsDeep, IsParsed, LexedCompiles, Parsed, ParsedCompiles, Rejected, Same, SourceBinds, SourceCompiles, SourceRejects, TokensCompile, TokensReject, TreeBinds, TreeCompiles, TreeCompilesIf, TreeRejects, Whole, lacks_form, lacks_match, source_with, token_line}
+use Rattle.sim_driver.specs.Compiling.{AllowedCompiles, AllowedCompilesIf, Answers, Bad, BindsAs, BoundCompiles, CheckBinds, CheckRejects, ChecksAs, CheckedCompiles, Compiled, Deep, IsBad, IsDeep, IsParsed, LexedCompiles, Parsed, ParsedCompiles, Printed, Rejected, Same, SourceBinds, SourceCompiles, SourcePrints, SourceRejects, TokensCompile, TokensReject, TreeBinds, TreeCompiles, TreeCompilesIf, TreeRejects, Whole, WholeCompiles, lacks_form, lacks_match, source_with, token_line}
 use Rattle.sim_driver.specs.declared.compiling.Refusal.{Refusal}
 use Rattle.sim_driver.specs.declared.compiling.Refusal.TheVariants as refusal
 use Rattle.command_line.specs.declared.words.Command.{Command}
-use Rattle.command_line.specs.declared.words.Command.TheVariants.{Check, Run}
+use Rattle.command_line.specs.declared.words.Command.TheVariants.{Check, Print, Run}
 
 -- what holds, holds of an Ok
 pub holds_on_ok : {T E P : Type 0} (r : Result T E) → P → OnOk r P
@@ -96,19 +97,30 @@ move_tree one command tokens p q x y c is =
     subst (λ b. TreeCompilesIf b command tokens q c) (ap (λ z. lacks_form command tokens z) (one tokens p q x y))
     (move_if (lacks_form command tokens (program_syntax p)) command tokens p q (same_source one tokens p q x y) (same_checked one tokens p q x y) c is)
 
+move_whole : OneSyntax → (command : Command) (tokens : List Token) (p q : Tree) → IsTree tokens p → IsTree tokens q → (c : Compiled) → WholeCompiles command tokens p c → WholeCompiles command tokens q c
+move_whole one Run tokens p q x y c is = move_tree one Run tokens p q x y c is
+move_whole one Check tokens p q x y c is = move_tree one Check tokens p q x y c is
+move_whole one Print tokens p q x y c is = is ∙ ap (λ s. Printed (canonical_text s)) (one tokens p q x y)
+
 -- The steps.
 
 -- what a command makes of tokens that have a tree
-of_parsed : OneSyntax → (command : Command) (tokens : List Token) (tree : Tree) → IsTree tokens tree → (m : Parsed) (c : Compiled) → IsParsed tokens m → ParsedCompiles command tokens m c → TreeCompiles command tokens tree c
-of_parsed one command tokens tree is (Whole p) c x gives = move_tree one command tokens p tree x is c gives
+of_parsed : OneSyntax → (command : Command) (tokens : List Token) (tree : Tree) → IsTree tokens tree → (m : Parsed) (c : Compiled) → IsParsed tokens m → ParsedCompiles command tokens m c → WholeCompiles command tokens tree c
+of_parsed one command tokens tree is (Whole p) c x gives = move_whole one command tokens p tree x is c gives
 of_parsed one command tokens tree is (Bad m) c x gives = absurd (never_both limit tokens is.reads x.comes)
 of_parsed one command tokens tree is (Deep m) c x gives = absurd (never_both limit tokens is.reads x.comes)
 
-pub tree_tokens : OneSyntax → (command : Command) (tokens : List Token) (tree : Tree) (c : Compiled) → IsTree tokens tree → Same (TokensCompile command tokens c) (TreeCompiles command tokens tree c)
+pub tree_tokens : OneSyntax → (command : Command) (tokens : List Token) (tree : Tree) (c : Compiled) → IsTree tokens tree → Same (TokensCompile command tokens c) (WholeCompiles command tokens tree c)
 tree_tokens one command tokens tree c is = record {
   there = λ t. of_parsed one command tokens tree is t.parsed c t.parses t.gives;
   back = λ gives. record { parsed = Whole tree; parses = is; gives = gives };
 }
+
+-- `run` and `check` ask the static rules of it
+whole_tree : (command : Command) (tokens : List Token) (tree : Tree) (c : Compiled) → (command ≡ Print → ⊥) → Same (WholeCompiles command tokens tree c) (TreeCompiles command tokens tree c)
+whole_tree Run tokens tree c asks = itself (TreeCompiles Run tokens tree c)
+whole_tree Check tokens tree c asks = itself (TreeCompiles Check tokens tree c)
+whole_tree Print tokens tree c asks = absurd (asks refl)
 
 -- tokens that the parser refuses
 of_bad : (command : Command) (tokens : List Token) (bad : ℕ) → IsBad tokens bad → (m : Parsed) (c : Compiled) → IsParsed tokens m → ParsedCompiles command tokens m c → c ≡ Rejected rule.UnexpectedToken (token_line tokens bad)
@@ -190,17 +202,24 @@ pub refused_source : (command : Command) (source : List ℕ) (tokens : List Toke
 refused_source command source tokens r line spells rejects c =
     same_then (SourceCompiles command source c) (TokensCompile command tokens c) (c ≡ Rejected r line) (spelled_source command source tokens c spells) (rejects c)
 
-whole_source_is : OneSyntax → (source : List ℕ) (tokens : List Token) (tree : Tree) → Reads source (Spelled tokens) → IsTree tokens tree → (command : Command) (c : Compiled) → Same (SourceCompiles command source c) (TreeCompiles command tokens tree c)
+whole_source_is : OneSyntax → (source : List ℕ) (tokens : List Token) (tree : Tree) → Reads source (Spelled tokens) → IsTree tokens tree → (command : Command) (c : Compiled) → Same (SourceCompiles command source c) (WholeCompiles command tokens tree c)
 whole_source_is one source tokens tree spells is command c =
-    same_then (SourceCompiles command source c) (TokensCompile command tokens c) (TreeCompiles command tokens tree c) (spelled_source command source tokens c spells) (tree_tokens one command tokens tree c is)
+    same_then (SourceCompiles command source c) (TokensCompile command tokens c) (WholeCompiles command tokens tree c) (spelled_source command source tokens c spells) (tree_tokens one command tokens tree c is)
 
-pub bound_source : OneSyntax → (command : Command) (source : List ℕ) (tokens : List Token) (tree : Tree) (s : Source) → Reads source (Spelled tokens) → IsTree tokens tree → TreeBinds command tokens tree s → SourceBinds command source s
-bound_source one command source tokens tree s spells is binds c =
-    same_then (SourceCompiles command source c) (TreeCompiles command tokens tree c) (BoundCompiles command s c) (whole_source_is one source tokens tree spells is command c) (binds c)
+tree_source : OneSyntax → (command : Command) (source : List ℕ) (tokens : List Token) (tree : Tree) → (command ≡ Print → ⊥) → Reads source (Spelled tokens) → IsTree tokens tree → (c : Compiled) → Same (SourceCompiles command source c) (TreeCompiles command tokens tree c)
+tree_source one command source tokens tree asks spells is c =
+    same_then (SourceCompiles command source c) (WholeCompiles command tokens tree c) (TreeCompiles command tokens tree c) (whole_source_is one source tokens tree spells is command c) (whole_tree command tokens tree c asks)
 
-pub rejected_source : OneSyntax → (command : Command) (source : List ℕ) (tokens : List Token) (tree : Tree) (r : Rule) (line : Line) → Reads source (Spelled tokens) → IsTree tokens tree → TreeRejects command tokens tree r line → SourceRejects command source r line
-rejected_source one command source tokens tree r line spells is rejects c =
-    same_then (SourceCompiles command source c) (TreeCompiles command tokens tree c) (c ≡ Rejected r line) (whole_source_is one source tokens tree spells is command c) (rejects c)
+pub printed_source : OneSyntax → (source : List ℕ) (tokens : List Token) (tree : Tree) → Reads source (Spelled tokens) → IsTree tokens tree → SourcePrints source (canonical_text (program_syntax tree))
+printed_source one source tokens tree spells is c = whole_source_is one source tokens tree spells is Print c
+
+pub bound_source : OneSyntax → (command : Command) (source : List ℕ) (tokens : List Token) (tree : Tree) (s : Source) → (command ≡ Print → ⊥) → Reads source (Spelled tokens) → IsTree tokens tree → TreeBinds command tokens tree s → SourceBinds command source s
+bound_source one command source tokens tree s asks spells is binds c =
+    same_then (SourceCompiles command source c) (TreeCompiles command tokens tree c) (BoundCompiles command s c) (tree_source one command source tokens tree asks spells is c) (binds c)
+
+pub rejected_source : OneSyntax → (command : Command) (source : List ℕ) (tokens : List Token) (tree : Tree) (r : Rule) (line : Line) → (command ≡ Print → ⊥) → Reads source (Spelled tokens) → IsTree tokens tree → TreeRejects command tokens tree r line → SourceRejects command source r line
+rejected_source one command source tokens tree r line asks spells is rejects c =
+    same_then (SourceCompiles command source c) (TreeCompiles command tokens tree c) (c ≡ Rejected r line) (tree_source one command source tokens tree asks spells is c) (rejects c)
 
 -- a tree whose forms are built, of a program that the static rules allow
 
@@ -225,10 +244,12 @@ neither true b is = cc is
 has_none : (command : Command) (tokens : List Token) (p : Program) → lacks_form command tokens p ≡ false → command ≡ Run → (has_unbuilt_name tokens ≡ false) × (has_unbuilt_form p ≡ false)
 has_none Run tokens p none is = neither (has_unbuilt_name tokens) (has_unbuilt_form p) none
 has_none Check tokens p none is = cc is
+has_none Print tokens p none is = cc is
 
 lacks_none : (command : Command) (s : Source) → lacks_match command s ≡ false → command ≡ Run → has_match_with_parameters s ≡ false
 lacks_none Run s none is = none
 lacks_none Check s none is = cc is
+lacks_none Print s none is = cc is
 
 -- what breaks no rule and has only forms that are built can be run, where no match has parameters
 pub binds_as : (command : Command) (tokens : List Token) (tree : Tree) (s : Source) (lacks : Bool) → lacks ≡ lacks_form command tokens (program_syntax tree) → lacks ≡ false → (unmatched : Bool) → unmatched ≡ lacks_match command s → unmatched ≡ false → (IsAllowed tokens tree s → IsRunnable s)

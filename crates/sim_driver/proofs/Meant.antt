@@ -1,5 +1,5 @@
 -- What a program means, from how it was run.
-use Rattle.std.proofs.Common.{◌≡◌, ℕ, List, [], Option, OnOk, Result, Ok, Err, refl, sym, ap, ◌∙◌, subst}
+use Rattle.std.proofs.Common.{◌≡◌, ◌⊎◌, inl, inr, ℕ, List, [], Option, OnOk, Result, Ok, Err, refl, sym, ap, ◌∙◌, subst}
 use Rattle.std.proofs.KnownBytes.{Appends-nil}
 use Rattle.std.specs.Io.KnownBytes.{Appends}
 use Rattle.sim_base.specs.declared.limits.Limits.{Limits}
@@ -11,12 +11,15 @@ use Rattle.sim_run.specs.declared.running.RunEnd.{RunEnd}
 use Rattle.sim_run.specs.RunEnds.{BeforeARead, Begins, Broken, Ran, TakesNothing}
 use Rattle.sim_run.proofs.OneEnd.{one_end}
 use Rattle.sim_scope.specs.Source.{Source}
-use Rattle.sim_driver.specs.Compiling.{Compiled, Rejected, Runnable, Sound, SourceBinds, SourceCompiles, SourceRejects}
+use Rattle.sim_driver.specs.Compiling.{BoundCompiles, Compiled, Printed, Rejected, Runnable, Sound, SourceBinds, SourceCompiles, SourcePrints, SourceRejects}
+use Rattle.sim_driver.specs.OutputAfter.{InputAfter}
+use Rattle.sim_driver.specs.declared.failure.RunFailure.{RunFailure}
+use Rattle.sim_driver.specs.declared.failure.RunFailure.TheVariants.{Input, Memory, Output}
 use Rattle.sim_driver.specs.SourceMeaning.{BoundMeans, IsCutOff, Meaning, Means, RunMeans, SourceMeans, ending_of}
 use Rattle.sim_driver.specs.declared.status.Ending.{Ending}
 use Rattle.sim_driver.specs.declared.status.Ending.TheVariants.{Normal, Refused}
 use Rattle.command_line.specs.declared.words.Command.{Command}
-use Rattle.command_line.specs.declared.words.Command.TheVariants.{Check, Run}
+use Rattle.command_line.specs.declared.words.Command.TheVariants.{Check, Print, Run}
 
 -- ---- a run
 
@@ -50,13 +53,51 @@ broken_by faults now l s input old new e f is broken = subst (λ x. Broken fault
 
 -- ---- what is checked and not run
 
-pub checked_means : (l : Limits) (s : Source) (input : List ℕ) → (meaning : Meaning) × BoundMeans Check l s input meaning
-checked_means l s input = (record { ending = Normal; output = [] }, record { compiled = Sound; compiles = refl; means = refl })
+pub not_run : (command : Command) → (command ≡ Check) ⊎ (command ≡ Print) → command ≡ Run → ⊥
+not_run command (inl is) run = cc (run, is)
+not_run command (inr is) run = cc (run, is)
 
-pub checked_does : (l : Limits) (s : Source) (input : List ℕ) (old : Option (List ℕ)) (meaning : Meaning) → BoundMeans Check l s input meaning → (Normal ≡ meaning.ending) × Appends old old meaning.output
-checked_does l s input old meaning is =
-    let sound : Means l input Sound meaning = subst (λ (c : Compiled). Means l input c meaning) is.compiles is.means in
+abbrev says_nothing : Meaning
+says_nothing = record { ending = Normal; output = [] }
+
+pub checked_means : (command : Command) (l : Limits) (s : Source) (input : List ℕ) → (command ≡ Run → ⊥) → (meaning : Meaning) × BoundMeans command l s input meaning
+checked_means Run l s input idle = absurd (idle refl)
+checked_means Check l s input idle = (says_nothing, record { compiled = Sound; compiles = refl; means = refl })
+checked_means Print l s input idle = (says_nothing, record { compiled = Sound; compiles = refl; means = refl })
+
+sound_of : (command : Command) (s : Source) (c : Compiled) → (command ≡ Run → ⊥) → BoundCompiles command s c → c ≡ Sound
+sound_of Run s c idle is = absurd (idle refl)
+sound_of Check s c idle is = is
+sound_of Print s c idle is = is
+
+pub checked_does : (command : Command) (l : Limits) (s : Source) (input : List ℕ) (old : Option (List ℕ)) (meaning : Meaning) → (command ≡ Run → ⊥) → BoundMeans command l s input meaning → (Normal ≡ meaning.ending) × Appends old old meaning.output
+checked_does command l s input old meaning idle is =
+    let sound : Means l input Sound meaning = subst (λ (c : Compiled). Means l input c meaning) (sound_of command s is.compiled idle is.compiles) is.means in
     subst (λ (m : Meaning). (Normal ≡ m.ending) × Appends old old m.output) (sym sound) (refl, Appends-nil old)
+
+-- ---- what is printed
+
+pub printed_means : (l : Limits) (source input text : List ℕ) → SourcePrints source text → (meaning : Meaning) × SourceMeans Print l source input meaning
+printed_means l source input text prints = (record { ending = Normal; output = text }, record { compiled = Printed text; compiles = (prints (Printed text)).back refl; means = refl })
+
+printed_as : (l : Limits) (source input text : List ℕ) (meaning : Meaning) → SourcePrints source text → SourceMeans Print l source input meaning → Means l input (Printed text) meaning
+printed_as l source input text meaning prints is = subst (λ (c : Compiled). Means l input c meaning) ((prints is.compiled).there is.compiles) is.means
+
+pub printed_does : (l : Limits) (source input text : List ℕ) (old new : Option (List ℕ)) → SourcePrints source text → Appends old new text → (meaning : Meaning) → SourceMeans Print l source input meaning → (Normal ≡ meaning.ending) × Appends old new meaning.output
+printed_does l source input text old new prints wrote meaning is =
+    subst (λ (m : Meaning). (Normal ≡ m.ending) × Appends old new m.output) (sym (printed_as l source input text meaning prints is)) (refl, wrote)
+
+-- what does not fail by the input leaves it as it was
+pub unread : (faults : ℕ) (r : Result Ending RunFailure) → (r ≡ Err Input → ⊥) → InputAfter faults faults r
+unread faults (Ok ending) sound = refl
+unread faults (Err Memory) sound = refl
+unread faults (Err Input) sound = absurd (sound refl)
+unread faults (Err Output) sound = refl
+
+-- what failed wrote a part of it
+pub printed_part : (l : Limits) (source input text : List ℕ) (old new : Option (List ℕ)) → SourcePrints source text → AddsPrefix old new text → (meaning : Meaning) → SourceMeans Print l source input meaning → AddsPrefix old new meaning.output
+printed_part l source input text old new prints wrote meaning is =
+    subst (λ (m : Meaning). AddsPrefix old new m.output) (sym (printed_as l source input text meaning prints is)) wrote
 
 -- ---- what was cut off, and what is rejected
 
@@ -68,6 +109,7 @@ not_rejected s rule line is = cc
 pub untouched_by : {P : Type 0} (command : Command) (source : List ℕ) (s : Source) (rule : Rule) (line : Line) → SourceBinds command source s → ((command ≡ Run → ⊥) → P) → SourceCompiles Run source (Rejected rule line) → P
 untouched_by Run source s rule line binds idle compiles = absurd (not_rejected s rule line ((binds (Rejected rule line)).there compiles))
 untouched_by Check source s rule line binds idle compiles = idle (λ is. cc is)
+untouched_by Print source s rule line binds idle compiles = idle (λ is. cc is)
 
 -- and one that runs a program does what is known of the run of that program
 pub takes_by : {P : Type 0} (command : Command) (l : Limits) (source input : List ℕ) (s t : Source) → SourceBinds command source t → ((command ≡ Run → ⊥) → P) → (TakesNothing t l input → P) → SourceCompiles Run source (Runnable s) → TakesNothing s l input → P
@@ -76,14 +118,16 @@ takes_by Run l source input s t binds idle takes compiles never = takes (subst (
     same_program : {s t : Source} → Runnable s ≡ Runnable t → s ≡ t
     same_program is = cc is
 takes_by Check l source input s t binds idle takes compiles never = idle (λ is. cc is)
+takes_by Print l source input s t binds idle takes compiles never = idle (λ is. cc is)
+
+not_both : {E : Type 0} (e : E) → Ok Normal ≡ Err e → ⊥
+not_both e same = cc
 
 pub cut_by : {E P : Type 0} (faults now : ℕ) (command : Command) (l : Limits) (source input : List ℕ) (s : Source) (old new : Option (List ℕ)) (r : Result Ending E) (e : E) → SourceBinds command source s → ((command ≡ Run → ⊥) → (r ≡ Ok Normal) × P) → r ≡ Err e → BeforeARead faults now s l input old new
     → IsCutOff faults now command l source input old new
 cut_by faults now Run l source input s old new r e binds idle is at = (refl, s, (binds (Runnable s)).back refl, at)
-cut_by faults now Check l source input s old new r e binds idle is at = absurd (not_both (sym (idle (λ same. cc same)).0 ∙ is))
-  where
-    not_both : Ok Normal ≡ Err e → ⊥
-    not_both same = cc
+cut_by faults now Check l source input s old new r e binds idle is at = absurd (not_both e (sym (idle (λ same. cc same)).0 ∙ is))
+cut_by faults now Print l source input s old new r e binds idle is at = absurd (not_both e (sym (idle (λ same. cc same)).0 ∙ is))
 
 -- ---- a source
 

@@ -1,5 +1,5 @@
--- What a command makes of a source: for `run` a program that can be run, for `check` that no rule refuses it, and for both the rule that
--- refuses it, with the line.
+-- What a command makes of a source: for `run` a program that can be run, for `check` that no rule refuses it, for `print` its canonical text,
+-- and for each the rule that refuses it, with the line. `print` asks the rules of spelling and of the grammar alone.
 use Rattle.std.specs.Prelude.{◌≡◌, ℕ, Bool, true, false, ◌||◌, List, Result, Ok, Err, Option, slice_index_or, ⊤}
 use Rattle.sim_base.specs.Place.{line_at}
 use Rattle.sim_base.specs.declared.numbering.Line.{Line}
@@ -18,6 +18,7 @@ use Rattle.sim_tree.specs.Syntax.{Program}
 use Rattle.sim_tree.specs.SyntaxOfProgram.{program_syntax}
 use Rattle.sim_tree.specs.Tree.{IsTree, limit}
 use Rattle.sim_tree.specs.declared.program.Program.{Program as Tree}
+use Rattle.sim_print.specs.Canonical.{canonical_text}
 use Rattle.sim_static.specs.Check.{Allowed, Checked, Refused, check_of}
 use Rattle.sim_static.specs.UnbuiltForms.{has_unbuilt_form}
 use Rattle.sim_static.specs.UnbuiltNames.{has_unbuilt_name}
@@ -27,12 +28,14 @@ use Rattle.sim_run.specs.RunEnds.{IsRunnable}
 use Rattle.sim_driver.specs.declared.compiling.Refusal.{Refusal}
 use Rattle.sim_driver.specs.declared.compiling.Refusal.TheVariants as refusal
 use Rattle.command_line.specs.declared.words.Command.{Command}
-use Rattle.command_line.specs.declared.words.Command.TheVariants.{Run, Check}
+use Rattle.command_line.specs.declared.words.Command.TheVariants.{Run, Print}
 
 pub data Compiled : Type 0 where
   Runnable : Source → Compiled
   -- no rule refuses it
   Sound : Compiled
+  -- its canonical text
+  Printed : List ℕ → Compiled
   Rejected : Rule → Line → Compiled
 
 abbrev pub token_line : List Token → ℕ → Line
@@ -45,12 +48,12 @@ not_built = Rejected FormNotBuilt (record { 0 = 1 })
 -- what a command makes of a program that is not rejected
 abbrev pub BoundCompiles : Command → Source → Compiled → Type 0
 BoundCompiles Run s compiled = compiled ≡ Runnable s
-BoundCompiles Check s compiled = compiled ≡ Sound
+BoundCompiles command s compiled = compiled ≡ Sound
 
 -- For `run` it is not built that a procedure with parameters matches a virtual.
 abbrev pub lacks_match : Command → Source → Bool
 lacks_match Run s = has_match_with_parameters s
-lacks_match Check s = false
+lacks_match command s = false
 
 -- such a program is rejected behind the static rules
 abbrev pub AllowedCompilesIf : (lacks : Bool) → Command → Source → Compiled → Type 0
@@ -74,7 +77,7 @@ CheckedCompiles command tokens tree (Allowed tables uses found_in types) compile
 -- `check` knows all forms.
 abbrev pub lacks_form : Command → List Token → Program → Bool
 lacks_form Run tokens p = has_unbuilt_name tokens || has_unbuilt_form p
-lacks_form Check tokens p = false
+lacks_form command tokens p = false
 
 -- a source with such a form is rejected before the static rules are asked
 abbrev pub TreeCompilesIf : (lacks : Bool) → Command → List Token → Tree → Compiled → Type 0
@@ -84,6 +87,11 @@ TreeCompilesIf false command tokens tree compiled = CheckedCompiles command toke
 -- what a command makes of a tree of these tokens
 abbrev pub TreeCompiles : Command → List Token → Tree → Compiled → Type 0
 TreeCompiles command tokens tree compiled = TreeCompilesIf (lacks_form command tokens (program_syntax tree)) command tokens tree compiled
+
+-- what a command makes of a tree: `print` asks no rule of it
+abbrev pub WholeCompiles : Command → List Token → Tree → Compiled → Type 0
+WholeCompiles Print tokens tree compiled = compiled ≡ Printed (canonical_text (program_syntax tree))
+WholeCompiles command tokens tree compiled = TreeCompiles command tokens tree compiled
 
 -- each of two things where the other is
 pub record Same (A B : Type 0) : Type 0 where
@@ -128,7 +136,7 @@ IsParsed tokens (Deep deep) = IsDeep tokens deep
 
 -- what is no program is rejected at the line of the token that is to blame
 abbrev pub ParsedCompiles : Command → List Token → Parsed → Compiled → Type 0
-ParsedCompiles command tokens (Whole program) compiled = TreeCompiles command tokens program compiled
+ParsedCompiles command tokens (Whole program) compiled = WholeCompiles command tokens program compiled
 ParsedCompiles command tokens (Bad bad) compiled = compiled ≡ Rejected UnexpectedToken (token_line tokens bad)
 ParsedCompiles command tokens (Deep deep) compiled = compiled ≡ Rejected NestedTooDeeply (token_line tokens deep)
 
@@ -155,6 +163,10 @@ SourceRejects command source rule line = (compiled : Compiled) → Same (SourceC
 
 abbrev pub TokensReject : Command → List Token → Rule → Line → Type 0
 TokensReject command tokens rule line = (compiled : Compiled) → Same (TokensCompile command tokens compiled) (compiled ≡ Rejected rule line)
+
+-- the source has this canonical text
+abbrev pub SourcePrints : List ℕ → List ℕ → Type 0
+SourcePrints source text = (compiled : Compiled) → Same (SourceCompiles Print source compiled) (compiled ≡ Printed text)
 
 -- the source is this program, which breaks no rule
 abbrev pub SourceBinds : Command → List ℕ → Source → Type 0

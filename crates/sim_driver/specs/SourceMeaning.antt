@@ -7,7 +7,7 @@ use Rattle.sim_run.specs.declared.running.RunEnd.{RunEnd}
 use Rattle.sim_run.specs.declared.running.RunEnd.TheVariants as end
 use Rattle.sim_run.specs.RunEnds.{BeforeARead, RunEnds}
 use Rattle.sim_scope.specs.Source.{Source}
-use Rattle.sim_driver.specs.Compiling.{BoundCompiles, Compiled, Rejected, Runnable, SourceCompiles, Sound}
+use Rattle.sim_driver.specs.Compiling.{BoundCompiles, Compiled, Printed, Rejected, Runnable, SourceCompiles, Sound}
 use Rattle.sim_driver.specs.declared.status.Ending.{Ending}
 use Rattle.sim_driver.specs.declared.status.Ending.TheVariants.{Normal, Refused, RunFault, StorageExhausted, TickLimit}
 use Rattle.command_line.specs.declared.words.Command.{Command}
@@ -31,10 +31,11 @@ pub record RunMeans (l : Limits) (s : Source) (input : List ℕ) (meaning : Mean
   pub ends : RunEnds s l input end meaning.output
   pub same : meaning.ending ≡ ending_of l end
 
--- the meaning of what a command makes of a source; one that is checked runs nothing
+-- the meaning of what a command makes of a source; one that is checked runs nothing, and one that is printed writes its text
 abbrev pub Means : Limits → (input : List ℕ) → Compiled → Meaning → Type 0
 Means l input (Rejected rule line) meaning = meaning ≡ record { ending = Refused rule line; output = [] }
 Means l input Sound meaning = meaning ≡ record { ending = Normal; output = [] }
+Means l input (Printed text) meaning = meaning ≡ record { ending = Normal; output = text }
 Means l input (Runnable s) meaning = RunMeans l s input meaning
 
 -- what a source means to a command under these limits, where the input holds these bytes

@@ -20,6 +20,7 @@ ghost use Rattle.sim_driver.specs.Words.{AsksRun, AsksRunWith, TellsFile, WasCut
 
 use crate::compiling::{Refusal, bind};
 use crate::failure::RunFailure;
+use crate::printing::print_source;
 use crate::reading::{ReadFailure, read_source};
 use crate::status::{Ending, Status};
 use command_line::{Command, Request, request_of};
@@ -147,7 +148,7 @@ fn answer_source<I: Source, O: Sink>(
     ensures later { O.faults out.old ≤ O.faults out.new }
     ensures input_later { I.faults input.old ≤ I.faults input.new }
 {
-    match bind_and_do(alloc, command, limits, source, input, out) {
+    match do_command(alloc, command, limits, source, input, out) {
         Ok(ending) => ending.status(),
         Err(RunFailure::Input) => Status::InputFault,
         Err(RunFailure::Output) => Status::WriteFault,
@@ -156,7 +157,7 @@ fn answer_source<I: Source, O: Sink>(
 }
 
 // Does with a source what the command says.
-fn bind_and_do<I: Source, O: Sink>(
+fn do_command<I: Source, O: Sink>(
     alloc: Global,
     command: Command,
     limits: &Limits,
@@ -165,6 +166,33 @@ fn bind_and_do<I: Source, O: Sink>(
     out: &mut O,
 ) -> Result<Ending, RunFailure>
     requires { length source.now < 2 ^ 32 - 1 }
+    ensures known { (given : List ℕ) → I.left input.old ≡ Some given → OnOk result ((meaning : Meaning) × SourceMeans command limits.now source.now given meaning) }
+    ensures does { (given : List ℕ) (meaning : Meaning) → I.left input.old ≡ Some given → SourceMeans command limits.now source.now given meaning → Does meaning (O.written out.old) (O.written out.new) result }
+    ensures cut { (given : List ℕ) → I.left input.old ≡ Some given → result ≡ Err RunFailure.Input → IsCutOff (I.faults input.old) (I.faults input.new) command limits.now source.now given (O.written out.old) (O.written out.new) }
+    ensures only_run { (command ≡ Command.Run → ⊥) → input.new ≡ input.old }
+    ensures untouched { (rule : AnyRule) (line : AnyLine) → SourceCompiles Command.Run source.now (Rejected rule line) → input.new ≡ input.old }
+    ensures takes { (given : List ℕ) (s : AnySource) → I.left input.old ≡ Some given → SourceCompiles Command.Run source.now (Runnable s) → TakesNothing s limits.now given → input.new ≡ input.old }
+    ensures output { OutputAfter O.written O.faults out.old out.new result }
+    ensures input { InputAfter (I.faults input.old) (I.faults input.new) result }
+{
+    match command {
+        Command::Print => print_source(alloc, source, out),
+        Command::Run => bind_and_do(alloc, command, limits, source, input, out),
+        Command::Check => bind_and_do(alloc, command, limits, source, input, out),
+    }
+}
+
+// Does with the program of a source what the command says.
+fn bind_and_do<I: Source, O: Sink>(
+    alloc: Global,
+    command: Command,
+    limits: &Limits,
+    source: &[u8],
+    input: &mut I,
+    out: &mut O,
+) -> Result<Ending, RunFailure>
+    requires length { length source.now < 2 ^ 32 - 1 }
+    requires binds { command ≡ Command.Print → ⊥ }
     ensures known { (given : List ℕ) → I.left input.old ≡ Some given → OnOk result ((meaning : Meaning) × SourceMeans command limits.now source.now given meaning) }
     ensures does { (given : List ℕ) (meaning : Meaning) → I.left input.old ≡ Some given → SourceMeans command limits.now source.now given meaning → Does meaning (O.written out.old) (O.written out.new) result }
     ensures cut { (given : List ℕ) → I.left input.old ≡ Some given → result ≡ Err RunFailure.Input → IsCutOff (I.faults input.old) (I.faults input.new) command limits.now source.now given (O.written out.old) (O.written out.new) }
@@ -201,7 +229,7 @@ fn do_bound<I: Source, O: Sink>(
 {
     match command {
         Command::Run => run(alloc, limits, bound, input, out),
-        Command::Check => Ok(Ending::Normal),
+        Command::Check | Command::Print => Ok(Ending::Normal),
     }
 }
 

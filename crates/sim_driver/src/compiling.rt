@@ -6,17 +6,19 @@ ghost use Rattle.sim_parser.specs.Claim.{IsWholeSource};
 ghost use Rattle.sim_scope.specs.Source.{source_of};
 ghost use Rattle.sim_tree.specs.SyntaxOfProgram.{program_syntax};
 ghost use Rattle.sim_tree.specs.Tree.{IsTree};
-ghost use Rattle.sim_driver.specs.Compiling.{Answers, BindsAs, CheckRejects, ChecksAs, IsProgram, SourceRejects, TokensReject, TreeRejects, lacks_form, lacks_match, token_line};
+ghost use Rattle.sim_driver.specs.Compiling.{Answers, BindsAs, CheckRejects, ChecksAs, IsProgram, SourcePrints, SourceRejects, TokensReject, TreeRejects, lacks_form, lacks_match, token_line};
 ghost use Rattle.sim_driver.specs.declared.compiling.Refusal.TheVariants as refusal;
 ghost use Rattle.command_line.specs.declared.words.Command.{Command as AnyCommand};
+ghost use Rattle.command_line.specs.declared.words.Command.TheVariants.{Print};
 
 use command_line::Command;
-use sim_base::{Line, Rule, Token, TokenNo, line_of};
+use sim_base::{Line, Memory, Rule, Token, TokenNo, line_of};
 use sim_built::has_match_with_parameters;
 use sim_built::laws::allowed_programs_run;
 use sim_expr_parser::SyntaxRefusal;
 use sim_lexer::{LexRefusal, lex};
 use sim_parser::parse;
+use sim_print::print;
 use sim_scope::{Bound, StaticRefusal};
 use sim_static::{check, has_unbuilt_form, has_unbuilt_name};
 use sim_tree::grammar::one_tree;
@@ -34,11 +36,11 @@ pub enum Refusal {
     Memory,
 }
 
-/// The program of a source, which breaks no rule; or the rule that it breaks first, with the line. To run, it must have only forms that are
-/// built, no procedure in which a class is declared may have an array by reference as a parameter, and none that matches a virtual may have
-/// parameters.
+/// The program of a source, which breaks no rule, for `run` or `check`; or the rule that it breaks first, with the line. To run, it must
+/// have only forms that are built, and no procedure that matches a virtual may have parameters.
 pub fn bind(alloc: Global, command: Command, source: &[u8]) -> Result<Bound, Refusal>
-    requires { length source.now < 2 ^ 32 - 1 }
+    requires length { length source.now < 2 ^ 32 - 1 }
+    requires binds { command ≡ Print → ⊥ }
     ensures { Answers (λ bound. IsProgram command source.now (source_of bound)) (SourceRejects command source.now) result }
 {
     // Two trees of its tokens have one syntax, so a source is one program.
@@ -46,6 +48,21 @@ pub fn bind(alloc: Global, command: Command, source: &[u8]) -> Result<Bound, Ref
     let tokens = tokens_of(alloc, source)?;
     let tree = tree_of(alloc, &tokens)?;
     bind_tree(alloc, command, &tokens, tree)
+}
+
+/// The canonical text of a source, which is a program of the grammar; or the rule of spelling or of the grammar that it breaks first, with
+/// the line. No other rule is asked.
+pub fn text_of(alloc: Global, source: &[u8]) -> Result<Vec<u8>, Refusal>
+    requires { length source.now < 2 ^ 32 - 1 }
+    ensures { Answers (λ text. SourcePrints source.now text.items) (SourceRejects Print source.now) result }
+{
+    one_tree();
+    let tokens = tokens_of(alloc, source)?;
+    let tree = tree_of(alloc, &tokens)?;
+    match print(alloc, &tree) {
+        Ok(text) => Ok(text),
+        Err(Memory) => Err(Refusal::Memory),
+    }
 }
 
 // The tokens of a source.
@@ -96,7 +113,7 @@ fn lacks_form(command: Command, tokens: &[Token], tree: &sim_tree::Program) -> b
 {
     match command {
         Command::Run => has_unbuilt_name(tokens) || has_unbuilt_form(tree),
-        Command::Check => false,
+        Command::Check | Command::Print => false,
     }
 }
 
@@ -106,7 +123,7 @@ fn lacks_match(command: Command, bound: &Bound) -> bool
 {
     match command {
         Command::Run => has_match_with_parameters(bound),
-        Command::Check => false,
+        Command::Check | Command::Print => false,
     }
 }
 

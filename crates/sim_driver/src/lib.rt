@@ -4,6 +4,7 @@
 mod command;
 mod compiling;
 mod failure;
+mod printing;
 mod reading;
 mod speaking;
 mod status;

@@ -40,8 +40,8 @@ returns c =
     (λ (b : Bound). IsProgram command source (source_of b))
     (TreeRejects command tokens tree)
     (SourceRejects command source)
-    (λ b binds. (bound_source one command source tokens tree (source_of b) (c.in_ok-tokens.ensures.reads command) is binds.0, binds.1 is))
-    (λ rule line rejects. rejected_source one command source tokens tree rule line (c.in_ok-tokens.ensures.reads command) is rejects)
+    (λ b binds. (bound_source one command source tokens tree (source_of b) c.requires.binds (c.in_ok-tokens.ensures.reads command) is binds.0, binds.1 is))
+    (λ rule line rejects. rejected_source one command source tokens tree rule line c.requires.binds (c.in_ok-tokens.ensures.reads command) is rejects)
     (rw c.deref-2.ensures.value at c.bind_tree.ensures)
 
 pub returns-in_err-tokens : goal.returns-in_err-tokens

@@ -1,0 +1,11 @@
+pub mod Bytes
+pub mod Tokens
+pub mod Steps
+pub mod Signs
+pub mod Expressions
+pub mod DeclarationParts
+pub mod StatementParts
+pub mod Statements
+pub mod Texts
+pub mod Programs
+pub mod NoNumbers
