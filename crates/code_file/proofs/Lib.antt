@@ -1,0 +1,13 @@
+pub mod Lists
+pub mod Formats
+pub mod FieldFormats
+pub mod TableLemmas
+pub mod OperandFormats
+pub mod RecordFormats
+pub mod CodeFormat
+pub mod FileLaws
+pub mod Loop
+pub mod Writing
+pub mod Told
+pub mod Lines
+pub mod Numbered

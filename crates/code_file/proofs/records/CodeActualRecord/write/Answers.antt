@@ -1,0 +1,5 @@
+use Rattle.code_file.proofs.Writing.{then_field}
+use Rattle.code_file.proofs.records.CodeActualRecord.write.Goals as goal
+
+pub returns : goal.returns
+returns c = then_field _ _ _ _ _ c.in_ok-put_type.ensures (then_field _ _ _ _ _ c.in_ok-put_truth.ensures (then_field _ _ _ _ _ c.in_ok-put_type-2.ensures (then_field _ _ _ _ _ c.in_ok-put_truth-2.ensures (then_field _ _ _ _ _ c.in_ok-put_type-3.ensures (then_field _ _ _ _ _ c.in_ok-put_number.ensures c.in_ok-put_number-2.ensures)))))

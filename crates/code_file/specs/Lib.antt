@@ -1,0 +1,9 @@
+pub mod Rules
+pub mod Table
+pub mod Fields
+pub mod Spelling
+pub mod Faults
+pub mod Reading
+pub mod Writing
+pub mod Listing
+pub mod Laws
