@@ -3,6 +3,8 @@
 #![tactic(auto)]
 
 #[cfg(test)]
+mod code_files;
+#[cfg(test)]
 mod images;
 #[cfg(test)]
 mod scheduling;
