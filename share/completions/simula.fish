@@ -2,8 +2,10 @@
 complete -c simula -f
 complete -c simula -n '__fish_use_subcommand' -a run -d 'Run a program'
 complete -c simula -n '__fish_use_subcommand' -a check -d 'Name the first rule that it breaks'
+complete -c simula -n '__fish_use_subcommand' -a compile -d 'Write its code as a code file'
+complete -c simula -n '__fish_use_subcommand' -a list -d 'Write its code as text'
 complete -c simula -n '__fish_use_subcommand' -a print -d 'Write it in one layout'
-complete -c simula -n '__fish_seen_subcommand_from run check print' -a '(__fish_complete_suffix .sim)'
+complete -c simula -n '__fish_seen_subcommand_from run check compile list print' -a '(__fish_complete_suffix .sim)'
 complete -c simula-show -f
 complete -c simula-show -n '__fish_use_subcommand' -a run -d 'Run a program, with the cause of a message'
 complete -c simula-show -n '__fish_use_subcommand' -a check -d 'Check a program, with the cause of a message'

@@ -74,9 +74,9 @@ module _ (b : Bound) (w : Spot) where
       emits_nothing w a c _ _ (λ h. let e = h.has in let f : is_there (slot_in (source_of b) (frame_text (source_of b) k) (Connection opening.0)) ≡ false = ap is_there (sym (slot_as k opening.0 o h.begins eo) ∙ none) in cc) ec
 
   pub connection_kept : (a c d : DraftOf) (opening : TokenNo) (k first place frame slot level : ℕ) (x : Stmt) (t : Bool) (o : Option ℕ) (u : Spot) (y : Instr) → t ≡ is_connection (text (source_of b) k) → t ≡ true → first ≡ first_in (slice_get (source_of b).tables.blocks k) → first ≡ opening.0 → encloser b.scopes k ≡ Some w.text
-      → o ≡ slot_in (source_of b) (frame_text (source_of b) k) (cell_of_connection (source_of b) k) → o ≡ Some place → frame ≡ frame_text (source_of b) k → slot ≡ planned_start (source_of b) a.classes frame + place → level ≡ level_of (source_of b) k → y ≡ i.Store (pos level) (pos slot) → c ≡ with_instr a y 0 → u.text ≡ k → u.used ≡ w.used → WritesStatement b u c d x → WritesConnection b w a d opening (Some k) x
+      → o ≡ slot_in (source_of b) (frame_text (source_of b) k) (cell_of_connection (source_of b) k) → o ≡ Some place → frame ≡ frame_text (source_of b) k → slot ≡ planned_start (source_of b) a.classes frame + place → level ≡ level_of (source_of b) k → y ≡ i.Store (pos level) (pos slot) → c ≡ with_instr a y 0 → u.text ≡ k → u.temps ≡ w.temps → u.used ≡ w.used → WritesStatement b u c d x → WritesConnection b w a d opening (Some k) x
   unfolding WritesConnection WritesStatement source_of
-  connection_kept a c d opening k first place frame slot level x t o u y et is ef ea around eo some eh es el ey ec et' eu f =
+  connection_kept a c d opening k first place frame slot level x t o u y et is ef ea around eo some eh es el ey ec et' em eu f =
       let s = source_of b in
       let home = frame_text s k in
       let begins : cell_of_connection s k ≡ Connection opening.0 = ap Connection (sym ef ∙ ea) in
@@ -96,11 +96,12 @@ module _ (b : Bound) (w : Spot) where
         roomier = inner.roomier;
         larger = inner.larger;
         classed = inner.classed;
+        thunked = inner.thunked;
         built = inner.built;
         before = inner.before;
         only = inner.only;
         fits = inner.fits;
-        at = λ h final site g. inner.at h final (record site { text = k }) (record { grows = g.grows; roomy = g.roomy; sized = g.sized; stands = sym et'; taken = g.taken ∙ sym eu; follows = g.follows; classed = g.classed });
+        at = λ h final site g. inner.at h final (record site { text = k }) (record { grows = g.grows; roomy = g.roomy; sized = g.sized; stands = sym et'; temps = g.temps ∙ sym em; taken = g.taken ∙ sym eu; follows = g.follows; classed = g.classed; thunked = g.thunked });
       } in
       emits_as w _ _ _ _ a d (λ h. (tt, h.body)) (λ h. record { is = is_text; begins = begins; stands = around; has = has; body = h.1 })
       (λ final site p q stands _ r. record {
@@ -202,6 +203,7 @@ module _ (b : Bound) (w : Spot) where
         roomier = all.roomier;
         larger = all.larger;
         classed = all.classed;
+        thunked = all.thunked;
         built = λ h u. all.built (h, tt) u;
         before = all.before;
         only = λ u. (all.only u).0;
@@ -233,6 +235,7 @@ module _ (b : Bound) (w : Spot) where
         roomier = all.roomier;
         larger = all.larger;
         classed = all.classed;
+        thunked = all.thunked;
         built = λ h u. all.built ((tt, tt), (h.1, tt)) u;
         before = all.before;
         only = λ u. (known, (all.only u).1.0);

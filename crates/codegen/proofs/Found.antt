@@ -18,7 +18,7 @@ use Rattle.sim_tree.specs.declared.stmt.Assignment.TheVariants as assignment
 use Rattle.sim_tree.specs.Syntax.{Binary, Constant, Dot, Expression, If, Member, Named, New, NoMore, Not, Parentheses, Qua, Signed, This, expressions}
 use Rattle.sim_tree.specs.SyntaxOf.{Cast, Selection, Take, selected, selector_syntax, syntax_of}
 use Rattle.sim_meaning.specs.Attributes.{connection_at, declared_attribute}
-use Rattle.sim_meaning.specs.Closing.{is_text, own_block_denoted, own_match, own_result, result_meant, result_or_own, unless_connected}
+use Rattle.sim_meaning.specs.Closing.{by_name, class_of_formal, is_text, own_block_denoted, own_match, own_result, result_meant, result_or_own, unless_connected}
 use Rattle.sim_meaning.specs.Pending.{Result}
 use Rattle.sim_meaning.specs.Virtuals.{text_of_procedure}
 use Rattle.codegen_expr.specs.declared.forms.Form.{Form}
@@ -27,8 +27,9 @@ use Rattle.codegen_expr.specs.declared.spot.Spot.{Spot}
 use Rattle.codegen_expr.specs.Forms.{FindsForm, FormIs, IsNew, IsOther}
 use Rattle.codegen.specs.declared.left.Left.{Left}
 use Rattle.codegen.specs.declared.left.Left.TheVariants as left
-use Rattle.codegen.specs.CodeLeft.{InCell, NotBuilt, Stored, stored_found, stored_left, stored_match, stored_named, stored_of, stored_result, stored_text}
-use Rattle.codegen.specs.EmitLeft.{FindsLeft, FindsMatchText, FindsNamed, FindsOwn, FindsOwnNamed, FindsResult, FindsSide, FindsTaken, FindsText, FindsWhole, IsLeft, IsVariable, IsWhole, operands_in, own_if, own_match_if}
+use Rattle.codegen.specs.BuiltProgram.{LeftBuilt}
+use Rattle.codegen.specs.CodeLeft.{InCell, NotBuilt, Stored, stored_by_sign, stored_found, stored_held, stored_left, stored_match, stored_named, stored_named_by, stored_or_named, stored_result, stored_text}
+use Rattle.codegen.specs.EmitLeft.{FindsByName, FindsLeft, FindsMatchText, FindsNamed, FindsOwn, FindsOwnNamed, FindsResult, FindsSide, FindsTaken, FindsText, FindsWhole, IsLeft, IsVariable, IsWhole, operands_in, own_if, own_match_if}
 use Rattle.codegen_expr.proofs.Attributes.{selector-Dot, selector-Qua}
 use Rattle.codegen.proofs.Cells.{own_found, own_missing, own_outside}
 
@@ -133,6 +134,9 @@ module _ (b : Bound) (w : Spot) where
   whole_of e (left.Result level slot) t f = absurd f
   whole_of e left.Attribute t f = absurd f
   whole_of e left.Reference t f = absurd f
+  whole_of e (left.Named d) t f = absurd f
+  whole_of e (left.NamedText d) t f = absurd f
+  whole_of e (left.NamedReference d class) t f = absurd f
   whole_of e left.NotBuilt t f = f
 
   pub named_through : (x : Identifier) (es : List Expr) (o : Option ℕ) (k : ℕ) → o ≡ connection_at (source_of b) x.token.0 → o ≡ Some k → FindsNamed b w x es left.Attribute
@@ -237,32 +241,67 @@ module _ (b : Bound) (w : Spot) where
   as_left e line (left.Cell level slot) t f = f
   as_left e line left.Attribute t f = f
   as_left e line left.Reference t f = absurd f
+  as_left e line (left.Named d) t f = absurd f
+  as_left e line (left.NamedText d) t f = absurd f
+  as_left e line (left.NamedReference d class) t f = absurd f
   as_left e line (left.Element token d es) t f = f
   as_left e line left.Text t f = absurd f
   as_left e line (left.Result level slot) t f = absurd f
   as_left e line left.NotBuilt t f = f
 
-  as_side : (sign sign' : Assignment) (x : Expr) (r : Left) (t u : Bool) → t ≡ is_text (source_of b) (syntax_of x) → t ≡ u → sign ≡ sign' → ((line : ℕ) → IsLeft (source_of b) w (syntax_of x) line r (stored_of u sign' (source_of b) line (syntax_of x))) → FindsSide b w sign x r
+  as_side : (sign sign' : Assignment) (x : Expr) (r : Left) (o : Option DeclNo) (t u : Bool) → o ≡ by_name (source_of b) (syntax_of x) → o ≡ None → t ≡ is_text (source_of b) (syntax_of x) → t ≡ u → sign ≡ sign' → ((line : ℕ) → IsLeft (source_of b) w (syntax_of x) line r (stored_by_sign u sign' (source_of b) line (syntax_of x))) → FindsSide b w sign x r
   unfolding FindsSide
-  as_side sign sign' x r t u et is es f line =
+  as_side sign sign' x r o t u eo none et is es f line =
       let s = source_of b in
-      subst (λ z. IsLeft s w (syntax_of x) line r (stored_of (is_text s (syntax_of x)) z s line (syntax_of x))) (sym es)
-      (subst (λ z. IsLeft s w (syntax_of x) line r (stored_of z sign' s line (syntax_of x))) (sym is ∙ et) (f line))
+      subst (λ z. IsLeft s w (syntax_of x) line r (stored_or_named z (is_text s (syntax_of x)) sign s line (syntax_of x))) (sym none ∙ eo)
+      (subst (λ z. IsLeft s w (syntax_of x) line r (stored_by_sign (is_text s (syntax_of x)) z s line (syntax_of x))) (sym es)
+      (subst (λ z. IsLeft s w (syntax_of x) line r (stored_by_sign z sign' s line (syntax_of x))) (sym is ∙ et) (f line)))
 
-  pub side_text : (sign : Assignment) (x : Expr) (r : Left) (t : Bool) → t ≡ is_text (source_of b) (syntax_of x) → t ≡ true → sign ≡ assignment.Value → FindsText b w x r → FindsSide b w sign x r
+  -- a formal parameter by name
+  as_name : (sign sign' : Assignment) (x : Expr) (d : DeclNo) (r : Left) (t u : Bool) → t ≡ is_text (source_of b) (syntax_of x) → t ≡ u → sign ≡ sign' → ((w : Spot) (line : ℕ) → IsLeft (source_of b) w (syntax_of x) line r (stored_named_by u sign' (source_of b) d line)) → FindsByName b sign x d r
+  unfolding FindsByName
+  as_name sign sign' x d r t u et is es f w line =
+      let s = source_of b in
+      subst (λ z. IsLeft s w (syntax_of x) line r (stored_named_by (is_text s (syntax_of x)) z s d line)) (sym es)
+      (subst (λ z. IsLeft s w (syntax_of x) line r (stored_named_by z sign' s d line)) (sym is ∙ et) (f w line))
+
+  pub name_text : (sign : Assignment) (x : Expr) (d : DeclNo) (t : Bool) → t ≡ is_text (source_of b) (syntax_of x) → t ≡ true → sign ≡ assignment.Value → FindsByName b sign x d (left.NamedText d)
+  name_text sign x d t et is es = as_name sign assignment.Value x d (left.NamedText d) t true et is es (λ w line. refl)
+
+  pub name_denoted : (sign : Assignment) (x : Expr) (d : DeclNo) (t : Bool) → t ≡ is_text (source_of b) (syntax_of x) → t ≡ true → sign ≡ assignment.Reference → FindsByName b sign x d (left.Named d)
+  name_denoted sign x d t et is es = as_name sign assignment.Reference x d (left.Named d) t true et is es (λ w line. refl)
+
+  pub name_value : (sign : Assignment) (x : Expr) (d : DeclNo) (t : Bool) → t ≡ is_text (source_of b) (syntax_of x) → t ≡ false → sign ≡ assignment.Value → FindsByName b sign x d (left.Named d)
+  name_value sign x d t et is es = as_name sign assignment.Value x d (left.Named d) t false et is es (λ w line. refl)
+
+  pub name_reference : (sign : Assignment) (x : Expr) (d : DeclNo) (t : Bool) (o : Option ℕ) (k : ℕ) → t ≡ is_text (source_of b) (syntax_of x) → t ≡ false → sign ≡ assignment.Reference → o ≡ class_of_formal (source_of b) d → o ≡ Some k → FindsByName b sign x d (left.NamedReference d k)
+  name_reference sign x d t o k et is es eo some =
+      as_name sign assignment.Reference x d (left.NamedReference d k) t false et is es (λ w line. ap (λ z. stored_held d z line) (sym eo ∙ some))
+
+  pub name_unheld : (sign : Assignment) (x : Expr) (d : DeclNo) (t : Bool) (o : Option ℕ) → t ≡ is_text (source_of b) (syntax_of x) → t ≡ false → sign ≡ assignment.Reference → o ≡ class_of_formal (source_of b) d → o ≡ None → FindsByName b sign x d left.NotBuilt
+  name_unheld sign x d t o et is es eo none =
+      as_name sign assignment.Reference x d left.NotBuilt t false et is es (λ w line h. subst (λ z. LeftBuilt (source_of b) w.text (stored_held d z line)) (sym eo ∙ none) h)
+
+  pub side_named : (sign : Assignment) (x : Expr) (r : Left) (o : Option DeclNo) (d : DeclNo) → o ≡ by_name (source_of b) (syntax_of x) → o ≡ Some d → FindsByName b sign x d r → FindsSide b w sign x r
+  unfolding FindsSide FindsByName
+  side_named sign x r o d eo some f line =
+      let s = source_of b in
+      subst (λ z. IsLeft s w (syntax_of x) line r (stored_or_named z (is_text s (syntax_of x)) sign s line (syntax_of x))) (sym some ∙ eo) (f w line)
+
+  pub side_text : (sign : Assignment) (x : Expr) (r : Left) (o : Option DeclNo) (t : Bool) → o ≡ by_name (source_of b) (syntax_of x) → o ≡ None → t ≡ is_text (source_of b) (syntax_of x) → t ≡ true → sign ≡ assignment.Value → FindsText b w x r → FindsSide b w sign x r
   unfolding FindsText
-  side_text sign x r t et is es f = as_side sign assignment.Value x r t true et is es f
+  side_text sign x r o t eo none et is es f = as_side sign assignment.Value x r o t true eo none et is es f
 
-  pub side_denoted : (sign : Assignment) (x : Expr) (r : Left) (t : Bool) → t ≡ is_text (source_of b) (syntax_of x) → t ≡ true → sign ≡ assignment.Reference → FindsWhole b w x r → FindsSide b w sign x r
+  pub side_denoted : (sign : Assignment) (x : Expr) (r : Left) (o : Option DeclNo) (t : Bool) → o ≡ by_name (source_of b) (syntax_of x) → o ≡ None → t ≡ is_text (source_of b) (syntax_of x) → t ≡ true → sign ≡ assignment.Reference → FindsWhole b w x r → FindsSide b w sign x r
   unfolding FindsWhole
-  side_denoted sign x r t et is es f = as_side sign assignment.Reference x r t true et is es (λ line. as_left (syntax_of x) line r _ f)
+  side_denoted sign x r o t eo none et is es f = as_side sign assignment.Reference x r o t true eo none et is es (λ line. as_left (syntax_of x) line r _ f)
 
-  pub side_value : (sign : Assignment) (x : Expr) (r : Left) (t : Bool) → t ≡ is_text (source_of b) (syntax_of x) → t ≡ false → sign ≡ assignment.Value → FindsWhole b w x r → FindsSide b w sign x r
+  pub side_value : (sign : Assignment) (x : Expr) (r : Left) (o : Option DeclNo) (t : Bool) → o ≡ by_name (source_of b) (syntax_of x) → o ≡ None → t ≡ is_text (source_of b) (syntax_of x) → t ≡ false → sign ≡ assignment.Value → FindsWhole b w x r → FindsSide b w sign x r
   unfolding FindsWhole
-  side_value sign x r t et is es f = as_side sign assignment.Value x r t false et is es (λ line. as_left (syntax_of x) line r _ f)
+  side_value sign x r o t eo none et is es f = as_side sign assignment.Value x r o t false eo none et is es (λ line. as_left (syntax_of x) line r _ f)
 
-  pub side_reference : (sign : Assignment) (x : Expr) (t : Bool) → t ≡ is_text (source_of b) (syntax_of x) → t ≡ false → sign ≡ assignment.Reference → FindsSide b w sign x left.Reference
-  side_reference sign x t et is es = as_side sign assignment.Reference x left.Reference t false et is es (λ line. refl)
+  pub side_reference : (sign : Assignment) (x : Expr) (o : Option DeclNo) (t : Bool) → o ≡ by_name (source_of b) (syntax_of x) → o ≡ None → t ≡ is_text (source_of b) (syntax_of x) → t ≡ false → sign ≡ assignment.Reference → FindsSide b w sign x left.Reference
+  side_reference sign x o t eo none et is es = as_side sign assignment.Reference x left.Reference o t false eo none et is es (λ line. refl)
 
 -- ---- results
 
@@ -326,4 +365,4 @@ own_new_form b x f h is = own_new (source_of b) (syntax_of x) (form_at f form.Ne
 pub own_other_form : (b : Bound) (x : Expr) (f : Form) → FindsForm f x → f ≡ form.Other → None ≡ result_meant (source_of b) (syntax_of x)
 own_other_form b x f h is = own_other (source_of b) (syntax_of x) (form_at f form.Other x h is)
 
-pub ruleset founds = (named_through, named_match, named_plain, taken_attribute, taken_standard, taken_unknown, taken_cast, whole_named, whole_taken, whole_closed, whole_new, whole_other, text_own, text_plain, side_text, side_denoted, side_value, side_reference, own_subscripts, own_through, own_of_match, own_plain, own_named_form, own_taken_form, own_closed_form, own_new_form, own_other_form, own_found, own_missing, own_outside)
+pub ruleset founds = (named_through, named_match, named_plain, taken_attribute, taken_standard, taken_unknown, taken_cast, whole_named, whole_taken, whole_closed, whole_new, whole_other, text_own, text_plain, name_text, name_denoted, name_value, name_reference, name_unheld, side_named, side_text, side_denoted, side_value, side_reference, own_subscripts, own_through, own_of_match, own_plain, own_named_form, own_taken_form, own_closed_form, own_new_form, own_other_form, own_found, own_missing, own_outside)

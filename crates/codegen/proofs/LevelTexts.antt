@@ -34,11 +34,11 @@ use Rattle.program_texts.specs.declared.tree.TextTree.{TextTree}
 use Rattle.program_texts.specs.declared.tree.TextTree.TheVariants as tree
 use Rattle.program_texts.specs.TextTrees.{block_text, class_text, heading_of, prefixed_text, text_in}
 use Rattle.codegen_expr.specs.declared.spot.Spot.{Spot}
-use Rattle.codegen_expr.specs.Drafts.{Becomes, DraftOf, Emits, Grows, class_of, given_up, planned_at, planned_front, planned_in, with_instr}
+use Rattle.codegen_expr.specs.Drafts.{Becomes, DraftOf, Emits, Grows, ThunksGrow, class_of, given_up, planned_at, planned_front, planned_in, with_instr}
 use Rattle.codegen_expr.proofs.Slots.{front_planned, start_planned}
 use Rattle.codegen_expr.specs.Sites.{At, Is, Site, block_in_front, block_number, class_in, lined, prefix_of}
 use Rattle.codegen.proofs.ClassLevels.{emits_to}
-use Rattle.codegen_expr.proofs.Pieces.{Fronts, append_at, emits_at, emits_then, fronts_le, fronts_then, get_front, grows_front, grows_then}
+use Rattle.codegen_expr.proofs.Pieces.{Fronts, append_at, emits_at, emits_then, fronts_le, fronts_then, get_front, grows_front, grows_then, more_before, more_behind, more_same}
 use Rattle.codegen.specs.declared.class_texts.LevelHead.{LevelHead}
 use Rattle.codegen.specs.declared.level_records.LevelStart.{LevelStart}
 use Rattle.codegen.specs.declared.texts.ClassAt.{ClassAt}
@@ -68,6 +68,10 @@ classes_with : (c : DraftOf) (stop : Instr) (d : DraftOf) → d ≡ with_instr c
 unfolding with_instr
 classes_with c stop d e = ap (λ z. z.classes) e
 
+thunks_with : (c : DraftOf) (stop : Instr) (d : DraftOf) → d ≡ with_instr c stop 0 → d.thunks ≡ c.thunks
+unfolding with_instr
+thunks_with c stop d e = ap (λ z. z.thunks) e
+
 set_there : {A : Type 0} (xs : List A) (p : ℕ) (y v : A) → slice_get xs p ≡ Some y → slice_get (slice_set xs p v) p ≡ Some v
 set_there [] p y v e = absurd (cc)
 set_there (x ∷ xs) zero y v e = refl
@@ -91,6 +95,7 @@ fewer new newer number at final f g = record {
   blocks = λ j x is. g.blocks j x (ap (λ z. slice_get z.items j) f.blocks ∙ is);
   classes = λ j x is. g.classes j x (kept_by new newer number at f j x is);
   classed = λ j. g.classed j ∙ ap (λ z. planned_at z.classes j) f.draft;
+  thunked = subst (λ z. ThunksGrow z final.thunks) (ap (λ z. z.thunks) f.draft) g.thunked;
 }
 
 -- ---- the code of a level
@@ -150,6 +155,7 @@ module _ (b : Bound) where
         rest = all_there.0;
         front = all_there.1;
         classed = classes_with c stop new.draft draft ∙ classed;
+        thunked = more_behind (thunks_with c stop new.draft draft) (more_before (ap (λ z. z.thunks) f.draft ∙ entered.thunks) e.thunked);
         fits = λ q. last.fits (e.fits (subst AllRun (sym i1) (entered.fits q)));
         added = g.added.block ∷ [];
         blocks = ap (λ z. z.items) g.put.blocks ∙ g.added.is ∙ ap (λ z. z.items ++ (g.added.block ∷ [])) blocks;
@@ -186,15 +192,17 @@ module _ (b : Bound) where
             f.start stands at_start le1 inside (record { line = 0; is = record { at = there; on = refl } }));
       }
 
-  pub level_written : (old begun mid new : Written) (c2 c3 c4 : DraftOf) (ds : List Decl) (ss : List Stmt) (h : LevelHead) (y : LevelStart) (stated after behind : ℕ) (x3 : Instr) → BeginsLevel b old begun h.text y → WritesArrays b (spot h.text y.used) begun.draft c2 ds → x3 ≡ i.NextDecl (pos y.level) → c3 ≡ with_instr c2 x3 0 → stated ≡ length c3.instrs
-      → WritesLevel b (spot h.text y.used) y.level h.inner c3 c4 ss after → behind ≡ after → mid.draft ≡ c4 → mid.blocks ≡ begun.blocks → mid.classes ≡ begun.classes → EndsLevel b mid new h y stated behind → WritesLevelText b old new h ds ss
+  pub level_written : (old begun mid new : Written) (c2 c3 c4 : DraftOf) (ds : List Decl) (ss : List Stmt) (h : LevelHead) (y : LevelStart) (stated after behind : ℕ) (x3 : Instr) (w : Spot) → BeginsLevel b old begun h.text y → w ≡ spot h.text y.used → WritesArrays b w begun.draft c2 ds → x3 ≡ i.NextDecl (pos y.level) → c3 ≡ with_instr c2 x3 0 → stated ≡ length c3.instrs
+      → WritesLevel b w y.level h.inner c3 c4 ss after → behind ≡ after → mid.draft ≡ c4 → mid.blocks ≡ begun.blocks → mid.classes ≡ begun.classes → EndsLevel b mid new h y stated behind → WritesLevelText b old new h ds ss
   unfolding WritesLevelText WritesArrays WritesLevel BeginsLevel EndsLevel
-  level_written old begun mid new c2 c3 c4 ds ss h y stated after behind x3 f fa e3' e3 est fl ea ed eb ec g before x its_text next =
+  level_written old begun mid new c2 c3 c4 ds ss h y stated after behind x3 w f is fa' e3' e3 est fl' ea ed eb ec g before x its_text next =
       let s = source_of b in
       let k = h.text in
       let xs = declarations (map declaration_syntax ds) in
       let ys = statements (map statement_syntax ss) in
       let c1 = begun.draft in
+      let fa = subst (λ z. WritesArrays b z c1 c2 ds) is fa' in
+      let fl = subst (λ z. WritesLevel b z y.level h.inner c3 c4 ss after) is fl' in
       let le3 : length c3.instrs ≤ length c4.instrs = fronts_le c3.instrs c4.instrs (fl.1.rest, fl.1.front) in
       let le_after = fl.0 in
       let body = emits_then (spot k y.used) _ _ _ _ c1 c2 c4 fa (emits_then (spot k y.used) _ _ _ _ c2 c3 c4 (emits_to b (spot k y.used) c2 c3 ⊤ _ stated est (emits_at (spot k y.used) c2 c3 (i.NextDecl (pos y.level)) 0 (e3 ∙ ap (λ z. with_instr c2 z 0) e3') (λ z. cc) refl)) fl.1) in
@@ -266,7 +274,7 @@ level_first s (a_standard set) h = h
 level_first s (a_block no_program) h = no_program refl
 
 at_once : (w : Written) → Entered w w
-at_once w = record { rest = []; front = sym (append-nil w.draft.instrs); whole = refl; planned = refl; fits = λ h. h; blocks = refl; classes = refl }
+at_once w = record { rest = []; front = sym (append-nil w.draft.instrs); thunks = refl; whole = refl; planned = refl; fits = λ h. h; blocks = refl; classes = refl }
 
 module _ (b : Bound) where
   pub class_text_written : (old new : Written) (ds : List Decl) (ss : List Stmt) (h : LevelHead) → h.text ≢ 0 → WritesLevelText b old new h ds ss → WritesClassText b old new h ds ss
@@ -318,7 +326,7 @@ module _ (b : Bound) where
       let one : length mid.draft.instrs ≡ 1 = (let h : length mid.draft.instrs ≡ length old.draft.instrs + 1 = ap length im ∙ length-append old.draft.instrs (jump ∷ []) in omega (arith, h, empty)) in
       let at : slice_get mid.draft.instrs 0 ≡ Some jump = ap (λ z. slice_get z 0) im ∙ ap (λ z. slice_get (old.draft.instrs ++ (jump ∷ [])) z) (sym empty) ∙ append_at old.draft.instrs jump in
       f old _ (record {
-        entered = record { rest = jump ∷ []; front = im; whole = ap (λ z. z.whole) em; planned = ap (λ z. z.classes) em; fits = fits.fits; blocks = eb; classes = ec };
+        entered = record { rest = jump ∷ []; front = im; thunks = ap (λ z. z.thunks) em; whole = ap (λ z. z.whole) em; planned = ap (λ z. z.classes) em; fits = fits.fits; blocks = eb; classes = ec };
         parts = λ t. (t.1, t.2);
         planned = refl;
         formals = refl;
@@ -375,12 +383,13 @@ module _ (b : Bound) where
   process_code final zero block class ne entry heads its level = absurd (ne refl)
   process_code final (suc k) block class ne entry heads its level = record { heads = heads; marked = entry; class = class; is = its; level = level }
 
-  pub process_written : (old begun mid new : Written) (c2 c3 : DraftOf) (k : ℕ) (y : LevelStart) (stated after behind : ℕ) (x2 : Instr) → k ≢ 0 → BeginsLevel b old begun k y → x2 ≡ i.NextDecl (pos y.level) → c2 ≡ with_instr begun.draft x2 0 → stated ≡ length c2.instrs → WritesProcess b (spot k y.used) y.level c2 c3 after → behind ≡ after
+  pub process_written : (old begun mid new : Written) (c2 c3 : DraftOf) (k : ℕ) (y : LevelStart) (stated after behind : ℕ) (x2 : Instr) (w : Spot) → k ≢ 0 → BeginsLevel b old begun k y → w ≡ spot k y.used → x2 ≡ i.NextDecl (pos y.level) → c2 ≡ with_instr begun.draft x2 0 → stated ≡ length c2.instrs → WritesProcess b w y.level c2 c3 after → behind ≡ after
       → mid.draft ≡ c3 → mid.blocks ≡ begun.blocks → mid.classes ≡ begun.classes → EndsLevel b mid new (record { kind = kind.Object; text = k; entry = 4; inner = false }) y stated behind → WritesProcessText b old new k
   unfolding WritesProcessText WritesProcess BeginsLevel EndsLevel source_of
-  process_written old begun mid new c2 c3 k y stated after behind x2 ne f e2' e2 est fp ea ed eb ec g next =
+  process_written old begun mid new c2 c3 k y stated after behind x2 w ne f is e2' e2 est fp' ea ed eb ec g next =
       let s = source_of b in
       let c1 = begun.draft in
+      let fp = subst (λ z. WritesProcess b z y.level c2 c3 after) is fp' in
       let around = next.agrees.processes k next.is in
       let le2 : length c2.instrs ≤ length c3.instrs = fronts_le c2.instrs c3.instrs (fp.1.rest, fp.1.front) in
       let le_after = fp.0 in
@@ -446,6 +455,7 @@ module _ (b : Bound) where
         rest = [];
         front = sym (append-nil old.draft.instrs);
         classed = refl;
+        thunked = more_same refl;
         fits = λ h. h;
         added = [];
         blocks = sym (append-nil old.blocks.items);

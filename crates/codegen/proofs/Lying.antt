@@ -68,6 +68,7 @@ module _ (b : Bound) (w : Spot) where
         roomier = f.roomier;
         larger = f.larger;
         classed = f.classed;
+        thunked = f.thunked;
         built = λ h. f.built h.1;
         before = f.before;
         only = λ v. (tt, f.only v);

@@ -234,6 +234,7 @@ module _ (b : Bound) (w : Spot) where
         roomier = all.roomier;
         larger = all.larger;
         classed = all.classed;
+        thunked = all.thunked;
         built = λ h o. all.built ((tt, tt), (tt, (tt, tt))) o;
         before = all.before;
         only = λ o. tt;

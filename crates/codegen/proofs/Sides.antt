@@ -1,5 +1,5 @@
 -- Several left sides.
-use Rattle.std.proofs.Common.{◌≡◌, ◌≢◌, ◌<◌, ◌≤◌, ◌+◌, ◌-◌, ℕ, zero, pos, suc, true, List, [], ◌∷◌, ◌++◌, length, map, reverse, drop, Some, Bor, refl, sym, ap, ◌∙◌, subst, arith}
+use Rattle.std.proofs.Common.{◌≡◌, ◌≢◌, ◌<◌, ◌≤◌, ◌+◌, ◌-◌, ℕ, zero, pos, suc, true, false, List, [], ◌∷◌, ◌++◌, length, map, reverse, drop, Some, Bor, refl, sym, ap, ◌∙◌, subst, arith}
 use Rattle.std.specs.Prelude.{⊤, slice_get, slice_index_or}
 use Rattle.std.proofs.lemmas.List.{reverse-append}
 use Rattle.sim_base.specs.declared.numbering.DeclNo.{DeclNo}
@@ -9,26 +9,27 @@ use Rattle.sim_scope.specs.Assignments.{last_value, left_sides}
 use Rattle.sim_scope.specs.Source.{Source, level_of, line_at, source_of}
 use Rattle.sim_tree.specs.declared.expr.Expr.{Expr}
 use Rattle.sim_tree.specs.declared.stmt.Assigned.{Assigned}
-use Rattle.sim_tree.specs.Syntax.{Expression, Expressions}
+use Rattle.sim_tree.specs.Syntax.{Expression, Expressions, NoMore}
 use Rattle.sim_tree.specs.SyntaxOf.{syntax_of}
 use Rattle.sim_tree.specs.SyntaxOfProgram.{right_side_syntax}
 use Rattle.sim_code.specs.declared.instr.Instr.{Instr}
 use Rattle.sim_code.specs.declared.instr.Instr.TheVariants as i
 use Rattle.sim_code.specs.Code.{CodeOf}
-use Rattle.sim_meaning.specs.Pending.{Result}
+use Rattle.sim_meaning.specs.Pending.{ForPlace, Result}
 use Rattle.codegen_expr.specs.declared.spot.Spot.{Spot}
 use Rattle.codegen_expr.specs.Built.{IsBuilt, KeyBuilt, StandsIn}
-use Rattle.codegen_expr.specs.CodeExpr.{ExprAt}
+use Rattle.codegen_expr.specs.CodeExpr.{ByNameAt, ExprAt, HeldAt}
+use Rattle.codegen_expr.specs.EmitObjects.{WritesFit}
 use Rattle.codegen_expr.specs.Drafts.{DraftOf, Emits, given_up, with_instr, with_push, with_temp}
-use Rattle.codegen_expr.specs.Emit.{Puts, PutsPlace, Writes, WritesElement, WritesPlace}
-use Rattle.codegen_expr.specs.Sites.{At, Inside, Pushes, Site, slot_of}
+use Rattle.codegen_expr.specs.Emit.{Puts, PutsPlace, Writes, WritesElement, WritesNamePlace, WritesPlace, WritesUse}
+use Rattle.codegen_expr.specs.Sites.{At, Inside, Pushes, Site, class_number, slot_of}
 use Rattle.codegen_expr.proofs.Around.{inside}
 use Rattle.codegen_expr.proofs.Pieces.{emits_as, emits_at, emits_none, emits_nothing, emits_push, emits_temp, emits_then}
 use Rattle.codegen.specs.declared.left.Left.{Left}
 use Rattle.codegen.specs.declared.left.Left.TheVariants as left
 use Rattle.codegen.specs.BuiltProgram.{AssignBuilt, LeftBuilt, LeftsBuilt}
 use Rattle.codegen.specs.declared.several.Side.{Side}
-use Rattle.codegen.specs.CodeLeft.{AssignAt, AtAddress, AtAttribute, GivesAt, GoesAt, InCell, LeftsAt, NotBuilt, StoreAt, Stored, ToReference, ToResult, ToText, below, each_stored, stored}
+use Rattle.codegen.specs.CodeLeft.{AssignAt, AtAddress, AtAttribute, GivesAt, GoesAt, InCell, LeftsAt, NotBuilt, StoreAt, Stored, ToNamed, ToNamedReference, ToNamedText, ToReference, ToResult, ToText, below, each_stored, stored}
 use Rattle.codegen.specs.Emit.{WritesAssignment}
 use Rattle.codegen.specs.EmitLeft.{FindsSide, IsLeft, LoadsCell, StoresCell, WritesReferencePlace, operands_in}
 use Rattle.codegen.specs.EmitSeveral.{EndsOn, GiveAt, HasGiven, OwesAddresses, SideOf, WritesAddress, WritesAddresses, WritesGive, WritesGives, after, side_in, sides, stored_all, stored_side}
@@ -111,6 +112,9 @@ lefts_next s code site (AtAttribute e) ts n k End p x q f g = (f.0, f.1, subst (
 lefts_next s code site (ToReference e line) ts n k End p x q f g = (f.0, f.1, subst (λ z. LeftsAt s code site z ts End f.0 q) f.2.0 (subst (λ z. LeftsAt s code site k ts End z q) f.2.1 g))
 lefts_next s code site (ToText e line) ts n k End p x q f g = (f.0, f.1, subst (λ z. LeftsAt s code site z ts End f.0 q) f.2.0 (subst (λ z. LeftsAt s code site k ts End z q) f.2.1 g))
 lefts_next s code site (ToResult home line) ts n k End p x q f g = (f.0, f.1, subst (λ z. LeftsAt s code site z ts End f.0 q) f.2.0 (subst (λ z. LeftsAt s code site k ts End z q) f.2.1 g))
+lefts_next s code site (ToNamed d line) ts n k End p x q f g = (f.0, f.1, subst (λ z. LeftsAt s code site z ts End f.0 q) f.2.0 (subst (λ z. LeftsAt s code site k ts End z q) f.2.1 g))
+lefts_next s code site (ToNamedReference d class line) ts n k End p x q f g = (f.0, f.1, subst (λ z. LeftsAt s code site z ts End f.0 q) f.2.0 (subst (λ z. LeftsAt s code site k ts End z q) f.2.1 g))
+lefts_next s code site (ToNamedText d line) ts n k End p x q f g = (f.0, f.1, f.2, f.3, subst (λ z. LeftsAt s code site z ts End f.1 q) f.4.0 (subst (λ z. LeftsAt s code site k ts End z q) f.4.1 g))
 lefts_next s code site NotBuilt ts n k End p x q f g = absurd f
 
 -- the left sides, and what follows
@@ -122,13 +126,16 @@ lefts_then s code site (AtAttribute e ∷ ts) n m End p x q f g = (f.0, f.1, lef
 lefts_then s code site (ToReference e line ∷ ts) n m End p x q f g = (f.0, f.1, lefts_then s code site ts (suc n) m End f.0 x q f.2 g)
 lefts_then s code site (ToText e line ∷ ts) n m End p x q f g = (f.0, f.1, lefts_then s code site ts (suc n) m End f.0 x q f.2 g)
 lefts_then s code site (ToResult home line ∷ ts) n m End p x q f g = (f.0, f.1, lefts_then s code site ts (suc n) m End f.0 x q f.2 g)
+lefts_then s code site (ToNamed d line ∷ ts) n m End p x q f g = (f.0, f.1, lefts_then s code site ts (suc n) m End f.0 x q f.2 g)
+lefts_then s code site (ToNamedReference d class line ∷ ts) n m End p x q f g = (f.0, f.1, lefts_then s code site ts (suc n) m End f.0 x q f.2 g)
+lefts_then s code site (ToNamedText d line ∷ ts) n m End p x q f g = (f.0, f.1, f.2, f.3, lefts_then s code site ts (suc n) m End f.1 x q f.4 g)
 lefts_then s code site (NotBuilt ∷ ts) n m End p x q f g = absurd f
 
 after_more : (us : List Stored) (t : Stored) (n : ℕ) → after (us ++ (t ∷ [])) n ≡ below t (after us n)
 after_more [] t n = refl
 after_more (u ∷ us) t n = after_more us t (below u n)
 
-gives_more : (s : Source) (code : CodeOf) (site : Site) (temp : ℕ) (us : List Stored) (t : Stored) (n m p x q : ℕ) → m ≡ after us n → GivesAt s code site temp n us p x → ((y : ℕ) × Pushes code site m (i.Load (pos (level_of s site.text)) (pos temp)) x y × StoreAt s code t y q) → GivesAt s code site temp n (us ++ (t ∷ [])) p q
+gives_more : (s : Source) (code : CodeOf) (site : Site) (temp : ℕ) (us : List Stored) (t : Stored) (n m p x q : ℕ) → m ≡ after us n → GivesAt s code site temp n us p x → ((y : ℕ) × Pushes code site m (i.Load (pos (level_of s site.text)) (pos temp)) x y × StoreAt s code site m t y q) → GivesAt s code site temp n (us ++ (t ∷ [])) p q
 gives_more s code site temp [] t n m p x q e f g = subst (λ z. GivesAt s code site temp z (t ∷ []) p q) e (subst (λ z. GivesAt s code site temp m (t ∷ []) z q) f (g.0, q, g.1, g.2, refl))
 gives_more s code site temp (u ∷ us) t n m p x q e f g = (f.0, f.1, f.2, f.3, gives_more s code site temp us t (below u n) m f.1 x q e f.4 g)
 
@@ -144,6 +151,18 @@ attribute_off e (suc n) m h = let f : m ≡ n = omega (arith, h) in f
 reference_off : (e : Expression) (line n m : ℕ) → m ≡ n - 1 → m ≡ below (ToReference e line) n
 reference_off e line zero m h = let f : m ≡ 0 = omega (arith, h) in f
 reference_off e line (suc n) m h = let f : m ≡ n = omega (arith, h) in f
+
+named_off : (d : DeclNo) (line n m : ℕ) → m ≡ n - 1 → m ≡ below (ToNamed d line) n
+named_off d line zero m h = let f : m ≡ 0 = omega (arith, h) in f
+named_off d line (suc n) m h = let f : m ≡ n = omega (arith, h) in f
+
+named_text_off : (d : DeclNo) (line n m : ℕ) → m ≡ n - 1 → m ≡ below (ToNamedText d line) n
+named_text_off d line zero m h = let f : m ≡ 0 = omega (arith, h) in f
+named_text_off d line (suc n) m h = let f : m ≡ n = omega (arith, h) in f
+
+named_reference_off : (d : DeclNo) (class line n m : ℕ) → m ≡ n - 1 → m ≡ below (ToNamedReference d class line) n
+named_reference_off d class line zero m h = let f : m ≡ 0 = omega (arith, h) in f
+named_reference_off d class line (suc n) m h = let f : m ≡ n = omega (arith, h) in f
 
 text_off : (e : Expression) (line n m : ℕ) → m ≡ n - 1 → m ≡ below (ToText e line) n
 text_off e line zero m h = let f : m ≡ 0 = omega (arith, h) in f
@@ -161,7 +180,7 @@ module _ (b : Bound) (w : Spot) where
   given_nothing : (a c : DraftOf) (H : CodeOf → Site → ℕ → ℕ → Type 0) → (a.whole ≡ true → ⊥) → c ≡ given_up a → Emits w a c ⊤ H
   given_nothing a c H never ec =
       let e = emits_nothing w a c (a.whole ≡ true) H never ec in
-      record { rest = e.rest; front = e.front; roomier = e.roomier; larger = e.larger; classed = e.classed; built = λ _ v. e.built v v; before = e.before; only = λ v. tt; fits = e.fits; at = e.at }
+      record { rest = e.rest; front = e.front; roomier = e.roomier; larger = e.larger; classed = e.classed; thunked = e.thunked; built = λ _ v. e.built v v; before = e.before; only = λ v. tt; fits = e.fits; at = e.at }
 
   -- ---- addresses
 
@@ -221,6 +240,31 @@ module _ (b : Bound) (w : Spot) where
       let l = at_side x r left.Reference f er in
       subst (λ z. Emits w a c (LeftBuilt s w.text z) (λ final site p q. LeftsAt s final site k (z ∷ []) (EndsOn m) p q)) (sym l)
       (emits_as w _ _ _ _ a c (λ h. h) (λ h. h) (λ final site p q _ _ h. (q, h, (em, refl))) g)
+
+  pub address_named : (a c : DraftOf) (k m : ℕ) (x : Side) (d : DeclNo) (r : Left) → FindsSide b w x.sign x.left.now r → r ≡ left.Named d → WritesNamePlace b w k a c false x.token d → m ≡ suc k → WritesAddress b w k a c m (side_in x)
+  unfolding WritesAddress WritesNamePlace WritesUse
+  address_named a c k m x d r f er g em =
+      let s = source_of b in
+      let l = at_side x r (left.Named d) f er in
+      subst (λ z. Emits w a c (LeftBuilt s w.text z) (λ final site p q. LeftsAt s final site k (z ∷ []) (EndsOn m) p q)) (sym l)
+      (emits_as w _ _ _ _ a c (λ h. h) (λ h. h) (λ final site p q _ _ h. (q, h, (em, refl))) g)
+
+  pub address_named_reference : (a c : DraftOf) (k m class : ℕ) (x : Side) (d : DeclNo) (r : Left) → FindsSide b w x.sign x.left.now r → r ≡ left.NamedReference d class → WritesNamePlace b w k a c false x.token d → m ≡ suc k → WritesAddress b w k a c m (side_in x)
+  unfolding WritesAddress WritesNamePlace WritesUse
+  address_named_reference a c k m class x d r f er g em =
+      let s = source_of b in
+      let l = at_side x r (left.NamedReference d class) f er in
+      subst (λ z. Emits w a c (LeftBuilt s w.text z) (λ final site p q. LeftsAt s final site k (z ∷ []) (EndsOn m) p q)) (sym l)
+      (emits_as w _ _ _ _ a c (λ h. h) (λ h. h) (λ final site p q _ _ h. (q, h, (em, refl))) g)
+
+  pub address_named_text : (a c0 c : DraftOf) (k m : ℕ) (x : Side) (d : DeclNo) (r : Left) → FindsSide b w x.sign x.left.now r → r ≡ left.NamedText d → WritesNamePlace b w k a c0 false x.token d → c ≡ with_instr c0 i.Fetch 0 → m ≡ suc k → WritesAddress b w k a c m (side_in x)
+  unfolding WritesAddress WritesNamePlace WritesUse
+  address_named_text a c0 c k m x d r f er g ec em =
+      let s = source_of b in
+      let l = at_side x r (left.NamedText d) f er in
+      subst (λ z. Emits w a c (LeftBuilt s w.text z) (λ final site p q. LeftsAt s final site k (z ∷ []) (EndsOn m) p q)) (sym l)
+      (emits_as w _ _ _ _ a c (λ h. (h, tt)) (λ h. h.0) (λ final site p q _ _ h. (h.0, q, h.1, record { line = 0; is = h.2 }, (em, refl)))
+      (emits_then w _ ⊤ (λ final site p q. ByNameAt s final site k d NoMore (ForPlace false (line_at s x.token.0)) p q) (λ final site p q. At final i.Fetch 0 p q) a c0 c g (emits_at w c0 c i.Fetch 0 ec (λ z. cc) refl)))
 
   pub address_unbuilt : (a c : DraftOf) (k m : ℕ) (x : Side) (r : Left) → FindsSide b w x.sign x.left.now r → r ≡ left.NotBuilt → c ≡ given_up a → WritesAddress b w k a c m (side_in x)
   unfolding WritesAddress
@@ -319,6 +363,43 @@ module _ (b : Bound) (w : Spot) where
       (emits_push w a c k (i.Load (pos (level_of s w.text)) (pos w.used)) 0 (ec ∙ ap (λ z. with_push a k z 0) load) (λ z. cc) refl)
       (emits_at w c d i.Put (line_at s v.token.0) (ed ∙ ap (with_instr c i.Put) el) (λ z. cc) refl)))
 
+  pub give_named : (a c d : DraftOf) (k j : ℕ) (v : Side) (d' : DeclNo) (m : ℕ) (r : Left) (x : Instr) → FindsSide b w v.sign v.left.now r → r ≡ left.Named d' → m ≡ level_of (source_of b) w.text → x ≡ i.Load (pos m) (pos w.used) → c ≡ with_push a k x 0 → d ≡ with_instr c i.Put 0 → j ≡ k - 1 → WritesGive b w k a d j (side_in v)
+  unfolding WritesGive
+  give_named a c d k j v d' m r x f er em ex ec ed ej =
+      let s = source_of b in
+      let l = at_side v r (left.Named d') f er in
+      let load : x ≡ i.Load (pos (level_of s w.text)) (pos w.used) = ex ∙ ap (λ z. i.Load (pos z) (pos w.used)) em in
+      subst (λ z. (a.whole ≡ true → LeftBuilt s w.text z) → Emits w a d ⊤ (λ final site p q. GiveAt s final site w.used k j z p q)) (sym l)
+      (λ _. emits_as w _ _ _ _ a d (λ h. (tt, tt)) (λ h. tt) (λ final site p q stands _ g. (named_off d' (line_at s v.token.0) k j ej, (g.0, subst (λ z. Pushes final site k (i.Load (pos (level_of s z)) (pos w.used)) p g.0) (sym stands) g.1, record { line = 0; is = g.2 })))
+      (emits_then w ⊤ ⊤ (λ final site p q. Pushes final site k (i.Load (pos (level_of s w.text)) (pos w.used)) p q) (λ final site p q. At final i.Put 0 p q) a c d
+      (emits_push w a c k (i.Load (pos (level_of s w.text)) (pos w.used)) 0 (ec ∙ ap (λ z. with_push a k z 0) load) (λ z. cc) refl)
+      (emits_at w c d i.Put 0 ed (λ z. cc) refl)))
+
+  pub give_named_text : (a c d : DraftOf) (k j : ℕ) (v : Side) (d' : DeclNo) (m line : ℕ) (r : Left) (x : Instr) → FindsSide b w v.sign v.left.now r → r ≡ left.NamedText d' → m ≡ level_of (source_of b) w.text → x ≡ i.Load (pos m) (pos w.used) → c ≡ with_push a k x 0 → line ≡ line_at (source_of b) v.token.0 → d ≡ with_instr c i.AssignT line → j ≡ k - 1 → WritesGive b w k a d j (side_in v)
+  unfolding WritesGive
+  give_named_text a c d k j v d' m line r x f er em ex ec el ed ej =
+      let s = source_of b in
+      let l = at_side v r (left.NamedText d') f er in
+      let load : x ≡ i.Load (pos (level_of s w.text)) (pos w.used) = ex ∙ ap (λ z. i.Load (pos z) (pos w.used)) em in
+      subst (λ z. (a.whole ≡ true → LeftBuilt s w.text z) → Emits w a d ⊤ (λ final site p q. GiveAt s final site w.used k j z p q)) (sym l)
+      (λ _. emits_as w _ _ _ _ a d (λ h. (tt, tt)) (λ h. tt) (λ final site p q stands _ g. (named_text_off d' (line_at s v.token.0) k j ej, (g.0, subst (λ z. Pushes final site k (i.Load (pos (level_of s z)) (pos w.used)) p g.0) (sym stands) g.1, g.2)))
+      (emits_then w ⊤ ⊤ (λ final site p q. Pushes final site k (i.Load (pos (level_of s w.text)) (pos w.used)) p q) (λ final site p q. At final i.AssignT (line_at s v.token.0) p q) a c d
+      (emits_push w a c k (i.Load (pos (level_of s w.text)) (pos w.used)) 0 (ec ∙ ap (λ z. with_push a k z 0) load) (λ z. cc) refl)
+      (emits_at w c d i.AssignT (line_at s v.token.0) (ed ∙ ap (with_instr c i.AssignT) el) (λ z. cc) refl)))
+
+  pub give_named_reference : (a c e d : DraftOf) (k j : ℕ) (v : Side) (d' : DeclNo) (class m line : ℕ) (r : Left) (x : Instr) → FindsSide b w v.sign v.left.now r → r ≡ left.NamedReference d' class → m ≡ level_of (source_of b) w.text → x ≡ i.Load (pos m) (pos w.used) → c ≡ with_push a k x 0 → WritesFit b w k c e v.token class → line ≡ line_at (source_of b) v.token.0 → d ≡ with_instr e i.Put line → j ≡ k - 1 → WritesGive b w k a d j (side_in v)
+  unfolding WritesGive WritesFit
+  give_named_reference a c e d k j v d' class m line r x f er em ex ec g el ed ej =
+      let s = source_of b in
+      let at = line_at s v.token.0 in
+      let l = at_side v r (left.NamedReference d' class) f er in
+      let load : x ≡ i.Load (pos (level_of s w.text)) (pos w.used) = ex ∙ ap (λ z. i.Load (pos z) (pos w.used)) em in
+      subst (λ z. (a.whole ≡ true → LeftBuilt s w.text z) → Emits w a d ⊤ (λ final site p q. GiveAt s final site w.used k j z p q)) (sym l)
+      (λ _. emits_as w _ _ _ _ a d (λ h. (tt, (tt, tt))) (λ h. tt) (λ final site p q stands _ g. (named_reference_off d' class at k j ej, (g.0, subst (λ z. Pushes final site k (i.Load (pos (level_of s z)) (pos w.used)) p g.0) (sym stands) g.1, (g.2.0, g.2.1, g.2.2))))
+      (emits_then w ⊤ _ (λ final site p q. Pushes final site k (i.Load (pos (level_of s w.text)) (pos w.used)) p q) (λ final site p q. (u : ℕ) × HeldAt s final site k at (class_number s final class) p u × At final i.Put at u q) a c d
+      (emits_push w a c k (i.Load (pos (level_of s w.text)) (pos w.used)) 0 (ec ∙ ap (λ z. with_push a k z 0) load) (λ z. cc) refl)
+      (emits_then w ⊤ ⊤ (λ final site p q. HeldAt s final site k at (class_number s final class) p q) (λ final site p q. At final i.Put at p q) c e d g (emits_at w e d i.Put at (ed ∙ ap (with_instr e i.Put) el) (λ z. cc) refl))))
+
   pub give_unbuilt : (a c : DraftOf) (k m : ℕ) (v : Side) (r : Left) → FindsSide b w v.sign v.left.now r → r ≡ left.NotBuilt → c ≡ given_up a → WritesGive b w k a c m (side_in v)
   unfolding WritesGive
   give_unbuilt a c k m v r f er ec = λ built. given_nothing a c _ (λ u. at_side v r left.NotBuilt f er (built u)) ec
@@ -379,4 +460,4 @@ module _ (b : Bound) (w : Spot) where
       (emits_then w (IsBuilt s w.text value) _ (λ final site p q. ExprAt s final site j value p q) (λ final site p q. (u : ℕ) × At final store 0 p u × GivesAt s final site w.used j (reverse ts) u q) c2 c3 c5 f
       (emits_then w ⊤ ⊤ (λ final site p q. At final store 0 p q) (λ final site p q. GivesAt s final site w.used j (reverse ts) p q) c3 c4 c5 keep give))))))
 
-pub ruleset severals = (side_first, side_later, address_cell, address_element, address_text, address_result, address_attribute, address_reference, address_unbuilt, give_cell, give_element, give_text, give_result, give_attribute, give_reference, give_unbuilt, write_several)
+pub ruleset severals = (side_first, side_later, address_cell, address_element, address_text, address_result, address_attribute, address_reference, address_named, address_named_reference, address_named_text, address_unbuilt, give_cell, give_element, give_text, give_result, give_attribute, give_reference, give_named, give_named_text, give_named_reference, give_unbuilt, write_several)

@@ -53,7 +53,7 @@ use Rattle.codegen.specs.declared.left.Left.{Left}
 use Rattle.codegen.specs.declared.left.Left.TheVariants as left
 use Rattle.codegen.specs.BuiltProgram.{AssignBuilt, BlockBuilt, CalledBuilt, ElementsBuilt, EnterBuilt, ForBuilt, LeftBuilt, ListBuilt, PrefixBuilt, StatementBuilt, StatementsBuilt, StepsBuilt, VariableBuilt}
 use Rattle.codegen.specs.CodeFor.{ForAt, GivesVariable, ListAt, LoadsVariable, OfCell, OfPlace, OfReference, StoresVariable, TakesValues, Variable, VariableThere, assigned_by, is_empty, variable_of, variable_stored}
-use Rattle.codegen.specs.CodeLeft.{AssignAt, AtAddress, AtAttribute, InCell, NotBuilt, Stored, ToReference, ToResult, ToText, each_stored, stored_left}
+use Rattle.codegen.specs.CodeLeft.{AssignAt, AtAddress, AtAttribute, InCell, NotBuilt, Stored, ToNamed, ToNamedReference, ToNamedText, ToReference, ToResult, ToText, each_stored, stored_left}
 use Rattle.sim_meaning.specs.Closing.{formals_at, is_text, is_text_type}
 use Rattle.codegen.specs.CodeStm.{ActivatesAt, ArmsAt, BlockAt, CalledAt, ConnectsAt, DropsAt, EnterAt, InspectAt, PrefixedAt, StmAt, StmsAt}
 use Rattle.codegen.specs.EmitTargets.{Controls, ElementsOver, ListOver, WritesLoaded, WritesStored, line_in, takes_values}
@@ -444,6 +444,7 @@ module _ (b : Bound) (w : Spot) where
         roomier = g.roomier;
         larger = g.larger;
         classed = g.classed;
+        thunked = g.thunked;
         built = λ h. g.built (over_list s w.text v es Body h);
         before = g.before;
         only = λ u. list_over s w.text v es Body (g.only u);
@@ -470,6 +471,9 @@ module _ (b : Bound) (w : Spot) where
   no_for s o (ToReference e line) es' Body h = absurd h
   no_for s o (ToText e line) es' Body h = absurd h
   no_for s o (ToResult home line) es' Body h = absurd h
+  no_for s o (ToNamed d line) es Body h = absurd h
+  no_for s o (ToNamedText d line) es Body h = absurd h
+  no_for s o (ToNamedReference d class line) es Body h = absurd h
   no_for s o NotBuilt es Body h = absurd h
 
   pub write_for_unbuilt : (a c : DraftOf) (name : Identifier) (o : Option ℕ) (es : List syntax.Element) (z : Stmt) (r : Left) → FindsNamed b w name [] r → r ≡ left.NotBuilt → c ≡ given_up a → WritesFor b w a c name o es z
@@ -484,6 +488,15 @@ module _ (b : Bound) (w : Spot) where
 
   pub write_for_reference : (a c : DraftOf) (name : Identifier) (o : Option ℕ) (es : List syntax.Element) (z : Stmt) (r : Left) → FindsNamed b w name [] r → r ≡ left.Reference → c ≡ given_up a → WritesFor b w a c name o es z
   write_for_reference a c name o es z r f er ec = absurd (for_is name r left.Reference f er)
+
+  pub write_for_named : (a c : DraftOf) (name : Identifier) (o : Option ℕ) (es : List syntax.Element) (z : Stmt) (d : DeclNo) (r : Left) → FindsNamed b w name [] r → r ≡ left.Named d → c ≡ given_up a → WritesFor b w a c name o es z
+  write_for_named a c name o es z d r f er ec = absurd (for_is name r (left.Named d) f er)
+
+  pub write_for_named_text : (a c : DraftOf) (name : Identifier) (o : Option ℕ) (es : List syntax.Element) (z : Stmt) (d : DeclNo) (r : Left) → FindsNamed b w name [] r → r ≡ left.NamedText d → c ≡ given_up a → WritesFor b w a c name o es z
+  write_for_named_text a c name o es z d r f er ec = absurd (for_is name r (left.NamedText d) f er)
+
+  pub write_for_named_reference : (a c : DraftOf) (name : Identifier) (o : Option ℕ) (es : List syntax.Element) (z : Stmt) (d : DeclNo) (class : ℕ) (r : Left) → FindsNamed b w name [] r → r ≡ left.NamedReference d class → c ≡ given_up a → WritesFor b w a c name o es z
+  write_for_named_reference a c name o es z d class r f er ec = absurd (for_is name r (left.NamedReference d class) f er)
 
   pub write_for_element : (a c : DraftOf) (name : Identifier) (o : Option ℕ) (es : List syntax.Element) (z : Stmt) (token : TokenNo) (d : DeclNo) (xs : Bor (List Expr)) (r : Left) → FindsNamed b w name [] r → r ≡ left.Element token d xs → c ≡ given_up a → WritesFor b w a c name o es z
   unfolding WritesFor
@@ -703,4 +716,4 @@ module _ (b : Bound) (w : Spot) where
             e15 ee e16)))),
       ))
 
-pub ruleset writes = (write_empty, write_block, write_call, write_assigned, write_when, write_while, write_for_texts, write_for_values, write_references, write_objects, write_prefixed, write_inner, write_connects, write_arms, write_activation, write_body, write_nowhere, write_outermost, write_elsewhere, write_entry, write_named_call, write_taken_call, some_taken, write_closed_call, write_new_call, write_other_call, write_dropped, write_kept, write_lost, write_stays, write_single, write_not_single, write_for_unbuilt, write_for_text, write_for_result, write_for_reference, write_for_element, write_for_cell, write_for_attribute, write_one_of, write_no_element, write_once, write_while_element, write_no_step, write_step, turn_whole, turn_sent)
+pub ruleset writes = (write_empty, write_block, write_call, write_assigned, write_when, write_while, write_for_texts, write_for_values, write_references, write_objects, write_prefixed, write_inner, write_connects, write_arms, write_activation, write_body, write_nowhere, write_outermost, write_elsewhere, write_entry, write_named_call, write_taken_call, some_taken, write_closed_call, write_new_call, write_other_call, write_dropped, write_kept, write_lost, write_stays, write_single, write_not_single, write_for_unbuilt, write_for_text, write_for_result, write_for_reference, write_for_named, write_for_named_text, write_for_named_reference, write_for_element, write_for_cell, write_for_attribute, write_one_of, write_no_element, write_once, write_while_element, write_no_step, write_step, turn_whole, turn_sent)

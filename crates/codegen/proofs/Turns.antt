@@ -14,7 +14,7 @@ use Rattle.sim_code.specs.Code.{CodeOf}
 use Rattle.codegen_expr.specs.declared.spot.Spot.{Spot}
 use Rattle.codegen_expr.specs.Drafts.{Becomes, DraftOf, Emits, filled_in, with_hole, with_temp}
 use Rattle.codegen_expr.specs.Sites.{Ahead, Is, Site, lined}
-use Rattle.codegen_expr.proofs.Pieces.{becomes_filled, becomes_later, emits_as, emits_inside, emits_temp, emits_then, fronts_set, fronts_then, get_front, later_emits, run_set, set_same}
+use Rattle.codegen_expr.proofs.Pieces.{becomes_filled, becomes_later, emits_as, emits_inside, emits_temp, emits_then, fronts_set, fronts_then, get_front, later_emits, more_before, more_then, run_set, set_same}
 use Rattle.codegen.specs.declared.lists.Shared.{Shared}
 use Rattle.codegen.specs.BuiltProgram.{StatementBuilt}
 use Rattle.codegen.specs.CodeFor.{ElementsAt, ListAt, OneElementAt, ReturnsAt, TurnAt, Variable, is_empty}
@@ -118,9 +118,9 @@ module _ (b : Bound) (w : Spot) where
       let place : hole ≡ chain + 5 * k = omega (arith, eh, same) in
       turns_step a c d t0 start chain k hole xs (drop k xs) [] x f at place (subst (λ n. PutsTurn b w c d t0 x start n hole) same one) d (finished d t0 start chain (k + 1))
 
-  pub write_inside : (a c : DraftOf) (z : Stmt) (u : Spot) → u.text ≡ w.text → u.used ≡ suc w.used → WritesStatement b u a c z → WritesInside b w a c z
+  pub write_inside : (a c : DraftOf) (z : Stmt) (u : Spot) → u.text ≡ w.text → u.temps ≡ w.temps → u.used ≡ suc w.used → WritesStatement b u a c z → WritesInside b w a c z
   unfolding WritesInside WritesStatement
-  write_inside a c z u et eu f = emits_inside w u (StatementBuilt (source_of b) w.text (statement_syntax z)) (λ final site p q. StmAt (source_of b) final site 0 (statement_syntax z) p q) a c w.used et eu (subst (λ n. Emits u a c (StatementBuilt (source_of b) n (statement_syntax z)) (λ final site p q. StmAt (source_of b) final site 0 (statement_syntax z) p q)) et f)
+  write_inside a c z u et em eu f = emits_inside w u (StatementBuilt (source_of b) w.text (statement_syntax z)) (λ final site p q. StmAt (source_of b) final site 0 (statement_syntax z) p q) a c w.used et em eu (subst (λ n. Emits u a c (StatementBuilt (source_of b) n (statement_syntax z)) (λ final site p q. StmAt (source_of b) final site 0 (statement_syntax z) p q)) et f)
 
   pub write_shared : (c0 c1 c2 c3 c4 c5 c6 : DraftOf) (es : List Element) (z : Stmt) (t0 : Target) (over start chain first : ℕ) (j : Instr) → 1 < length es → is_empty (statement_syntax z) ≡ false → c1 ≡ with_temp c0 w.used → over ≡ length c1.instrs → c2 ≡ with_hole c1 → start ≡ length c2.instrs → WritesInside b w c2 c3 z → chain ≡ length c3.instrs
       → WritesReturns b w c3 c4 es (length c3.instrs) 0 → first ≡ length c4.instrs → j ≡ i.Jump (pos first) → c5 ≡ filled_in c4 over j → WritesTurns b w c5 c6 t0 es start chain 0 → WritesList b w c0 c6 t0 es z
@@ -165,6 +165,7 @@ module _ (b : Bound) (w : Spot) where
         roomier = omega (arith, rm, room, rr);
         larger = omega (arith, sm, size, sr);
         classed = r.classed ∙ ap (λ z. z.classes) e5' ∙ e14.classed;
+        thunked = more_then e14.thunked (more_before (ap (λ z. z.thunks) e5') r.thunked);
         built = λ p h. r.built p.1 (whole ∙ e14.built (tt, (p.0, tt)) h);
         before = λ h. e14.before (sym whole ∙ r.before h);
         only = λ h. ((e14.only (sym whole ∙ r.before h)).1.0, r.only h);

@@ -31,11 +31,11 @@ use Rattle.program_texts.specs.declared.tree.TextTree.{TextTree}
 use Rattle.program_texts.specs.declared.tree.TextTree.TheVariants as tree
 use Rattle.program_texts.specs.TextTrees.{block_text, class_text, heading_of, prefixed_text, text_in}
 use Rattle.codegen_expr.specs.declared.spot.Spot.{Spot}
-use Rattle.codegen_expr.specs.Drafts.{Becomes, DraftOf, Emits, Grows, class_of, given_up, planned_at, planned_front, planned_in, with_instr}
+use Rattle.codegen_expr.specs.Drafts.{Becomes, DraftOf, Emits, Grows, ThunksGrow, class_of, given_up, planned_at, planned_front, planned_in, with_instr}
 use Rattle.codegen_expr.proofs.Slots.{front_planned, start_planned}
-use Rattle.codegen_expr.specs.Sites.{Site, block_in_front, block_number, cells_in, class_in, lined, own_part, room_of_block}
+use Rattle.codegen_expr.specs.Sites.{Site, block_in_front, block_number, cells_in, class_in, expression_temps, lined, own_part, room_of_block}
 use Rattle.codegen.proofs.ClassLevels.{emits_to}
-use Rattle.codegen_expr.proofs.Pieces.{Fronts, append_at, emits_at, emits_then, fronts_le, fronts_then, get_front, grows_front, grows_then}
+use Rattle.codegen_expr.proofs.Pieces.{Fronts, append_at, emits_at, emits_then, fronts_le, fronts_then, get_front, grows_front, grows_then, more_before, more_behind, more_same}
 use Rattle.codegen.specs.declared.texts.ClassAt.{ClassAt}
 use Rattle.codegen.specs.declared.texts.Head.{Head}
 use Rattle.codegen.specs.declared.texts.Written.{Written}
@@ -73,11 +73,11 @@ Place = CodeOf → Site → ℕ → ℕ → Type 0
 
 -- where the code of a text is written
 abbrev pub spot : (text used : ℕ) → Spot
-spot n m = record { text = n; used = m }
+spot n m = record { text = n; temps = m; used = m + expression_temps }
 
 -- a draft in which the code of a text begins
 abbrev pub restarted : DraftOf → ℕ → DraftOf
-restarted c n = record { instrs = c.instrs; room = 0; size = n; whole = c.whole; classes = c.classes }
+restarted c n = record { instrs = c.instrs; room = 0; size = n; whole = c.whole; classes = c.classes; thunks = c.thunks }
 
 -- What is known of a text whose record is added: the record in the end, where its code stands, and that its draft becomes the code.
 pub record Recorded (s : Source) (k used : ℕ) (x : Text) (c : DraftOf) (new : Written) (head : Head) (final : CodeOf) (b : BlockOf) : Type 0 where
@@ -134,9 +134,11 @@ recorded b k x c stop before mid new head final used added next one eu em ne eb 
         roomy = omega (arith, r1, r2);
         sized = omega (arith, z1, z2);
         stands = refl;
-        taken = ap (λ z. z + length (own_part s k)) (start_planned s final plan k known) ∙ sym eu;
+        temps = ap (λ z. z + length (own_part s k)) (start_planned s final plan k known) ∙ sym eu;
+        taken = ap (λ z. z + expression_temps) (ap (λ z. z + length (own_part s k)) (start_planned s final plan k known) ∙ sym eu);
         follows = within final.instrs (length c.instrs) (lined stop 0) there;
         classed = λ j. g.classed j ∙ ap (λ z. planned_at z.classes j) draft;
+        thunked = subst (λ z. ThunksGrow z final.thunks) (ap (λ z. z.thunks) draft) g.thunked;
       };
     }
 
@@ -147,13 +149,13 @@ Body = CodeOf → Site → ℕ → ℕ → Type 0
 
 -- Behind old the body of a text begins at c2 and ends at c3, and one more instruction ends it. Its record is added last.
 text_emitted : (b : Bound) (k : ℕ) (x : Text) (old mid new : Written) (c2 c3 : DraftOf) (P : Type 0) (There : Body) (stop : Instr) (head : Head) (used : ℕ)
-    → OwnEnd b old.draft.classes k used → Fronts old.draft.instrs c2.instrs → c2.whole ≡ old.draft.whole → c2.classes ≡ old.draft.classes → (AllRun old.draft.instrs → AllRun c2.instrs)
+    → OwnEnd b old.draft.classes k used → Fronts old.draft.instrs c2.instrs → c2.whole ≡ old.draft.whole → c2.classes ≡ old.draft.classes → c2.thunks ≡ old.draft.thunks → (AllRun old.draft.instrs → AllRun c2.instrs)
     → Emits (spot k used) c2 c3 P There → mid.draft ≡ with_instr c3 stop 0 → stop ≢ i.Halt → runs stop ≡ true → mid.blocks.items ≡ old.blocks.items → mid.classes.items ≡ old.classes.items
     → BlockAdded (source_of b) mid new head → Next (source_of b) old k x → head.text ≡ k → kinds_agree (source_of b) k x head.kind → blocks_in x ≡ 1 → is_planned x ≡ true → (TextBuilt (source_of b) k x → P)
     → ((final : CodeOf) (blk : BlockOf) → Grows new.draft.instrs final.instrs → blk.entry ≡ head.entry → RecordOf (source_of b) final k head.kind head.result_type blk → BodyOf final (There final (site_of (source_of b) final k blk)) stop (length c2.instrs) → CodeHas (source_of b) final k x (Some blk))
     → TextEmitted (source_of b) old new k x
 unfolding with_instr
-text_emitted b k x old mid new c2 c3 P There stop head used eu fr ew ecl run e em ne rs ebl ecs added next et agrees one all from code =
+text_emitted b k x old mid new c2 c3 P There stop head used eu fr ew ecl ect run e em ne rs ebl ecs added next et agrees one all from code =
     let s = source_of b in
     let draft : new.draft ≡ with_instr c3 stop 0 = added.same ∙ em in
     let i4 : new.draft.instrs ≡ c3.instrs ++ (lined stop 0 ∷ []) = ap (λ z. z.instrs) draft in
@@ -166,6 +168,7 @@ text_emitted b k x old mid new c2 c3 P There stop head used eu fr ew ecl run e e
       rest = all_there.0;
       front = all_there.1;
       classed = ap (λ z. z.classes) draft ∙ classed;
+      thunked = more_behind (ap (λ z. z.thunks) draft) (more_before ect e.thunked);
       fits = λ h. last.fits (e.fits (run h));
       added = added.block ∷ [];
       blocks = added.is ∙ ap (λ z. z ++ (added.block ∷ [])) ebl;
@@ -201,12 +204,12 @@ module _ (b : Bound) where
   abbrev Parts : (ds : Declarations) (ss : Statements) → Body
   Parts ds ss final site p q = (x : ℕ) × ArraysAt (source_of b) final site ds p x × StmsAt (source_of b) final site 0 ss x q
 
-  pub block_text_written : (old mid new : Written) (c1 c2 c3 : DraftOf) (k : Block) (ds : List Decl) (ss : List Stmt) (n entry m : ℕ) → n ≢ 0 → entry ≡ length old.draft.instrs → OwnEnd b old.draft.classes n m
-      → c1 ≡ restarted old.draft m → WritesArrays b (spot n m) c1 c2 ds → ds ≡ k.declarations.items → WritesStatements b (spot n m) c2 c3 ss → ss ≡ k.statements.items → mid.draft ≡ with_instr c3 i.Leave 0 → mid.blocks ≡ old.blocks → mid.classes ≡ old.classes
+  pub block_text_written : (old mid new : Written) (c1 c2 c3 : DraftOf) (k : Block) (ds : List Decl) (ss : List Stmt) (n entry m : ℕ) (w : Spot) → n ≢ 0 → entry ≡ length old.draft.instrs → OwnEnd b old.draft.classes n m
+      → c1 ≡ restarted old.draft m → w ≡ spot n m → WritesArrays b w c1 c2 ds → ds ≡ k.declarations.items → WritesStatements b w c2 c3 ss → ss ≡ k.statements.items → mid.draft ≡ with_instr c3 i.Leave 0 → mid.blocks ≡ old.blocks → mid.classes ≡ old.classes
       → AddsBlock b mid new (head_of kind.SubBlock n entry type.Nothing) → WritesBlockText b old new n k
   unfolding WritesBlockText WritesArrays WritesStatements AddsBlock kinds_agree
-  block_text_written old mid new c1 c2 c3 k ds ss zero entry m ne ee eo e1 fa ed fs es e4 ebl ecs fb = absurd (ne refl)
-  block_text_written old mid new c1 c2 c3 k ds ss (suc n) entry m ne ee eo e1 fa ed fs es e4 ebl ecs fb =
+  block_text_written old mid new c1 c2 c3 k ds ss zero entry m w ne ee eo e1 is fa ed fs es e4 ebl ecs fb = absurd (ne refl)
+  block_text_written old mid new c1 c2 c3 k ds ss (suc n) entry m w ne ee eo e1 is fa ed fs es e4 ebl ecs fb =
       let s = source_of b in
       let xs = declarations (map declaration_syntax ds) in
       let ys = statements (map statement_syntax ss) in
@@ -214,8 +217,8 @@ module _ (b : Bound) where
       let start : length c1.instrs ≡ entry = ap length i1 ∙ sym ee in
       subst (λ z. Next s old (suc n) (block_text z) → TextEmitted s old new (suc n) (block_text z)) (sym (syntax_of_block k ds ss ed es))
       (λ next. text_emitted b (suc n) (BlockText k.token.0 xs ys) old mid new c1 c3 (ArraysBuilt s (suc n) xs × StatementsBuilt s (suc n) ys) (Parts xs ys) i.Leave (head_of kind.SubBlock (suc n) entry type.Nothing) m eo
-      (subst (λ z. Fronts old.draft.instrs z) (sym i1) ([], sym (append-nil old.draft.instrs))) (ap (λ z. z.whole) e1) (ap (λ z. z.classes) e1) (subst AllRun (sym i1))
-      (emits_then (spot (suc n) m) (ArraysBuilt s (suc n) xs) (StatementsBuilt s (suc n) ys) (λ f site. ArraysAt s f site xs) (λ f site. StmsAt s f site 0 ys) c1 c2 c3 fa fs)
+      (subst (λ z. Fronts old.draft.instrs z) (sym i1) ([], sym (append-nil old.draft.instrs))) (ap (λ z. z.whole) e1) (ap (λ z. z.classes) e1) (ap (λ z. z.thunks) e1) (subst AllRun (sym i1))
+      (emits_then (spot (suc n) m) (ArraysBuilt s (suc n) xs) (StatementsBuilt s (suc n) ys) (λ f site. ArraysAt s f site xs) (λ f site. StmsAt s f site 0 ys) c1 c2 c3 (subst (λ z. WritesArrays b z c1 c2 ds) is fa) (subst (λ z. WritesStatements b z c2 c3 ss) is fs))
       e4 (λ z. cc) refl (ap (λ z. z.items) ebl) (ap (λ z. z.items) ecs) fb next refl refl refl refl (λ h. h)
       (λ final blk g eb rec body. record { heads = rec; body = subst (λ z. BodyOf final (BlockBody s final (site_of s final (suc n) blk) xs ys) i.Leave z) (start ∙ sym eb) body }))
 
@@ -223,32 +226,32 @@ module _ (b : Bound) where
   procedure_code final zero result h a blk rec body = record { heads = rec; body = body }
   procedure_code final (suc k) result h a blk rec body = record { heads = rec; body = body }
 
-  pub procedure_text_written : (old mid new : Written) (c1 c3 : DraftOf) (result : Option TypeName) (a : Stmt) (rt : CodeType) (n entry m : ℕ) → entry ≡ length old.draft.instrs → OwnEnd b old.draft.classes n m
-      → c1 ≡ restarted old.draft m → WritesStatement b (spot n m) c1 c3 a → mid.draft ≡ with_instr c3 i.Return 0 → mid.blocks ≡ old.blocks → mid.classes ≡ old.classes → rt ≡ type_of_name result
+  pub procedure_text_written : (old mid new : Written) (c1 c3 : DraftOf) (result : Option TypeName) (a : Stmt) (rt : CodeType) (n entry m : ℕ) (w : Spot) → entry ≡ length old.draft.instrs → OwnEnd b old.draft.classes n m
+      → c1 ≡ restarted old.draft m → w ≡ spot n m → WritesStatement b w c1 c3 a → mid.draft ≡ with_instr c3 i.Return 0 → mid.blocks ≡ old.blocks → mid.classes ≡ old.classes → rt ≡ type_of_name result
       → AddsBlock b mid new (head_of kind.Procedure n entry rt) → WritesProcedureText b old new n result a
   unfolding WritesProcedureText WritesStatement AddsBlock kinds_agree
-  procedure_text_written old mid new c1 c3 result a rt n entry m ee eo e1 fs e4 ebl ecs er fb = λ h next.
+  procedure_text_written old mid new c1 c3 result a rt n entry m w ee eo e1 is fs e4 ebl ecs er fb = λ h next.
       let s = source_of b in
       let y = statement_syntax a in
       let i1 : c1.instrs ≡ old.draft.instrs = ap (λ z. z.instrs) e1 in
       let start : length c1.instrs ≡ entry = ap length i1 ∙ sym ee in
       text_emitted b n (ProcedureText result h y) old mid new c1 c3 (StatementBuilt s n y) (λ final site p q. StmAt s final site 0 y p q) i.Return (head_of kind.Procedure n entry (type_of_name result)) m eo
-      (subst (λ z. Fronts old.draft.instrs z) (sym i1) ([], sym (append-nil old.draft.instrs))) (ap (λ z. z.whole) e1) (ap (λ z. z.classes) e1) (subst AllRun (sym i1)) fs e4 (λ z. cc) refl (ap (λ z. z.items) ebl) (ap (λ z. z.items) ecs)
+      (subst (λ z. Fronts old.draft.instrs z) (sym i1) ([], sym (append-nil old.draft.instrs))) (ap (λ z. z.whole) e1) (ap (λ z. z.classes) e1) (ap (λ z. z.thunks) e1) (subst AllRun (sym i1)) (subst (λ z. WritesStatement b z c1 c3 a) is fs) e4 (λ z. cc) refl (ap (λ z. z.items) ebl) (ap (λ z. z.items) ecs)
       (subst (λ z. BlockAdded s mid new (head_of kind.Procedure n entry z)) er fb) next refl refl refl refl (λ z. z)
       (λ final blk g eb rec body. procedure_code final n result h y blk rec (subst (λ z. BodyOf final (StmAt s final (site_of s final n blk) 0 y) i.Return z) (start ∙ sym eb) body))
 
-  pub program_text_written : (old mid new : Written) (c1 c c2 c3 : DraftOf) (k : Block) (ds : List Decl) (ss : List Stmt) (m line : ℕ) → OwnEnd b old.draft.classes 0 m
-      → c1 ≡ restarted old.draft m → line ≡ line_at (source_of b) k.token.0 → c ≡ with_instr c1 (i.Jump (pos 1)) line → WritesArrays b (spot 0 m) c c2 ds → ds ≡ k.declarations.items → WritesStatements b (spot 0 m) c2 c3 ss → ss ≡ k.statements.items
+  pub program_text_written : (old mid new : Written) (c1 c c2 c3 : DraftOf) (k : Block) (ds : List Decl) (ss : List Stmt) (m line : ℕ) (w : Spot) → OwnEnd b old.draft.classes 0 m
+      → c1 ≡ restarted old.draft m → w ≡ spot 0 m → line ≡ line_at (source_of b) k.token.0 → c ≡ with_instr c1 (i.Jump (pos 1)) line → WritesArrays b w c c2 ds → ds ≡ k.declarations.items → WritesStatements b w c2 c3 ss → ss ≡ k.statements.items
       → mid.draft ≡ with_instr c3 (i.EndLevel (pos 0)) 0 → mid.blocks ≡ old.blocks → mid.classes ≡ old.classes → AddsBlock b mid new (head_of kind.SubBlock 0 0 type.Nothing) → WritesBlockText b old new 0 k
   unfolding WritesBlockText WritesArrays WritesStatements AddsBlock kinds_agree with_instr
-  program_text_written old mid new c1 c c2 c3 k ds ss m line eo e1 el ec fa ed fs es e4 ebl ecs fb =
+  program_text_written old mid new c1 c c2 c3 k ds ss m line w eo e1 is el ec fa ed fs es e4 ebl ecs fb =
       let s = source_of b in
       let xs = declarations (map declaration_syntax ds) in
       let ys = statements (map statement_syntax ss) in
       let i1 : c1.instrs ≡ old.draft.instrs = ap (λ z. z.instrs) e1 in
       let jump = emits_at (spot 0 m) c1 c (i.Jump (pos 1)) line ec (λ z. cc) refl in
       let ic : c.instrs ≡ old.draft.instrs ++ (lined (i.Jump (pos 1)) line ∷ []) = ap (λ z. z.instrs) ec ∙ ap (λ z. z ++ (lined (i.Jump (pos 1)) line ∷ [])) i1 in
-      let body = emits_then (spot 0 m) (ArraysBuilt s 0 xs) (StatementsBuilt s 0 ys) (λ f site. ArraysAt s f site xs) (λ f site. StmsAt s f site 0 ys) c c2 c3 fa fs in
+      let body = emits_then (spot 0 m) (ArraysBuilt s 0 xs) (StatementsBuilt s 0 ys) (λ f site. ArraysAt s f site xs) (λ f site. StmsAt s f site 0 ys) c c2 c3 (subst (λ z. WritesArrays b z c c2 ds) is fa) (subst (λ z. WritesStatements b z c2 c3 ss) is fs) in
       let i4 : new.draft.instrs ≡ c3.instrs ++ (lined (i.EndLevel (pos 0)) 0 ∷ []) = ap (λ z. z.instrs) (fb.same ∙ e4) in
       let fr : Fronts c.instrs new.draft.instrs = fronts_then c.instrs c3.instrs new.draft.instrs (body.rest, body.front) (lined (i.EndLevel (pos 0)) 0 ∷ [], i4) in
       subst (λ z. Next s old 0 (block_text z) → TextEmitted s old new 0 (block_text z)) (sym (syntax_of_block k ds ss ed es))
@@ -257,7 +260,7 @@ module _ (b : Bound) where
       let one : length c.instrs ≡ 1 = (let h : length c.instrs ≡ length old.draft.instrs + 1 = ap length ic ∙ length-append old.draft.instrs (lined (i.Jump (pos 1)) line ∷ []) in omega (arith, h, none)) in
       let at : slice_get c.instrs 0 ≡ Some (lined (i.Jump (pos 1)) line) = ap (λ z. slice_get z 0) ic ∙ ap (λ z. slice_get (old.draft.instrs ++ (lined (i.Jump (pos 1)) line ∷ [])) z) (sym none) ∙ append_at old.draft.instrs (lined (i.Jump (pos 1)) line) in
       text_emitted b 0 (BlockText k.token.0 xs ys) old mid new c c3 (ArraysBuilt s 0 xs × StatementsBuilt s 0 ys) (Parts xs ys) (i.EndLevel (pos 0)) (head_of kind.SubBlock 0 0 type.Nothing) m eo
-      (lined (i.Jump (pos 1)) line ∷ [], ic) (ap (λ z. z.whole) ec ∙ ap (λ z. z.whole) e1) (ap (λ z. z.classes) ec ∙ ap (λ z. z.classes) e1) (λ h. jump.fits (subst AllRun (sym i1) h)) body e4 (λ z. cc) refl (ap (λ z. z.items) ebl) (ap (λ z. z.items) ecs) fb next refl refl refl refl (λ h. h)
+      (lined (i.Jump (pos 1)) line ∷ [], ic) (ap (λ z. z.whole) ec ∙ ap (λ z. z.whole) e1) (ap (λ z. z.classes) ec ∙ ap (λ z. z.classes) e1) (ap (λ z. z.thunks) ec ∙ ap (λ z. z.thunks) e1) (λ h. jump.fits (subst AllRun (sym i1) h)) body e4 (λ z. cc) refl (ap (λ z. z.items) ebl) (ap (λ z. z.items) ecs) fb next refl refl refl refl (λ h. h)
       (λ final blk g eb rec bd. record {
         heads = rec;
         start = 1;
@@ -285,6 +288,7 @@ text_given_up s old new k x never e eb ec =
       rest = [];
       front = ei ∙ sym (append-nil old.draft.instrs);
       classed = ap (λ z. z.classes) e;
+      thunked = more_same (ap (λ z. z.thunks) e);
       fits = subst AllRun (sym ei);
       added = [];
       blocks = ap (λ z. z.items) eb ∙ sym (append-nil old.blocks.items);

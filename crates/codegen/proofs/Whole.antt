@@ -137,6 +137,7 @@ ends_before s old new k x final f g = record {
   blocks = λ j b is. g.blocks j b (ap (λ z. slice_get z j) f.blocks ∙ get_front old.blocks.items f.added j b is);
   classes = λ j c is. g.classes j c (f.kept j c is);
   classed = λ j. g.classed j ∙ ap (λ z. planned_at z j) f.classed;
+  thunked = Rattle.codegen_expr.proofs.Pieces.thunks_grow old.draft.thunks new.draft.thunks final.thunks f.thunked g.thunked;
 }
 
 -- ---- the first texts
@@ -329,10 +330,10 @@ module _ (s : Source) (code : CodeOf) (agrees : Agrees s) (each : (k : ℕ) (x :
 -- ---- the code
 
 abbrev whole_code : List (List ℕ) → List ClassOf → Written → CodeOf
-whole_code texts classes w = record { texts = texts; blocks = w.blocks.items; classes = classes; thunks = []; actual_lists = actual_lists; instrs = w.draft.instrs }
+whole_code texts classes w = record { texts = texts; blocks = w.blocks.items; classes = classes; thunks = w.draft.thunks; actual_lists = actual_lists; instrs = w.draft.instrs }
 
 abbrev nothing : List PlannedOf → DraftOf
-nothing plan = record { instrs = []; room = 0; size = 0; whole = true; classes = plan }
+nothing plan = record { instrs = []; room = 0; size = 0; whole = true; classes = plan; thunks = [] }
 
 map_length : {A B : Type 0} (f : A → B) (xs : List A) → length (map f xs) ≡ length xs
 map_length f [] = refl
@@ -412,6 +413,7 @@ module _ (b : Bound) (old new : Written) (ts : List TextTree) (plan : List Plann
       blocks = λ j y there. there;
       classes = λ j y there. let r = recorded j (Some y) there in (matches_in_class (source_of b) r.0, r.2);
       classed = classed;
+      thunked = record { keeps = λ k x is some'. is };
     }
 
     each : (k : ℕ) (x : Text) → text (source_of b) k ≡ Some x → CodeHas (source_of b) all k x (slice_get all.blocks (block_number (source_of b) k))
@@ -450,7 +452,7 @@ module _ (b : Bound) (old new : Written) (ts : List TextTree) (plan : List Plann
 
 pub code_stands : (b : Bound) (old new : Written) (ts for_plan for_code : List TextTree) (plan : List PlannedOf) (texts : List (List ℕ)) (classes : List ClassOf) (thunks : List ThunkRecord) (lists : List (List CodeActual)) (instrs : List Lined)
     → ProgramBuilt (source_of b) → AreTexts b.program ts → old.draft ≡ nothing plan → old.blocks.items ≡ [] → for_plan ≡ ts → IsPlan b plan for_plan → for_code ≡ ts → WritesProgram b old new for_code → texts ≡ constants_of (source_of b)
-    → AreClasses b new classes → thunks ≡ [] → lists ≡ actual_lists → instrs ≡ new.draft.instrs → Compiled (source_of b) (record { texts = texts; blocks = new.blocks.items; classes = classes; thunks = thunks; actual_lists = lists; instrs = instrs })
+    → AreClasses b new classes → thunks ≡ new.draft.thunks → lists ≡ actual_lists → instrs ≡ new.draft.instrs → Compiled (source_of b) (record { texts = texts; blocks = new.blocks.items; classes = classes; thunks = thunks; actual_lists = lists; instrs = instrs })
 code_stands b old new ts for_plan for_code plan texts classes thunks lists instrs built are ed eb e1 ep e2 f et g eth el ei =
     let s = source_of b in
     let blocks = new.blocks.items in

@@ -1,4 +1,4 @@
--- Which programs are built: all whose expressions are built, and whose left sides are no parameters by name.
+-- Which programs are built: all whose expressions and left sides are built.
 use Rattle.std.specs.Prelude.{◌≡◌, ⊤, ℕ, zero, suc, Bool, true, false, ◌||◌, List, [], ◌∷◌, Option, Some, None}
 use Rattle.sim_base.specs.declared.numbering.DeclNo.{DeclNo}
 use Rattle.sim_scope.specs.Assignments.{last_value, left_sides}
@@ -20,12 +20,12 @@ use Rattle.codegen_expr.specs.CodeExpr.{gives}
 use Rattle.codegen_expr.specs.Sites.{Varies, frame_text, prefix_of}
 use Rattle.codegen.specs.Agrees.{Agrees, is_prefixed}
 use Rattle.codegen.specs.CodeFor.{OfCell, OfPlace, OfReference, Variable, assigned_by, variable_of}
-use Rattle.codegen.specs.CodeLeft.{AtAddress, AtAttribute, InCell, NotBuilt, Stored, ToReference, ToResult, ToText, each_stored}
+use Rattle.codegen.specs.CodeLeft.{AtAddress, AtAttribute, InCell, NotBuilt, Stored, ToNamed, ToNamedReference, ToNamedText, ToReference, ToResult, ToText, each_stored}
 use Rattle.codegen.specs.CodeStm.{inner_of}
 
 -- ---- assignments
 
--- a left side: a cell of a text around, an element of an array in such a cell, an attribute of an object, a reference, or a text
+-- a left side: a cell of a text around, an element of an array in such a cell, an attribute of an object, a reference, a text, or a formal parameter by name
 abbrev pub LeftBuilt : Source → (text : ℕ) → Stored → Type 0
 LeftBuilt s text (InCell home key) = KeyBuilt s text home key
 LeftBuilt s text (AtAddress d es line) = CellBuilt s text d × AreBuilt s text es
@@ -33,6 +33,9 @@ LeftBuilt s text (AtAttribute e) = PlaceBuilt s text e
 LeftBuilt s text (ToReference e line) = ReferenceBuilt s text e
 LeftBuilt s text (ToText e line) = IsBuilt s text e
 LeftBuilt s text (ToResult home line) = KeyBuilt s text home Result
+LeftBuilt s text (ToNamed d line) = CellBuilt s text d
+LeftBuilt s text (ToNamedText d line) = CellBuilt s text d
+LeftBuilt s text (ToNamedReference d class line) = CellBuilt s text d
 LeftBuilt s text NotBuilt = ⊥
 
 -- left sides, each of which is built

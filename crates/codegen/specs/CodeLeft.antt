@@ -19,11 +19,11 @@ use Rattle.sim_tree.specs.Syntax as syntax
 use Rattle.sim_code.specs.declared.instr.Instr.TheVariants as i
 use Rattle.sim_code.specs.Code.{CodeOf}
 use Rattle.sim_meaning.specs.Attributes.{connection_at, declared_attribute}
-use Rattle.sim_meaning.specs.Closing.{is_text, own_match, result_meant}
-use Rattle.sim_meaning.specs.Pending.{Declared, Key, Result}
+use Rattle.sim_meaning.specs.Closing.{by_name, class_of_formal, is_text, own_match, result_meant}
+use Rattle.sim_meaning.specs.Pending.{Declared, ForPlace, Key, Result}
 use Rattle.sim_meaning.specs.Virtuals.{text_of_procedure}
-use Rattle.codegen_expr.specs.Sites.{At, HasCell, Inside, Is, Pushes, Site, slot_of}
-use Rattle.codegen_expr.specs.CodeExpr.{ElementAt, ExprAt, ExprsAt, PlaceAt, ReferencePlaceAt}
+use Rattle.codegen_expr.specs.Sites.{At, HasCell, Inside, Is, Pushes, Site, class_number, slot_of}
+use Rattle.codegen_expr.specs.CodeExpr.{ByNameAt, ElementAt, ExprAt, ExprsAt, HeldAt, PlaceAt, ReferencePlaceAt}
 
 -- What a left side is in code: a cell, by its level and its slot; the address on the stack of an element, of an attribute of an object, or of
 -- a reference, which is held against its class; a text on the stack to which a text is assigned, which is the value of an expression or lies
@@ -35,6 +35,10 @@ pub data Stored : Type 0 where
   ToReference : Expression → (line : ℕ) → Stored
   ToText : Expression → (line : ℕ) → Stored
   ToResult : (text line : ℕ) → Stored
+  -- the variable of a formal parameter by name; its text; and where it is a reference, which is held against the class of the formal parameter too
+  ToNamed : DeclNo → (line : ℕ) → Stored
+  ToNamedText : DeclNo → (line : ℕ) → Stored
+  ToNamedReference : DeclNo → (class line : ℕ) → Stored
   NotBuilt : Stored
 
 abbrev pub stored_variable : Source → DeclNo → Expressions → Stored
@@ -87,11 +91,28 @@ abbrev pub stored_text : Option ℕ → Expression → (line : ℕ) → Stored
 stored_text None e line = ToText e line
 stored_text (Some block) e line = ToResult block line
 
+abbrev pub stored_by_sign : (text : Bool) → Assignment → Source → (line : ℕ) → Expression → Stored
+stored_by_sign true assignment.Value s line e = stored_text (result_meant s e) e line
+stored_by_sign true assignment.Reference s line e = stored_left s e
+stored_by_sign false assignment.Value s line e = stored_left s e
+stored_by_sign false assignment.Reference s line e = ToReference e line
+
+abbrev pub stored_held : DeclNo → (class : Option ℕ) → (line : ℕ) → Stored
+stored_held d None line = NotBuilt
+stored_held d (Some k) line = ToNamedReference d k line
+
+abbrev pub stored_named_by : (text : Bool) → Assignment → Source → DeclNo → (line : ℕ) → Stored
+stored_named_by true assignment.Value s d line = ToNamedText d line
+stored_named_by true assignment.Reference s d line = ToNamed d line
+stored_named_by false assignment.Value s d line = ToNamed d line
+stored_named_by false assignment.Reference s d line = stored_held d (class_of_formal s d) line
+
+abbrev pub stored_or_named : Option DeclNo → (text : Bool) → Assignment → Source → (line : ℕ) → Expression → Stored
+stored_or_named None text sign s line e = stored_by_sign text sign s line e
+stored_or_named (Some d) text sign s line e = stored_named_by text sign s d line
+
 abbrev pub stored_of : (text : Bool) → Assignment → Source → (line : ℕ) → Expression → Stored
-stored_of true assignment.Value s line e = stored_text (result_meant s e) e line
-stored_of true assignment.Reference s line e = stored_left s e
-stored_of false assignment.Value s line e = stored_left s e
-stored_of false assignment.Reference s line e = ToReference e line
+stored_of text sign s line e = stored_or_named (by_name s e) text sign s line e
 
 -- a left side, with the line of its sign
 abbrev pub stored : Source → Assignment → (line : ℕ) → Expression → Stored
@@ -113,17 +134,23 @@ LeftsAt s code site n (AtAttribute e ∷ rest) End p q = (x : ℕ) × PlaceAt s 
 LeftsAt s code site n (ToReference e line ∷ rest) End p q = (x : ℕ) × ReferencePlaceAt s code site n e p x × LeftsAt s code site (suc n) rest End x q
 LeftsAt s code site n (ToText e line ∷ rest) End p q = (x : ℕ) × ExprAt s code site n e p x × LeftsAt s code site (suc n) rest End x q
 LeftsAt s code site n (ToResult text line ∷ rest) End p q = (x : ℕ) × ResultAt s code site n text p x × LeftsAt s code site (suc n) rest End x q
+LeftsAt s code site n (ToNamed d line ∷ rest) End p q = (x : ℕ) × ByNameAt s code site n d NoMore (ForPlace false line) p x × LeftsAt s code site (suc n) rest End x q
+LeftsAt s code site n (ToNamedText d line ∷ rest) End p q = (x : ℕ) × (y : ℕ) × ByNameAt s code site n d NoMore (ForPlace false line) p x × Is code i.Fetch x y × LeftsAt s code site (suc n) rest End y q
+LeftsAt s code site n (ToNamedReference d class line ∷ rest) End p q = (x : ℕ) × ByNameAt s code site n d NoMore (ForPlace false line) p x × LeftsAt s code site (suc n) rest End x q
 LeftsAt s code site n (NotBuilt ∷ rest) End p q = ⊥
 
--- the value on top goes to one left side
-abbrev pub StoreAt : Source → CodeOf → Stored → ℕ → ℕ → Type 0
-StoreAt s code (InCell text key) p q = Is code (i.Store (pos (level_of s text)) (pos (slot_of s code text key))) p q
-StoreAt s code (AtAddress d es line) p q = Is code i.Put p q
-StoreAt s code (AtAttribute e) p q = Is code i.Put p q
-StoreAt s code (ToReference e line) p q = At code i.Put line p q
-StoreAt s code (ToText e line) p q = At code i.AssignT line p q
-StoreAt s code (ToResult text line) p q = At code i.AssignT line p q
-StoreAt s code NotBuilt p q = ⊥
+-- the value on top of n others goes to one left side
+abbrev pub StoreAt : Source → CodeOf → Site → ℕ → Stored → ℕ → ℕ → Type 0
+StoreAt s code site n (InCell text key) p q = Is code (i.Store (pos (level_of s text)) (pos (slot_of s code text key))) p q
+StoreAt s code site n (AtAddress d es line) p q = Is code i.Put p q
+StoreAt s code site n (AtAttribute e) p q = Is code i.Put p q
+StoreAt s code site n (ToReference e line) p q = At code i.Put line p q
+StoreAt s code site n (ToText e line) p q = At code i.AssignT line p q
+StoreAt s code site n (ToResult text line) p q = At code i.AssignT line p q
+StoreAt s code site n (ToNamed d line) p q = Is code i.Put p q
+StoreAt s code site n (ToNamedText d line) p q = At code i.AssignT line p q
+StoreAt s code site n (ToNamedReference d class line) p q = (x : ℕ) × HeldAt s code site n line (class_number s code class) p x × At code i.Put line x q
+StoreAt s code site n NotBuilt p q = ⊥
 
 abbrev pub addresses : List Stored → ℕ
 addresses [] = 0
@@ -132,6 +159,9 @@ addresses (AtAttribute e ∷ rest) = suc (addresses rest)
 addresses (ToReference e line ∷ rest) = suc (addresses rest)
 addresses (ToText e line ∷ rest) = suc (addresses rest)
 addresses (ToResult text line ∷ rest) = suc (addresses rest)
+addresses (ToNamed d line ∷ rest) = suc (addresses rest)
+addresses (ToNamedText d line ∷ rest) = suc (addresses rest)
+addresses (ToNamedReference d class line ∷ rest) = suc (addresses rest)
 addresses (_ ∷ rest) = addresses rest
 
 -- how many values are left where one left side has its value: one fewer behind an address or a text
@@ -141,13 +171,16 @@ below (AtAttribute e) (suc n) = n
 below (ToReference e line) (suc n) = n
 below (ToText e line) (suc n) = n
 below (ToResult text line) (suc n) = n
+below (ToNamed d line) (suc n) = n
+below (ToNamedText d line) (suc n) = n
+below (ToNamedReference d class line) (suc n) = n
 below _ n = n
 
 -- It goes to several, the last one first, from a temp of its own; the addresses and texts that still wait are among the n values.
 abbrev pub GivesAt : Source → CodeOf → Site → (temp n : ℕ) → List Stored → ℕ → ℕ → Type 0
 GivesAt s code site temp n [] p q = q ≡ p
 GivesAt s code site temp n (t ∷ rest) p q =
-    (x : ℕ) × (y : ℕ) × Pushes code site n (i.Load (pos (level_of s site.text)) (pos temp)) p x × StoreAt s code t x y × GivesAt s code site temp (below t n) rest y q
+    (x : ℕ) × (y : ℕ) × Pushes code site n (i.Load (pos (level_of s site.text)) (pos temp)) p x × StoreAt s code site n t x y × GivesAt s code site temp (below t n) rest y q
 
 -- the value on the right, and where it goes
 pub record SharesAt (s : Source) (code : CodeOf) (site : Site) (n : ℕ) (e : Expression) (ts : List Stored) (p q : ℕ) : Type 0 where
@@ -161,7 +194,7 @@ pub record SharesAt (s : Source) (code : CodeOf) (site : Site) (n : ℕ) (e : Ex
   pub gives : GivesAt s code site temp n (reverse ts) y q
 
 abbrev pub GoesAt : Source → CodeOf → Site → Expression → List Stored → ℕ → ℕ → ℕ → Type 0
-GoesAt s code site e (t ∷ []) n p q = (x : ℕ) × ExprAt s code site n e p x × StoreAt s code t x q
+GoesAt s code site e (t ∷ []) n p q = (x : ℕ) × ExprAt s code site n e p x × StoreAt s code site n t x q
 GoesAt s code site e ts n p q = SharesAt s code site n e ts p q
 
 abbrev pub each_stored : Source → List LeftSide → List Stored

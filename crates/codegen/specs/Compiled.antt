@@ -38,7 +38,7 @@ use Rattle.sim_meaning.specs.Levels.{has_levels, is_process_text, levels_of, wri
 use Rattle.sim_meaning.specs.Virtuals.{match_in_text}
 use Rattle.sim_meaning.specs.Pending.{Held, Of, Val}
 use Rattle.sim_meaning.specs.Texts.{BlockText, ClassText, ConnectionText, PrefixedText, ProcedureText, StandardText, Text as TextOf, is_class_free, text}
-use Rattle.codegen_expr.specs.Sites.{At, Is, Site, block_in_front, block_number, blocks_before, cells_in, cells_of_block, class_in, class_number, own_end, own_part, prefix_of, room_of_block, types_in}
+use Rattle.codegen_expr.specs.Sites.{At, Is, Site, block_in_front, block_number, blocks_before, cells_in, cells_of_block, class_in, class_number, expression_temps, own_end, own_part, prefix_of, room_of_block, types_in}
 use Rattle.codegen.specs.Agrees.{Agrees}
 use Rattle.codegen.specs.CodeArrays.{ArraysAt}
 use Rattle.codegen.specs.CodeStm.{LevelAt, ProcessAt, StmAt, StmsAt}
@@ -118,9 +118,9 @@ pub record RecordOf (s : Source) (code : CodeOf) (k : ℕ) (kind : BlockKind) (r
   pub counted : b.cells + b.temps ≡ length b.types
   pub roomy : room_of_block (block_in_front s code k) ≤ b.room
 
--- where the code of a text stands
+-- where the code of a text stands: the three temps of expressions lie behind its own part
 abbrev pub site_of : Source → CodeOf → (text : ℕ) → BlockOf → Site
-site_of s code k b = record { text = k; room = b.room; used = own_end s code k; size = length b.types }
+site_of s code k b = record { text = k; room = b.room; temps = own_end s code k; used = own_end s code k + expression_temps; size = length b.types }
 
 -- the code of a text from its entry on, up to the instruction that ends it
 pub record BodyOf (code : CodeOf) (Body : ℕ → ℕ → Type 0) (end : Instr) (entry : ℕ) : Type 0 where

@@ -14,7 +14,7 @@ use Rattle.sim_tree.specs.declared.expr.Identifier.{Identifier}
 use Rattle.sim_tree.specs.declared.expr.Selector.{Selector}
 use Rattle.sim_tree.specs.Syntax.{Expression, Expressions, Named, NoMore, expressions}
 use Rattle.sim_tree.specs.SyntaxOf.{selected, selector_syntax, syntax_of}
-use Rattle.sim_meaning.specs.Closing.{own_match, result_meant, type_of_left}
+use Rattle.sim_meaning.specs.Closing.{is_text, own_match, result_meant, type_of_left}
 use Rattle.sim_meaning.specs.Pending.{Key, Result}
 use Rattle.sim_meaning.specs.Virtuals.{text_of_procedure}
 use Rattle.codegen_expr.specs.declared.spot.Spot.{Spot}
@@ -25,7 +25,7 @@ use Rattle.sim_code.specs.declared.instr.Instr.TheVariants as i
 use Rattle.codegen.specs.declared.left.Left.{Left}
 use Rattle.codegen.specs.declared.left.Left.TheVariants as left
 use Rattle.codegen.specs.BuiltProgram.{LeftBuilt}
-use Rattle.codegen.specs.CodeLeft.{AtAddress, AtAttribute, InCell, Stored, ToReference, ToResult, ToText, stored, stored_declared, stored_element, stored_formal, stored_left, stored_named, stored_result, stored_text, stored_variable}
+use Rattle.codegen.specs.CodeLeft.{AtAddress, AtAttribute, InCell, Stored, ToNamed, ToNamedReference, ToNamedText, ToReference, ToResult, ToText, stored, stored_declared, stored_element, stored_formal, stored_left, stored_named, stored_named_by, stored_result, stored_text, stored_variable}
 
 abbrev pub operands_in : List Expr → Expressions
 operands_in es = expressions (map syntax_of es)
@@ -56,6 +56,9 @@ IsLeft s w e line left.Text t = t ≡ ToText e line
 IsLeft s w e line (left.Result home place) t = (t ≡ ToResult home line) × KeyBuilt s w.text home Result × (slot_in s home Result ≡ Some place)
 IsLeft s w e line left.Attribute t = t ≡ AtAttribute e
 IsLeft s w e line left.Reference t = t ≡ ToReference e line
+IsLeft s w e line (left.Named d) t = t ≡ ToNamed d line
+IsLeft s w e line (left.NamedText d) t = t ≡ ToNamedText d line
+IsLeft s w e line (left.NamedReference d class) t = t ≡ ToNamedReference d class line
 IsLeft s w e line l t = IsVariable s w l t
 
 -- of an identifier with so many subscripts: it is its own result without any
@@ -122,6 +125,10 @@ FindsType b x n r = r ≡ type_of_left (source_of b) (own_match_if n (own_match 
 -- the text that is assigned to
 unfoldable pub FindsText : Bound → Spot → Expr → Left → Type 0
 FindsText b w x r = (line : ℕ) → IsLeft (source_of b) w (syntax_of x) line r (stored_text (result_meant (source_of b) (syntax_of x)) (syntax_of x) line)
+
+-- a formal parameter by name, by its sign
+unfoldable pub FindsByName : Bound → Assignment → Expr → DeclNo → Left → Type 0
+FindsByName b sign x d r = (w : Spot) (line : ℕ) → IsLeft (source_of b) w (syntax_of x) line r (stored_named_by (is_text (source_of b) (syntax_of x)) sign (source_of b) d line)
 
 -- a left side, by its sign
 unfoldable pub FindsSide : Bound → Spot → Assignment → Expr → Left → Type 0

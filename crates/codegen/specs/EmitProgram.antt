@@ -33,7 +33,7 @@ use Rattle.sim_meaning.specs.Texts.{ClassText, ConnectionText, PrefixedText, Pro
 use Rattle.program_texts.specs.declared.tree.TextTree.{TextTree}
 use Rattle.program_texts.specs.TextTrees.{AreTexts, block_text, prefixed_text, text_in}
 use Rattle.codegen_expr.specs.declared.spot.Spot.{Spot}
-use Rattle.codegen_expr.specs.Drafts.{DraftOf, Emits, Grows, PlannedOf, class_of, planned_at, planned_front, planned_in, planned_start, with_instr}
+use Rattle.codegen_expr.specs.Drafts.{DraftOf, Emits, Grows, Longer, PlannedOf, ThunksGrow, class_of, planned_at, planned_front, planned_in, planned_start, with_instr}
 use Rattle.codegen_expr.specs.Sites.{block_number, cells_in, hidden_from, hidden_in, own_part}
 use Rattle.codegen.specs.declared.class_texts.LevelHead.{LevelHead}
 use Rattle.codegen.specs.declared.level_records.LevelStart.{LevelStart}
@@ -89,19 +89,21 @@ pub record Next (s : Source) (w : Written) (k : ℕ) (x : Text) : Type 0 where
 abbrev pub class_record : ClassAt → List Match → ClassOf
 class_record c matches = record { prefix = c.prefix; block = c.block; declarations = c.declarations; statements = c.statements; after_inner = c.after_inner; process = c.process; matches = matches }
 
--- A code that what is written becomes in the end: it keeps the instructions that are no holes, the blocks and the classes, and its blocks are
--- as planned.
+-- A code that what is written becomes in the end: it keeps the instructions that are no holes, the thunks, the blocks and the classes, and its
+-- blocks are as planned.
 pub record Ends (w : Written) (final : CodeOf) : Type 0 where
   pub grows : Grows w.draft.instrs final.instrs
   pub blocks : (j : ℕ) (b : BlockOf) → slice_get w.blocks.items j ≡ Some b → slice_get final.blocks j ≡ Some b
   pub classes : (j : ℕ) (c : ClassAt) → slice_get w.classes.items j ≡ Some (Some c) → (matches : List Match) × (slice_get final.classes j ≡ Some (class_record c matches))
   pub classed : (j : ℕ) → planned_in (slice_get final.blocks j) ≡ planned_at w.draft.classes j
+  pub thunked : ThunksGrow w.draft.thunks final.thunks
 
 -- A text is written. The draft stays whole where the text is built; and if it is whole, then whatever the code is in the end, that of the
 -- text stands in it.
 pub record TextEmitted (s : Source) (old new : Written) (k : ℕ) (x : Text) : Type 0 where
   pub rest : List Lined
   pub front : new.draft.instrs ≡ old.draft.instrs ++ rest
+  pub thunked : Longer old.draft.thunks new.draft.thunks
   pub classed : new.draft.classes ≡ old.draft.classes
   pub fits : AllRun old.draft.instrs → AllRun new.draft.instrs
   pub added : List BlockOf
@@ -143,6 +145,7 @@ formals_by_kind s _ k = formals_of s k
 pub record Entered (before old : Written) : Type 0 where
   pub rest : List Lined
   pub front : old.draft.instrs ≡ before.draft.instrs ++ rest
+  pub thunks : old.draft.thunks ≡ before.draft.thunks
   pub whole : old.draft.whole ≡ before.draft.whole
   pub planned : old.draft.classes ≡ before.draft.classes
   pub fits : AllRun before.draft.instrs → AllRun old.draft.instrs

@@ -61,7 +61,7 @@ OwesAddresses b w old xs n now rest = (end : DraftOf) (m : ℕ) → WritesAddres
 
 -- the value in the temp goes to one left side, on n values, of which m are left
 abbrev pub GiveAt : Source → CodeOf → Site → (temp n m : ℕ) → Stored → ℕ → ℕ → Type 0
-GiveAt s code site temp n m t p q = (m ≡ below t n) × ((y : ℕ) × Pushes code site n (i.Load (pos (level_of s site.text)) (pos temp)) p y × StoreAt s code t y q)
+GiveAt s code site temp n m t p q = (m ≡ below t n) × ((y : ℕ) × Pushes code site n (i.Load (pos (level_of s site.text)) (pos temp)) p y × StoreAt s code site n t y q)
 
 unfoldable pub WritesGive : Bound → Spot → (n : ℕ) → (old new : DraftOf) → (m : ℕ) → SideOf → Type 0
 WritesGive b w n old new m x =

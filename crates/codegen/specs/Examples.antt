@@ -49,7 +49,7 @@ abbrev pub endless_code : CodeOf
 endless_code = code (block kind.SubBlock 1 0 0 0 (type.Nothing) ([]) ([]) ∷ []) (at 1 (i.Jump (pos 1)) ∷ at 0 i.Tick ∷ at 0 i.Tick ∷ at 0 (i.Bool (pos 1)) ∷ at 0 (i.JumpF (pos 6)) ∷ at 0 (i.Jump (pos 2)) ∷ at 0 (i.EndLevel (pos 0)) ∷ [])
 
 abbrev pub for_list_code : CodeOf
-for_list_code = code (block kind.SubBlock 1 1 1 0 (type.Nothing) (type.Integer ∷ type.Nothing ∷ []) ([]) ∷ []) (at 1 (i.Jump (pos 1)) ∷ at 0 i.Tick ∷ at 0 (i.Jump (pos 18)) ∷ at 0 i.Tick ∷ at 0 (i.Load (pos 1) (pos 0)) ∷ at 0 (i.Int (pos 3)) ∷ at 1 (i.Std (pos 40)) ∷ at 0 (i.Load (pos 1) (pos 1)) ∷ at 0 (i.Int (pos 0)) ∷ at 0 (i.Rel (pos 2)) ∷ at 0 (i.JumpF (pos 12)) ∷ at 0 (i.Jump (pos 30)) ∷ at 0 (i.Load (pos 1) (pos 1)) ∷ at 0 (i.Int (pos 1)) ∷ at 0 (i.Rel (pos 2)) ∷ at 0 (i.JumpF (pos 17)) ∷ at 0 (i.Jump (pos 43)) ∷ at 0 (i.Jump (pos 55)) ∷ at 0 (i.Int (pos 3)) ∷ at 0 (i.Store (pos 1) (pos 0)) ∷ at 0 (i.Int (pos 1)) ∷ at 1 i.Neg ∷ at 0 i.Tick ∷ at 0 (i.Load (pos 1) (pos 0)) ∷ at 0 (i.Int (pos 1)) ∷ at 0 i.StepTest ∷ at 0 (i.JumpF (pos 37)) ∷ at 0 (i.Int (pos 0)) ∷ at 0 (i.Store (pos 1) (pos 1)) ∷ at 0 (i.Jump (pos 3)) ∷ at 0 (i.Int (pos 1)) ∷ at 1 i.Neg ∷ at 0 i.Dup ∷ at 0 (i.Load (pos 1) (pos 0)) ∷ at 1 i.Add ∷ at 0 (i.Store (pos 1) (pos 0)) ∷ at 0 (i.Jump (pos 22)) ∷ at 0 i.Tick ∷ at 0 (i.Int (pos 10)) ∷ at 0 (i.Store (pos 1) (pos 0)) ∷ at 0 (i.Int (pos 1)) ∷ at 0 (i.Store (pos 1) (pos 1)) ∷ at 0 (i.Jump (pos 3)) ∷ at 0 i.Tick ∷ at 0 (i.Load (pos 1) (pos 0)) ∷ at 0 (i.Int (pos 1)) ∷ at 1 i.Add ∷ at 0 (i.Store (pos 1) (pos 0)) ∷ at 0 (i.Load (pos 1) (pos 0)) ∷ at 0 (i.Int (pos 13)) ∷ at 1 (i.Rel (pos 0)) ∷ at 0 (i.JumpF (pos 56)) ∷ at 0 (i.Int (pos 2)) ∷ at 0 (i.Store (pos 1) (pos 1)) ∷ at 0 (i.Jump (pos 3)) ∷ at 0 (i.Jump (pos 43)) ∷ at 0 i.Tick ∷ at 1 (i.Std (pos 37)) ∷ at 0 (i.EndLevel (pos 0)) ∷ [])
+for_list_code = code (block kind.SubBlock 1 1 4 0 (type.Nothing) (type.Integer ∷ type.Nothing ∷ type.Nothing ∷ type.Nothing ∷ type.Nothing ∷ []) ([]) ∷ []) (at 1 (i.Jump (pos 1)) ∷ at 0 i.Tick ∷ at 0 (i.Jump (pos 18)) ∷ at 0 i.Tick ∷ at 0 (i.Load (pos 1) (pos 0)) ∷ at 0 (i.Int (pos 3)) ∷ at 1 (i.Std (pos 40)) ∷ at 0 (i.Load (pos 1) (pos 4)) ∷ at 0 (i.Int (pos 0)) ∷ at 0 (i.Rel (pos 2)) ∷ at 0 (i.JumpF (pos 12)) ∷ at 0 (i.Jump (pos 30)) ∷ at 0 (i.Load (pos 1) (pos 4)) ∷ at 0 (i.Int (pos 1)) ∷ at 0 (i.Rel (pos 2)) ∷ at 0 (i.JumpF (pos 17)) ∷ at 0 (i.Jump (pos 43)) ∷ at 0 (i.Jump (pos 55)) ∷ at 0 (i.Int (pos 3)) ∷ at 0 (i.Store (pos 1) (pos 0)) ∷ at 0 (i.Int (pos 1)) ∷ at 1 i.Neg ∷ at 0 i.Tick ∷ at 0 (i.Load (pos 1) (pos 0)) ∷ at 0 (i.Int (pos 1)) ∷ at 0 i.StepTest ∷ at 0 (i.JumpF (pos 37)) ∷ at 0 (i.Int (pos 0)) ∷ at 0 (i.Store (pos 1) (pos 4)) ∷ at 0 (i.Jump (pos 3)) ∷ at 0 (i.Int (pos 1)) ∷ at 1 i.Neg ∷ at 0 i.Dup ∷ at 0 (i.Load (pos 1) (pos 0)) ∷ at 1 i.Add ∷ at 0 (i.Store (pos 1) (pos 0)) ∷ at 0 (i.Jump (pos 22)) ∷ at 0 i.Tick ∷ at 0 (i.Int (pos 10)) ∷ at 0 (i.Store (pos 1) (pos 0)) ∷ at 0 (i.Int (pos 1)) ∷ at 0 (i.Store (pos 1) (pos 4)) ∷ at 0 (i.Jump (pos 3)) ∷ at 0 i.Tick ∷ at 0 (i.Load (pos 1) (pos 0)) ∷ at 0 (i.Int (pos 1)) ∷ at 1 i.Add ∷ at 0 (i.Store (pos 1) (pos 0)) ∷ at 0 (i.Load (pos 1) (pos 0)) ∷ at 0 (i.Int (pos 13)) ∷ at 1 (i.Rel (pos 0)) ∷ at 0 (i.JumpF (pos 56)) ∷ at 0 (i.Int (pos 2)) ∷ at 0 (i.Store (pos 1) (pos 4)) ∷ at 0 (i.Jump (pos 3)) ∷ at 0 (i.Jump (pos 43)) ∷ at 0 i.Tick ∷ at 1 (i.Std (pos 37)) ∷ at 0 (i.EndLevel (pos 0)) ∷ [])
 
 abbrev pub factorial_20_code : CodeOf
 factorial_20_code = code (block kind.SubBlock 1 0 0 17 (type.Nothing) ([]) ([]) ∷ block kind.Procedure 2 2 0 1 (type.Integer) (type.Integer ∷ type.Nothing ∷ []) (record { mode = by.Value; shape = shape.Simple; code_type = type.Integer; class = 0 } ∷ []) ∷ []) (at 0 (i.Jump (pos 17)) ∷ at 0 i.Tick ∷ at 0 (i.Load (pos 2) (pos 1)) ∷ at 0 (i.Int (pos 0)) ∷ at 1 (i.Rel (pos 2)) ∷ at 0 (i.JumpF (pos 8)) ∷ at 0 (i.Int (pos 1)) ∷ at 0 (i.Jump (pos 15)) ∷ at 0 (i.Load (pos 2) (pos 1)) ∷ at 0 (i.Link (pos 1)) ∷ at 0 (i.Load (pos 2) (pos 1)) ∷ at 0 (i.Int (pos 1)) ∷ at 1 i.Sub ∷ at 1 (i.Call (pos 1) (pos 1)) ∷ at 1 i.Mul ∷ at 0 (i.Store (pos 2) (pos 0)) ∷ at 0 i.Return ∷ at 1 (i.Jump (pos 18)) ∷ at 0 i.Tick ∷ at 0 (i.Link (pos 1)) ∷ at 0 (i.Int (pos 20)) ∷ at 1 (i.Call (pos 1) (pos 1)) ∷ at 0 (i.Int (pos 20)) ∷ at 1 (i.Std (pos 40)) ∷ at 0 i.Tick ∷ at 1 (i.Std (pos 37)) ∷ at 0 (i.EndLevel (pos 0)) ∷ [])
@@ -73,7 +73,7 @@ abbrev pub large_array_code : CodeOf
 large_array_code = code (block kind.SubBlock 1 2 0 0 (type.Nothing) (type.Nothing ∷ type.Nothing ∷ []) ([]) ∷ []) (at 1 (i.Jump (pos 1)) ∷ at 0 (i.Int (pos 1)) ∷ at 0 (i.Int (pos 65536)) ∷ at 0 (i.Int (pos 1)) ∷ at 0 (i.Int (pos 65536)) ∷ at 1 (i.Array (pos 1) (pos 2)) ∷ at 0 (i.Store (pos 1) (pos 0)) ∷ at 0 (i.Load (pos 1) (pos 0)) ∷ at 1 i.CopyArr ∷ at 0 (i.Store (pos 1) (pos 1)) ∷ at 0 (i.EndLevel (pos 0)) ∷ [])
 
 abbrev pub sub_block_code : CodeOf
-sub_block_code = code (block kind.SubBlock 1 2 1 0 (type.Nothing) (type.Integer ∷ type.Integer ∷ type.Nothing ∷ []) [] ∷ block kind.SubBlock 2 2 0 35 (type.Nothing) (type.Nothing ∷ type.Nothing ∷ []) [] ∷ []) (at 1 (i.Jump (pos 1)) ∷ at 0 i.Tick ∷ at 0 (i.Int (pos 2)) ∷ at 0 (i.Store (pos 1) (pos 2)) ∷ at 0 (i.Load (pos 1) (pos 2)) ∷ at 0 (i.Store (pos 1) (pos 1)) ∷ at 0 (i.Load (pos 1) (pos 2)) ∷ at 0 (i.Store (pos 1) (pos 0)) ∷ at 0 i.Tick ∷ at 3 (i.Enter (pos 1)) ∷ at 0 i.Tick ∷ at 0 (i.Load (pos 1) (pos 0)) ∷ at 0 (i.Int (pos 2)) ∷ at 4 (i.Rel (pos 2)) ∷ at 0 (i.JumpF (pos 21)) ∷ at 0 (i.Load (pos 1) (pos 1)) ∷ at 0 (i.Load (pos 1) (pos 0)) ∷ at 4 i.Div ∷ at 0 (i.Int (pos 1)) ∷ at 4 (i.Rel (pos 2)) ∷ at 0 (i.Jump (pos 22)) ∷ at 0 (i.Bool (pos 0)) ∷ at 0 (i.JumpF (pos 28)) ∷ at 0 i.Tick ∷ at 0 (i.Load (pos 1) (pos 0)) ∷ at 0 (i.Int (pos 2)) ∷ at 4 (i.Std (pos 40)) ∷ at 0 (i.Jump (pos 32)) ∷ at 0 i.Tick ∷ at 0 (i.Int (pos 0)) ∷ at 0 (i.Int (pos 2)) ∷ at 4 (i.Std (pos 40)) ∷ at 0 i.Tick ∷ at 5 (i.Std (pos 37)) ∷ at 0 (i.EndLevel (pos 0)) ∷ at 0 (i.Load (pos 1) (pos 0)) ∷ at 0 (i.Int (pos 3)) ∷ at 3 (i.Array (pos 1) (pos 1)) ∷ at 0 (i.Store (pos 2) (pos 0)) ∷ at 0 (i.Int (pos 1)) ∷ at 0 (i.Load (pos 1) (pos 1)) ∷ at 3 (i.Array (pos 1) (pos 1)) ∷ at 0 (i.Store (pos 2) (pos 1)) ∷ at 0 i.Tick ∷ at 0 (i.Load (pos 2) (pos 0)) ∷ at 0 (i.Int (pos 3)) ∷ at 3 (i.Elem (pos 1) (pos 0)) ∷ at 0 (i.Load (pos 2) (pos 1)) ∷ at 0 (i.Int (pos 2)) ∷ at 3 (i.Elem (pos 1) (pos 0)) ∷ at 0 i.Fetch ∷ at 0 (i.Int (pos 5)) ∷ at 3 i.Add ∷ at 0 i.Put ∷ at 0 i.Tick ∷ at 0 (i.Load (pos 2) (pos 0)) ∷ at 0 (i.Int (pos 3)) ∷ at 3 (i.Elem (pos 1) (pos 0)) ∷ at 0 i.Fetch ∷ at 0 (i.Int (pos 3)) ∷ at 3 (i.Std (pos 40)) ∷ at 0 i.Leave ∷ [])
+sub_block_code = code (block kind.SubBlock 1 2 4 0 (type.Nothing) (type.Integer ∷ type.Integer ∷ type.Nothing ∷ type.Nothing ∷ type.Nothing ∷ type.Nothing ∷ []) [] ∷ block kind.SubBlock 2 2 0 35 (type.Nothing) (type.Nothing ∷ type.Nothing ∷ []) [] ∷ []) (at 1 (i.Jump (pos 1)) ∷ at 0 i.Tick ∷ at 0 (i.Int (pos 2)) ∷ at 0 (i.Store (pos 1) (pos 5)) ∷ at 0 (i.Load (pos 1) (pos 5)) ∷ at 0 (i.Store (pos 1) (pos 1)) ∷ at 0 (i.Load (pos 1) (pos 5)) ∷ at 0 (i.Store (pos 1) (pos 0)) ∷ at 0 i.Tick ∷ at 3 (i.Enter (pos 1)) ∷ at 0 i.Tick ∷ at 0 (i.Load (pos 1) (pos 0)) ∷ at 0 (i.Int (pos 2)) ∷ at 4 (i.Rel (pos 2)) ∷ at 0 (i.JumpF (pos 21)) ∷ at 0 (i.Load (pos 1) (pos 1)) ∷ at 0 (i.Load (pos 1) (pos 0)) ∷ at 4 i.Div ∷ at 0 (i.Int (pos 1)) ∷ at 4 (i.Rel (pos 2)) ∷ at 0 (i.Jump (pos 22)) ∷ at 0 (i.Bool (pos 0)) ∷ at 0 (i.JumpF (pos 28)) ∷ at 0 i.Tick ∷ at 0 (i.Load (pos 1) (pos 0)) ∷ at 0 (i.Int (pos 2)) ∷ at 4 (i.Std (pos 40)) ∷ at 0 (i.Jump (pos 32)) ∷ at 0 i.Tick ∷ at 0 (i.Int (pos 0)) ∷ at 0 (i.Int (pos 2)) ∷ at 4 (i.Std (pos 40)) ∷ at 0 i.Tick ∷ at 5 (i.Std (pos 37)) ∷ at 0 (i.EndLevel (pos 0)) ∷ at 0 (i.Load (pos 1) (pos 0)) ∷ at 0 (i.Int (pos 3)) ∷ at 3 (i.Array (pos 1) (pos 1)) ∷ at 0 (i.Store (pos 2) (pos 0)) ∷ at 0 (i.Int (pos 1)) ∷ at 0 (i.Load (pos 1) (pos 1)) ∷ at 3 (i.Array (pos 1) (pos 1)) ∷ at 0 (i.Store (pos 2) (pos 1)) ∷ at 0 i.Tick ∷ at 0 (i.Load (pos 2) (pos 0)) ∷ at 0 (i.Int (pos 3)) ∷ at 3 (i.Elem (pos 1) (pos 0)) ∷ at 0 (i.Load (pos 2) (pos 1)) ∷ at 0 (i.Int (pos 2)) ∷ at 3 (i.Elem (pos 1) (pos 0)) ∷ at 0 i.Fetch ∷ at 0 (i.Int (pos 5)) ∷ at 3 i.Add ∷ at 0 i.Put ∷ at 0 i.Tick ∷ at 0 (i.Load (pos 2) (pos 0)) ∷ at 0 (i.Int (pos 3)) ∷ at 3 (i.Elem (pos 1) (pos 0)) ∷ at 0 i.Fetch ∷ at 0 (i.Int (pos 3)) ∷ at 3 (i.Std (pos 40)) ∷ at 0 i.Leave ∷ [])
 
 -- objects of a class without end: the class is the second block, with one level
 abbrev pub the_class : ClassOf

@@ -15,7 +15,7 @@ use crate::levels::{emit_level, has_inner, next_instr};
 use crate::processes::emit_process_text;
 use crate::records::number;
 use crate::texts::Written;
-use codegen_expr::{Cells, Spot, line_at, prefix_of};
+use codegen_expr::{Cells, line_at, prefix_of, spot_in};
 use program_texts::TextTree;
 use sim_base::{DeclNo, Line};
 use sim_code::{BlockKind, Instr};
@@ -65,10 +65,7 @@ fn emit_level_text(
     ensures { OnOk result (WritesLevelText bound.now written.old written.new head declarations.now statements.now) }
 {
     let begun = begin_level(alloc, bound, cells, written, head.text)?;
-    let spot = Spot {
-        text: head.text,
-        used: begun.used,
-    };
+    let spot = spot_in(head.text, begun.used)?;
     let draft = &mut written.draft;
     emit_arrays(bound, cells, declared, spot, draft, declarations)?;
     draft.put(next_instr(begun.level), Line(0))?;

@@ -50,6 +50,7 @@ fn emit_connection(
     draft.put(store_instr(level_of(bound, connection), slot), Line(0))?;
     let inner = Spot {
         text: connection,
+        temps: spot.temps,
         used: spot.used,
     };
     emit_statement(bound, cells, inner, draft, body)

@@ -7,12 +7,12 @@ ghost use Rattle.sim_tree.specs.SyntaxOf.{syntax_of};
 ghost use Rattle.codegen_expr.specs.Built.{slot_in};
 ghost use Rattle.codegen_expr.specs.Known.{Known};
 ghost use Rattle.sim_meaning.specs.Pending.{Result};
-ghost use Rattle.codegen.specs.EmitLeft.{FindsDeclared, FindsElement, FindsFormal, FindsLeft, FindsNamed, FindsOwn, FindsOwnNamed, FindsResult, FindsSide, FindsTaken, FindsText, FindsVariable, FindsWhole};
+ghost use Rattle.codegen.specs.EmitLeft.{FindsByName, FindsDeclared, FindsElement, FindsFormal, FindsLeft, FindsNamed, FindsOwn, FindsOwnNamed, FindsResult, FindsSide, FindsTaken, FindsText, FindsVariable, FindsWhole};
 
 use crate::own_matches::match_text;
 use codegen_expr::{
-    Cells, Form, Spot, block_of, connection_at, denoted, form_of, has_result, is_around, is_text,
-    slot_of,
+    Cells, Form, Spot, block_of, by_name, connection_at, denoted, form_of, formal_qualification,
+    has_result, is_around, is_text, slot_of,
 };
 use sim_base::{DeclNo, TokenNo};
 use sim_scope::{Bound, Denotation, Entry, FormalKind, Mode, Scopes, entry_of};
@@ -43,6 +43,15 @@ pub(crate) enum Left<'a> {
     Attribute,
     /// A reference, which is held against its class.
     Reference,
+    /// The variable that is passed to a formal parameter by name.
+    Named(DeclNo),
+    /// The text of that variable.
+    NamedText(DeclNo),
+    /// That variable, where it is a reference; what is assigned is held against the class of the formal parameter too.
+    NamedReference {
+        declaration: DeclNo,
+        class: u32,
+    },
     /// It is not built.
     NotBuilt,
 }
@@ -375,6 +384,33 @@ fn find_text<'a>(bound: &Bound, cells: &Cells, spot: Spot, left: &'a Expr) -> Le
     }
 }
 
+/// What a formal parameter by name is as a left side, by its sign.
+#[tactic(auto, using(crate::proofs::Found::founds))]
+fn find_by_name<'a>(
+    bound: &Bound,
+    cells: &Cells,
+    sign: Assignment,
+    left: &'a Expr,
+    declaration: DeclNo,
+) -> Left<'a>
+    requires cells { Known bound.now cells.now }
+    ensures { FindsByName bound.now sign left.now declaration result }
+{
+    if is_text(bound, left) {
+        return match sign {
+            Assignment::Value => Left::NamedText(declaration),
+            Assignment::Reference => Left::Named(declaration),
+        };
+    }
+    match sign {
+        Assignment::Value => Left::Named(declaration),
+        Assignment::Reference => match formal_qualification(bound, cells, declaration) {
+            Some(class) => Left::NamedReference { declaration, class },
+            None => Left::NotBuilt,
+        },
+    }
+}
+
 /// What a left side is, by its sign.
 #[tactic(auto, using(crate::proofs::Found::founds))]
 pub(crate) fn find_side<'a>(
@@ -387,6 +423,9 @@ pub(crate) fn find_side<'a>(
     requires cells { Known bound.now cells.now }
     ensures { FindsSide bound.now spot sign left.now result }
 {
+    if let Some(declaration) = by_name(bound, left) {
+        return find_by_name(bound, cells, sign, left, declaration);
+    }
     if is_text(bound, left) {
         match sign {
             Assignment::Value => return find_text(bound, cells, spot, left),

@@ -6,7 +6,7 @@ use crate::arrays::emit_arrays;
 use crate::levels::{emit_level, has_inner};
 use crate::processes::emit_detached;
 use crate::statement::{emit_statement, emit_statements};
-use codegen_expr::{Cells, Draft, Spot};
+use codegen_expr::{Cells, Draft, Spot, spot_in};
 use program_texts::TextTree;
 use sim_base::DeclNo;
 use sim_code::BlockKind;
@@ -144,14 +144,7 @@ pub(crate) fn measure_text(
 {
     let mut draft = Draft::new(alloc, Vec::new(alloc));
     draft.restart(0);
-    measure_tree(
-        bound,
-        cells,
-        declared,
-        Spot { text, used: 0 },
-        &mut draft,
-        tree,
-    )?;
+    measure_tree(bound, cells, declared, spot_in(text, 0)?, &mut draft, tree)?;
     Ok(Measured {
         room: draft.room(),
         temps: draft.size(),

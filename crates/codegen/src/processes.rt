@@ -17,7 +17,7 @@ use crate::records::number;
 use crate::texts::Written;
 use codegen_expr::{
     Cells, Draft, Spot, block_number, is_process, level_of, line_at, link_instr, member_instr,
-    standard_instr, this_instr,
+    spot_in, standard_instr, this_instr,
 };
 use program_texts::TextTree;
 use sim_base::{Line, TokenNo};
@@ -219,10 +219,7 @@ pub(crate) fn emit_process_text(
         return Ok(());
     }
     let begun = begin_level(alloc, bound, cells, written, text)?;
-    let spot = Spot {
-        text,
-        used: begun.used,
-    };
+    let spot = spot_in(text, begun.used)?;
     let draft = &mut written.draft;
     draft.put(next_instr(begun.level), Line(0))?;
     let stated = number(draft.here())?;

@@ -144,12 +144,13 @@ pub fn compile(alloc: Global, bound: &Bound) -> Result<Code, AllocError>
     emit_texts(alloc, bound, &cells, &declared, &mut written, &trees)?;
     let classes = classes_of(alloc, bound, &cells, &written, &trees)?;
     let lists = actual_lists(alloc)?;
+    let (instrs, thunks) = written.draft.into_parts();
     Ok(Code {
         texts,
         blocks: written.blocks,
         classes,
-        thunks: Vec::new(alloc),
+        thunks,
         actual_lists: lists,
-        instrs: written.draft.into_instrs(),
+        instrs,
     })
 }

@@ -8,8 +8,8 @@ use crate::left::{Left, find_side};
 use crate::places::{put_load, put_store};
 use crate::references::emit_reference_place;
 use codegen_expr::{
-    Cells, Draft, Spot, deeper, emit_element, emit_expr, emit_place, level_of, line_at, load_instr,
-    store_instr,
+    Cells, Draft, Spot, deeper, emit_element, emit_expr, emit_fit, emit_name_place, emit_place,
+    level_of, line_at, load_instr, store_instr,
 };
 use sim_base::{Line, TokenNo};
 use sim_code::Instr;
@@ -78,6 +78,26 @@ pub(crate) fn emit_one(
         Left::Reference => {
             emit_reference_place(bound, cells, spot, draft, 0, side.left)?;
             emit_expr(bound, cells, spot, draft, 1, value)?;
+            draft.put(Instr::Put, line_at(bound, side.token))?;
+            Ok(())
+        }
+        Left::Named(declaration) => {
+            emit_name_place(bound, cells, spot, draft, 0, false, side.token, declaration)?;
+            emit_expr(bound, cells, spot, draft, 1, value)?;
+            draft.put(Instr::Put, Line(0))?;
+            Ok(())
+        }
+        Left::NamedText(declaration) => {
+            emit_name_place(bound, cells, spot, draft, 0, false, side.token, declaration)?;
+            draft.put(Instr::Fetch, Line(0))?;
+            emit_expr(bound, cells, spot, draft, 1, value)?;
+            draft.put(Instr::AssignT, line_at(bound, side.token))?;
+            Ok(())
+        }
+        Left::NamedReference { declaration, class } => {
+            emit_name_place(bound, cells, spot, draft, 0, false, side.token, declaration)?;
+            emit_expr(bound, cells, spot, draft, 1, value)?;
+            emit_fit(bound, cells, spot, draft, 1, side.token, class)?;
             draft.put(Instr::Put, line_at(bound, side.token))?;
             Ok(())
         }
@@ -152,6 +172,49 @@ fn emit_address(
         }
         Left::Reference => {
             emit_reference_place(bound, cells, spot, draft, depth, item.left)?;
+            let values = deeper(depth)?;
+            Ok(values)
+        }
+        Left::Named(declaration) => {
+            emit_name_place(
+                bound,
+                cells,
+                spot,
+                draft,
+                depth,
+                false,
+                item.token,
+                declaration,
+            )?;
+            let values = deeper(depth)?;
+            Ok(values)
+        }
+        Left::NamedText(declaration) => {
+            emit_name_place(
+                bound,
+                cells,
+                spot,
+                draft,
+                depth,
+                false,
+                item.token,
+                declaration,
+            )?;
+            draft.put(Instr::Fetch, Line(0))?;
+            let values = deeper(depth)?;
+            Ok(values)
+        }
+        Left::NamedReference { declaration, .. } => {
+            emit_name_place(
+                bound,
+                cells,
+                spot,
+                draft,
+                depth,
+                false,
+                item.token,
+                declaration,
+            )?;
             let values = deeper(depth)?;
             Ok(values)
         }
@@ -234,6 +297,22 @@ fn emit_give(
         }
         Left::Reference => {
             draft.push(depth, temp, Line(0))?;
+            draft.put(Instr::Put, line_at(bound, item.token))?;
+            Ok(shallower(depth))
+        }
+        Left::Named(_) => {
+            draft.push(depth, temp, Line(0))?;
+            draft.put(Instr::Put, Line(0))?;
+            Ok(shallower(depth))
+        }
+        Left::NamedText(_) => {
+            draft.push(depth, temp, Line(0))?;
+            draft.put(Instr::AssignT, line_at(bound, item.token))?;
+            Ok(shallower(depth))
+        }
+        Left::NamedReference { class, .. } => {
+            draft.push(depth, temp, Line(0))?;
+            emit_fit(bound, cells, spot, draft, depth, item.token, class)?;
             draft.put(Instr::Put, line_at(bound, item.token))?;
             Ok(shallower(depth))
         }

@@ -382,6 +382,18 @@ pub(crate) fn emit_for(
             draft.give_up();
             Ok(())
         }
+        Left::Named(_) => {
+            draft.give_up();
+            Ok(())
+        }
+        Left::NamedText(_) => {
+            draft.give_up();
+            Ok(())
+        }
+        Left::NamedReference { .. } => {
+            draft.give_up();
+            Ok(())
+        }
         Left::NotBuilt => {
             draft.give_up();
             Ok(())
@@ -470,6 +482,7 @@ fn emit_inside(
     let used = deeper(spot.used)?;
     let inner = Spot {
         text: spot.text,
+        temps: spot.temps,
         used,
     };
     emit_statement(bound, cells, inner, draft, body)?;

@@ -11,7 +11,7 @@ use crate::frames::{own_end, rest_of};
 use crate::plan::copy_types;
 use crate::records::{code_formals, is_class_free, number, type_of_name};
 use crate::statement::{emit_statement, emit_statements};
-use codegen_expr::{Cells, Draft, Spot, block_number, level_of, line_at};
+use codegen_expr::{Cells, Draft, block_number, level_of, line_at, spot_in};
 use program_texts::TextTree;
 use sim_base::{DeclNo, Line};
 use sim_code::{BlockKind, BlockRecord, CodeType, Instr};
@@ -132,7 +132,7 @@ fn emit_program_text(
 {
     let used = own_end(alloc, bound, cells, &written.draft, 0)?;
     written.draft.restart(used);
-    let spot = Spot { text: 0, used };
+    let spot = spot_in(0, used)?;
     let draft = &mut written.draft;
     draft.put(Instr::Jump(1), line_at(bound, block.token))?;
     emit_arrays(bound, cells, declared, spot, draft, &block.declarations)?;
@@ -169,7 +169,7 @@ fn emit_block_text(
     let entry = number(written.draft.here())?;
     let used = own_end(alloc, bound, cells, &written.draft, text)?;
     written.draft.restart(used);
-    let spot = Spot { text, used };
+    let spot = spot_in(text, used)?;
     let draft = &mut written.draft;
     emit_arrays(bound, cells, declared, spot, draft, &block.declarations)?;
     emit_statements(bound, cells, spot, draft, &block.statements)?;
@@ -201,7 +201,7 @@ fn emit_procedure_text(
     let entry = number(written.draft.here())?;
     let used = own_end(alloc, bound, cells, &written.draft, text)?;
     written.draft.restart(used);
-    let spot = Spot { text, used };
+    let spot = spot_in(text, used)?;
     let draft = &mut written.draft;
     emit_statement(bound, cells, spot, draft, body)?;
     draft.put(Instr::Return, Line(0))?;

@@ -30,7 +30,7 @@ pub selector-Qua : (i : TokenNo) (y : Identifier) → selector_syntax (w.Qua i y
 unfolding selector_syntax
 selector-Qua i y = ap selector_syntax (sym (w.rolls-Qua i y)) ∙ fold-roll-Selector Expression Selection Tail (Operator → Tail) Tail expr_layer selector_layer factor_layer operand_layer term_layer (Selector-F.Qua i y)
 
-form_at : (f g : Form) (x : Expr) → FindsForm f x → f ≡ g → FormIs g (syntax_of x)
+pub form_at : (f g : Form) (x : Expr) → FindsForm f x → f ≡ g → FormIs g (syntax_of x)
 unfolding FindsForm
 form_at f g x h is = subst (λ z. FormIs z (syntax_of x)) is h
 

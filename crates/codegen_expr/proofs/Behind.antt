@@ -39,7 +39,7 @@ use Rattle.codegen_expr.specs.declared.spot.Spot.{Spot}
 use Rattle.codegen_expr.specs.Built.{AreBuilt, ConnectedBuilt, DeclaredPlaceBuilt, FormalPlaceBuilt, ImageNameBuilt, NamedPlaceBuilt, PlaceBehindBuilt, PlaceBuilt, StandardBuilt, ThroughBuilt, is_around, is_there, slot_in}
 use Rattle.codegen_expr.specs.CodeExpr.{ConnectedAt, DeclaredPlaceAt, ExprsAt, FormalPlaceAt, NameAt, NamedPlaceAt, PlaceBehindAt, StandardAt, ThroughAt, operands}
 use Rattle.codegen_expr.specs.Drafts.{DraftOf, Emits, given_up, planned_at, planned_in, planned_start, with_instr, with_push}
-use Rattle.codegen_expr.specs.Emit.{AloneAt, AloneBuilt, Numbered, OnImageIs, PutsPlace, SeenPlaceAt, SeenPlaceBuilt, WritesAlone, WritesBehind, WritesCellPlace, WritesElement, WritesImage, WritesList, WritesNamedPlace, WritesPlace, WritesSeenPlace, WritesStandard, WritesUnconnectedPlace, is_named, seen_formal, seen_of}
+use Rattle.codegen_expr.specs.Emit.{AloneAt, AloneBuilt, Numbered, OnImageIs, PutsPlace, SeenPlaceAt, SeenPlaceBuilt, WritesAlone, WritesBehind, WritesCellPlace, WritesElement, WritesImage, WritesList, WritesNamePlace, WritesNamedPlace, WritesPlace, WritesSeenPlace, WritesStandard, WritesUnconnectedPlace, WritesUse, is_named, seen_formal, seen_of}
 use Rattle.codegen_expr.specs.EmitObjects.{OfConnection, PutsBase, WritesPlaceBehind}
 use Rattle.codegen_expr.specs.Forms.{FindsForm, FormIs, IsOther}
 use Rattle.codegen_expr.specs.Sites.{At, HasCell, Inside, Pushes, Site, slot_of}
@@ -243,6 +243,16 @@ module _ (b : Bound) (w : Spot) (n : ℕ) where
   unfolding WritesSeenPlace
   place_virtual a c class token d x es is ec = subst (Lies a c class token d (expressions (map syntax_of es))) (sym is) (emits_nothing w a c _ _ (λ z. z) ec)
 
+  pub place_named : (a c : DraftOf) (class : ℕ) (token : TokenNo) (d : DeclNo) (x : Seen) (es : List Expr) → x ≡ seen.Named → length es ≡ 0 → WritesNamePlace b w n a c true token d → WritesSeenPlace b w n a c class token d x es
+  unfolding WritesSeenPlace WritesNamePlace WritesUse
+  place_named a c class token d x [] is none f = subst (Lies a c class token d NoMore) (sym is) f
+  place_named a c class token d x (y ∷ ys) is none f = absurd (omega (arith, none))
+
+  pub place_not_named : (a c : DraftOf) (class : ℕ) (token : TokenNo) (d : DeclNo) (x : Seen) (es : List Expr) → x ≡ seen.Named → length es ≢ 0 → c ≡ given_up a → WritesSeenPlace b w n a c class token d x es
+  unfolding WritesSeenPlace
+  place_not_named a c class token d x [] is some' ec = absurd (some' refl)
+  place_not_named a c class token d x (y ∷ ys) is some' ec = subst (Lies a c class token d (expressions (map syntax_of (y ∷ ys)))) (sym is) (emits_nothing w a c _ _ (λ z. z) ec)
+
   pub place_nothing : (a c : DraftOf) (class : ℕ) (token : TokenNo) (d : DeclNo) (x : Seen) (es : List Expr) → x ≡ seen.Nothing → c ≡ given_up a → WritesSeenPlace b w n a c class token d x es
   unfolding WritesSeenPlace
   place_nothing a c class token d x es is ec = subst (Lies a c class token d (expressions (map syntax_of es))) (sym is) (emits_nothing w a c _ _ (λ z. z) ec)
@@ -337,4 +347,4 @@ module _ (b : Bound) (w : Spot) (n : ℕ) where
 pub ruleset behind = (alone_performed, alone_no_number, alone_other_number, behind_performed, behind_no_number, behind_no_operand, behind_other_number, image_itself, image_with_operands, image_of_text, image_nothing)
 
 -- where variables lie
-pub ruleset lies = (place_cell, place_no_slot, place_outside, place_variable, place_no_variable, place_element, place_array, place_constant, place_call, place_virtual, place_nothing, place_declared, place_standard, place_undeclared, place_through, place_unconnected)
+pub ruleset lies = (place_cell, place_no_slot, place_outside, place_variable, place_no_variable, place_element, place_array, place_constant, place_call, place_virtual, place_named, place_not_named, place_nothing, place_declared, place_standard, place_undeclared, place_through, place_unconnected)

@@ -13,7 +13,7 @@ use Rattle.codegen_expr.specs.CodeExpr.{Stand, join_instrs, joined_in}
 use Rattle.codegen_expr.specs.Drafts.{DraftOf, Emits, with_instr, with_room, with_temp}
 use Rattle.codegen_expr.specs.Emit.{WritesAll, WritesJoin, all_fit, is_hole}
 use Rattle.codegen_expr.specs.Sites.{At}
-use Rattle.codegen_expr.proofs.Pieces.{emits_as, emits_at, emits_none, emits_room, emits_temp_behind, emits_then}
+use Rattle.codegen_expr.proofs.Pieces.{emits_as, emits_at, emits_none, emits_room, emits_temp_behind, emits_temps, emits_then}
 
 -- in a loop: what is written of the rest is written of the whole
 unfoldable pub OwesAll : (w : Spot) → (old : DraftOf) → List Instr → (line : ℕ) → (now : DraftOf) → List Instr → Type 0
@@ -53,22 +53,21 @@ all_end w a c xs r line f is fit =
     let g = f fit in
     g.1 c (subst (λ z. Emits w c c ⊤ (λ final site p q. Stand final line z p q)) (sym is) (emits_none w c))
 
-pub join_all : (b : Bound) (w : Spot) (n : ℕ) (a c0 c1 c : DraftOf) (token : TokenNo) (right new inside above level line : ℕ) (xs ys : List Instr) → right ≡ suc w.used → new ≡ suc right → inside ≡ suc n → above ≡ suc inside → c0 ≡ with_temp a new → c1 ≡ with_room c0 above → level ≡ level_of (source_of b) w.text → xs ≡ joined_in level w.used right new → ys ≡ xs → line ≡ line_at (source_of b) token.0 → WritesAll w c1 c ys line → WritesJoin b w n a c token
+pub join_all : (b : Bound) (w : Spot) (n : ℕ) (a c0 c1 c : DraftOf) (token : TokenNo) (right new inside above level line : ℕ) (xs ys : List Instr) → right ≡ suc w.temps → new ≡ suc right → inside ≡ suc n → above ≡ suc inside → c0 ≡ with_temp a new → c1 ≡ with_room c0 above → level ≡ level_of (source_of b) w.text → xs ≡ joined_in level w.temps right new → ys ≡ xs → line ≡ line_at (source_of b) token.0 → WritesAll w c1 c ys line → WritesJoin b w n a c token
 unfolding WritesJoin WritesAll
 join_all b w n a c0 c1 c token right new inside above level line xs ys er en ei ea e0 e1 el ex ey eline f =
     let s = source_of b in
-    let new' : new ≡ suc (suc w.used) = en ∙ ap suc er in
+    let new' : new ≡ suc (suc w.temps) = en ∙ ap suc er in
     let above' : above ≡ suc (suc n) = ea ∙ ap suc ei in
-    let same : ys ≡ join_instrs (level_of s w.text) w.used = ey ∙ ex ∙ ap (λ z. joined_in z w.used right new) el ∙ ap (λ z. joined_in (level_of s w.text) w.used z new) er ∙ ap (λ z. joined_in (level_of s w.text) w.used (suc w.used) z) new' in
+    let same : ys ≡ join_instrs (level_of s w.text) w.temps = ey ∙ ex ∙ ap (λ z. joined_in z w.temps right new) el ∙ ap (λ z. joined_in (level_of s w.text) w.temps z new) er ∙ ap (λ z. joined_in (level_of s w.text) w.temps (suc w.temps) z) new' in
     let g = f (ap all_fit same) in
     let g' = subst (λ z. Emits w c1 c ⊤ (λ final site p q. Stand final z ys p q)) eline g in
     let g2 = subst (λ z. Emits w c1 c ⊤ (λ final site p q. Stand final (line_at s token.0) z p q)) same g' in
-    emits_as w _ _ _ _ a c (λ t. t) (λ t. t)
-    (λ final site p q stands taken r. (used site.used taken, subst (λ z. z < site.size) new' r.0, subst (λ z. z < site.room) above' r.1.0, subst (λ z. Stand final (line_at s token.0) (join_instrs (level_of s z) w.used) p q) (sym stands) r.1.1))
-    (emits_temp_behind w _ _ a c0 c new e0 (emits_room w _ _ c0 c1 c above e1 g2))
-  where
-    used : (k : ℕ) → k ≡ w.used → k ≤ w.used
-    used k e = omega (arith, e)
+    emits_temps w ⊤ (λ final site p q. (suc (suc w.temps) < site.size) × (suc (suc n) < site.room) × Stand final (line_at s token.0) (join_instrs (level_of s site.text) w.temps) p q) _ a c
+    (λ final site p q temps r. subst (λ z. (suc (suc z) < site.size) × (suc (suc n) < site.room) × Stand final (line_at s token.0) (join_instrs (level_of s site.text) z) p q) (sym temps) r)
+    (emits_as w _ _ _ _ a c (λ t. t) (λ t. t)
+    (λ final site p q stands taken r. (subst (λ z. z < site.size) new' r.0, subst (λ z. z < site.room) above' r.1.0, subst (λ z. Stand final (line_at s token.0) (join_instrs (level_of s z) w.temps) p q) (sym stands) r.1.1))
+    (emits_temp_behind w _ _ a c0 c new e0 (emits_room w _ _ c0 c1 c above e1 g2)))
 
 pub all_end_of : (w : Spot) (a c : DraftOf) (xs : List Instr) (line i : ℕ) → OwesAll w a xs line c (drop i xs) → length xs ≤ i → WritesAll w a c xs line
 all_end_of w a c xs line i f le = all_end w a c xs (drop i xs) line f (drop_all i xs le)

@@ -8,6 +8,8 @@ pub mod Texts
 pub mod Joins
 pub mod Written
 pub mod Matched
+pub mod ThunkPieces
+pub mod ByName
 pub mod Seen
 pub mod OfObjects
 pub mod SetProcedures

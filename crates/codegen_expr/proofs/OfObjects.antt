@@ -43,7 +43,7 @@ use Rattle.codegen_expr.specs.EmitSets.{WritesSet, set_procedure}
 use Rattle.codegen_expr.specs.EmitVirtuals.{WritesMatch}
 use Rattle.codegen_expr.specs.Sites.{At, HasCell, Inside, Is, Pushes, Site, block_number, frame_text, slot_of}
 use Rattle.codegen_expr.proofs.Around.{inside}
-use Rattle.codegen_expr.proofs.Pieces.{class_numbered, emits_as, emits_at, emits_classed, emits_nothing, emits_push, emits_temp, emits_then}
+use Rattle.codegen_expr.proofs.Pieces.{class_numbered, emits_as, emits_at, emits_classed, emits_nothing, emits_push, emits_temp_behind, emits_temps, emits_then}
 use Rattle.codegen_expr.proofs.Seen.{block_formals, count}
 use Rattle.codegen_expr.proofs.Slots.{slot_found, slot_within}
 use Rattle.codegen_expr.proofs.Matched.{match_called}
@@ -208,29 +208,34 @@ module _ (b : Bound) (w : Spot) (n : ℕ) where
       subst (λ z. Emits w start c (ClassBuilt z × IsBuilt s w.text e) (λ final site p q. QuaAt s final (line_at s token.0) z (λ u v. ExprAt s final site n e u v) p q)) (sym none ∙ eo)
       (gives_up _ _ _ _ start a c f (λ h. h.0) ec)
 
-  abbrev Fits : CodeOf → Site → (level : ℕ) → (class line : ℕ) → ℕ → ℕ → Type 0
-  Fits final site level k line p q =
-      (y : ℕ) × (z : ℕ) × (v : ℕ) × Pushes final site (suc n) (i.Addr (pos level) (pos w.used) (pos k)) p y × Is final i.Swap y z × At final i.Put line z v × Pushes final site n (i.Load (pos level) (pos w.used)) v q
+  abbrev Fits : CodeOf → Site → (temp level class line : ℕ) → ℕ → ℕ → Type 0
+  Fits final site temp level k line p q =
+      (y : ℕ) × (z : ℕ) × (v : ℕ) × Pushes final site (suc n) (i.Addr (pos level) (pos temp) (pos k)) p y × Is final i.Swap y z × At final i.Put line z v × Pushes final site n (i.Load (pos level) (pos temp)) v q
 
-  pub fitted : (a c0 c1 c2 c3 c : DraftOf) (token : TokenNo) (k m j num level line : ℕ) (x y : Instr) → m ≡ suc n → j ≡ block_number (source_of b) k → num ≡ class_of a.classes j → level ≡ level_of (source_of b) w.text → c0 ≡ with_temp a w.used
-      → x ≡ i.Addr (pos level) (pos w.used) (pos num) → c1 ≡ with_push c0 m x 0 → c2 ≡ with_instr c1 i.Swap 0 → line ≡ line_at (source_of b) token.0 → c3 ≡ with_instr c2 i.Put line → y ≡ i.Load (pos level) (pos w.used) → c ≡ with_push c3 n y 0 → WritesFit b w n a c token k
+  pub fitted : (a c0 c1 c2 c3 c : DraftOf) (token : TokenNo) (k m j num level line : ℕ) (x y : Instr) → m ≡ suc n → j ≡ block_number (source_of b) k → num ≡ class_of a.classes j → level ≡ level_of (source_of b) w.text → c0 ≡ with_temp a w.temps
+      → x ≡ i.Addr (pos level) (pos w.temps) (pos num) → c1 ≡ with_push c0 m x 0 → c2 ≡ with_instr c1 i.Swap 0 → line ≡ line_at (source_of b) token.0 → c3 ≡ with_instr c2 i.Put line → y ≡ i.Load (pos level) (pos w.temps) → c ≡ with_push c3 n y 0 → WritesFit b w n a c token k
   unfolding WritesFit
   fitted a c0 c1 c2 c3 c token k m j num level line x y em ej en elv e0 ex e1 e2 el e3 ey e4 =
       let s = source_of b in
       let ln = line_at s token.0 in
-      let p1 = emits_push w c0 c1 (suc n) (i.Addr (pos level) (pos w.used) (pos num)) 0 (e1 ∙ ap (λ z. with_push c0 z x 0) em ∙ ap (λ z. with_push c0 (suc n) z 0) ex) (λ z. cc) refl in
+      let p1 = emits_push w c0 c1 (suc n) (i.Addr (pos level) (pos w.temps) (pos num)) 0 (e1 ∙ ap (λ z. with_push c0 z x 0) em ∙ ap (λ z. with_push c0 (suc n) z 0) ex) (λ z. cc) refl in
       let p2 = emits_at w c1 c2 i.Swap 0 e2 (λ z. cc) refl in
       let p3 = emits_at w c2 c3 i.Put ln (e3 ∙ ap (λ z. with_instr c2 i.Put z) el) (λ z. cc) refl in
-      let p4 = emits_push w c3 c n (i.Load (pos level) (pos w.used)) 0 (e4 ∙ ap (λ z. with_push c3 n z 0) ey) (λ z. cc) refl in
-      let all : Emits w c0 c ⊤ (λ final site p q. Fits final site level num ln p q) =
+      let p4 = emits_push w c3 c n (i.Load (pos level) (pos w.temps)) 0 (e4 ∙ ap (λ z. with_push c3 n z 0) ey) (λ z. cc) refl in
+      let all : Emits w c0 c ⊤ (λ final site p q. Fits final site w.temps level num ln p q) =
       emits_as w _ _ _ _ c0 c (λ t. (tt, (tt, (tt, tt)))) (λ t. tt) (λ final site p q _ _ r. (r.0, r.2.0, r.2.2.0, r.1, record { line = 0; is = r.2.1 }, r.2.2.1, r.2.2.2))
-      (emits_then w _ _ (λ z site. Pushes z site (suc n) (i.Addr (pos level) (pos w.used) (pos num))) (λ z site p q. (u : ℕ) × At z i.Swap 0 p u × ((v : ℕ) × At z i.Put ln u v × Pushes z site n (i.Load (pos level) (pos w.used)) v q)) c0 c1 c p1
-      (emits_then w _ _ (λ z site. At z i.Swap 0) (λ z site p q. (v : ℕ) × At z i.Put ln p v × Pushes z site n (i.Load (pos level) (pos w.used)) v q) c1 c2 c p2
-      (emits_then w _ _ (λ z site. At z i.Put ln) (λ z site. Pushes z site n (i.Load (pos level) (pos w.used))) c2 c3 c p3 p4))) in
-      let numbered : Emits w a c ⊤ (λ final site p q. (site.used ≤ w.used) × (w.used < site.size) × Fits final site level num ln p q) = emits_temp w ⊤ (λ final site p q. Fits final site level num ln p q) a c0 c w.used refl e0 all in
-      emits_classed w ⊤ (λ final site p q. (site.used ≤ w.used) × (w.used < site.size) × Fits final site (level_of s site.text) num ln p q) _ a c
-      (λ final site p q known r. let f = subst (λ z. Fits final site (level_of s site.text) z ln p q) (sym (class_numbered s final a.classes k num known (en ∙ ap (class_of a.classes) ej))) r.2 in (r.0, r.1, f.0, f.1, f.2, f.3, f.4, f.5, f.6))
-      (emits_as w _ _ _ _ a c (λ t. t) (λ t. t) (λ final site p q stands _ r. (r.0, r.1, subst (λ z. Fits final site z num ln p q) (elv ∙ ap (level_of s) (sym stands)) r.2)) numbered)
+      (emits_then w _ _ (λ z site. Pushes z site (suc n) (i.Addr (pos level) (pos w.temps) (pos num))) (λ z site p q. (u : ℕ) × At z i.Swap 0 p u × ((v : ℕ) × At z i.Put ln u v × Pushes z site n (i.Load (pos level) (pos w.temps)) v q)) c0 c1 c p1
+      (emits_then w _ _ (λ z site. At z i.Swap 0) (λ z site p q. (v : ℕ) × At z i.Put ln p v × Pushes z site n (i.Load (pos level) (pos w.temps)) v q) c1 c2 c p2
+      (emits_then w _ _ (λ z site. At z i.Put ln) (λ z site. Pushes z site n (i.Load (pos level) (pos w.temps))) c2 c3 c p3 p4))) in
+      let numbered : Emits w a c ⊤ (λ final site p q. (w.temps < site.size) × Fits final site w.temps level num ln p q) = emits_temp_behind w ⊤ (λ final site p q. Fits final site w.temps level num ln p q) a c0 c w.temps e0 all in
+      let at_site : Emits w a c ⊤ (λ final site p q. (site.temps < site.size) × Fits final site site.temps (level_of s site.text) num ln p q) =
+      emits_temps w ⊤ (λ final site p q. (w.temps < site.size) × Fits final site w.temps (level_of s site.text) num ln p q) _ a c (λ final site p q temps r. subst (λ z. (z < site.size) × Fits final site z (level_of s site.text) num ln p q) (sym temps) r)
+      (emits_as w _ _ _ _ a c (λ t. t) (λ t. t) (λ final site p q stands _ r. (r.0, subst (λ z. Fits final site w.temps z num ln p q) (elv ∙ ap (level_of s) (sym stands)) r.1)) numbered) in
+      emits_classed w ⊤ (λ final site p q. (site.temps < site.size) × Fits final site site.temps (level_of s site.text) num ln p q) _ a c
+      (λ final site p q known r.
+      let f = subst (λ z. Fits final site site.temps (level_of s site.text) z ln p q) (sym (class_numbered s final a.classes k num known (en ∙ ap (class_of a.classes) ej))) r.1 in
+      record { x = f.0; y = f.1; z = f.2; within = r.0; address = f.3; under = f.4; put = f.5; again = f.6 })
+      at_site
 
   -- ---- what an object has
 
@@ -318,6 +323,10 @@ module _ (b : Bound) (w : Spot) (n : ℕ) where
   of_virtual a c token d k es is f start y h =
       subst (Has start c token d y (expressions (map syntax_of es))) (sym is)
       (match_called b w (BaseBuilt (source_of b) w.text y) (λ final site p q. BaseAt (source_of b) final site n y p q) start a c token d es h f)
+
+  pub of_named : (a c : DraftOf) (token : TokenNo) (d : DeclNo) (k : Seen) (es : List Expr) → k ≡ seen.Named → c ≡ given_up a → WritesSeenOf b w n a c token d k es
+  unfolding WritesSeenOf PutsBase
+  of_named a c token d k es is ec start y h = subst (Has start c token d y (expressions (map syntax_of es))) (sym is) (gives_up _ _ _ _ start a c h (λ t. t) ec)
 
   pub of_nothing : (a c : DraftOf) (token : TokenNo) (d : DeclNo) (k : Seen) (es : List Expr) → k ≡ seen.Nothing → c ≡ given_up a → WritesSeenOf b w n a c token d k es
   unfolding WritesSeenOf PutsBase
@@ -417,6 +426,10 @@ module _ (b : Bound) (w : Spot) (n : ℕ) where
   pub lying_virtual : (a c : DraftOf) (class : ℕ) (token : TokenNo) (d : DeclNo) (k : Seen) (es : List Expr) → k ≡ seen.Virtual → c ≡ given_up a → WritesSeenPlaceOf b w n a c class token d k es
   unfolding WritesSeenPlaceOf PutsBase
   lying_virtual a c class token d k es is ec start y h = subst (LiesIn start c class token d y (expressions (map syntax_of es))) (sym is) (gives_up _ _ _ _ start a c h (λ t. t) ec)
+
+  pub lying_named : (a c : DraftOf) (class : ℕ) (token : TokenNo) (d : DeclNo) (k : Seen) (es : List Expr) → k ≡ seen.Named → c ≡ given_up a → WritesSeenPlaceOf b w n a c class token d k es
+  unfolding WritesSeenPlaceOf PutsBase
+  lying_named a c class token d k es is ec start y h = subst (LiesIn start c class token d y (expressions (map syntax_of es))) (sym is) (gives_up _ _ _ _ start a c h (λ t. t) ec)
 
   pub lying_nothing : (a c : DraftOf) (class : ℕ) (token : TokenNo) (d : DeclNo) (k : Seen) (es : List Expr) → k ≡ seen.Nothing → c ≡ given_up a → WritesSeenPlaceOf b w n a c class token d k es
   unfolding WritesSeenPlaceOf PutsBase
@@ -530,4 +543,4 @@ module _ (b : Bound) (w : Spot) (n : ℕ) where
 
 pub ruleset leaves = (connected_load, connected_no_slot, connected_outside, object_pushed, object_outside, this_connected, this_object, this_nowhere, attribute_found, attribute_no_slot, constant_read, constant_no_slot, member_named, member_unnamed, qua_named, qua_unnamed, fitted)
 
-pub ruleset objects = (element_of, of_variable, of_no_variable, of_constant, of_no_constant, of_array, of_element, of_call, of_virtual, of_nothing, of_declared, of_set, lying_variable, lying_no_variable, lying_element, lying_array, lying_constant, lying_call, lying_virtual, lying_nothing, lying_declared, behind_declared, behind_standard, behind_undeclared, generated, new_declared, new_process, new_no_class, new_standard, new_undeclared)
+pub ruleset objects = (element_of, of_variable, of_no_variable, of_constant, of_no_constant, of_array, of_element, of_call, of_virtual, of_named, of_nothing, of_declared, of_set, lying_variable, lying_no_variable, lying_element, lying_array, lying_constant, lying_call, lying_virtual, lying_named, lying_nothing, lying_declared, behind_declared, behind_standard, behind_undeclared, generated, new_declared, new_process, new_no_class, new_standard, new_undeclared)

@@ -28,8 +28,8 @@ use Rattle.sim_values.specs.Standard.{row_of}
 use Rattle.sim_code.specs.declared.instr.Instr.{Instr}
 use Rattle.sim_code.specs.declared.instr.Instr.TheVariants as i
 use Rattle.sim_code.specs.Code.{CodeOf}
-use Rattle.sim_meaning.specs.Attributes.{connection_at, own_attribute, parameter_qualification}
-use Rattle.sim_meaning.specs.Closing.{formals_at, formals_declared, formals_from, is_text_type}
+use Rattle.sim_meaning.specs.Attributes.{connection_at, own_attribute}
+use Rattle.sim_meaning.specs.Closing.{class_passed, formals_at, formals_declared, formals_from, is_text_type}
 use Rattle.sim_meaning.specs.Texts.{constant_of}
 use Rattle.codegen_expr.specs.declared.operators.Passed.{Passed}
 use Rattle.codegen_expr.specs.declared.operators.Passed.TheVariants as passed
@@ -37,9 +37,9 @@ use Rattle.codegen_expr.specs.declared.operators.Seen.{Seen}
 use Rattle.codegen_expr.specs.declared.operators.Seen.TheVariants as seen
 use Rattle.codegen_expr.specs.declared.spot.Spot.{Spot}
 use Rattle.codegen_expr.specs.Built.{ActualBuilt, ActualsBuilt, AreBuilt, CallBuilt, ConnectedNameBuilt, ConstantBuilt, DeclaredBuilt, IsBuilt, FormalBuilt, NamedBuilt, OfObjectBuilt, OwnBuilt, OwnNameBuilt, StandsIn, ThisFoundBuilt, ThroughBuilt, is_around}
-use Rattle.codegen_expr.specs.CodeExpr.{ActualAt, ActualsAt, CallAt, ConnectedNameAt, DeclaredAt, ElementAt, ExprAt, ExprsAt, FittingAt, FormalAt, NamedAt, OfObjectAt, OwnAt, OwnNameAt, StandardIs, ThisAt, ThisFoundAt, ThroughAt, gives, operands}
+use Rattle.codegen_expr.specs.CodeExpr.{ActualAt, ActualsAt, CallAt, ConnectedNameAt, DeclaredAt, ElementAt, ExprAt, ExprsAt, FittingAt, FormalAt, HeldAt, NamedAt, OfObjectAt, OwnAt, OwnNameAt, StandardIs, ThisAt, ThisFoundAt, ThroughAt, ThunkAt, gives, operands}
 use Rattle.codegen_expr.specs.Drafts.{DraftOf, Emits, given_up, with_instr, with_push}
-use Rattle.codegen_expr.specs.Emit.{OwesActuals, Puts, PutsNamed, PutsOwn, PutsSeen, PutsUnconnected, SeenAt, SeenBuilt, Writes, WritesActual, WritesActuals, WritesCall, WritesCell, WritesConstant, WritesElement, WritesGiving, WritesLink, WritesLinkTo, WritesNamed, WritesOwn, WritesPassed, WritesSeen, WritesStandard, WritesThrough, WritesUnconnected, formals_of_block, passed_of, seen_formal, seen_of}
+use Rattle.codegen_expr.specs.Emit.{GivenBuilt, OwesActuals, Puts, PutsNamed, PutsOwn, PutsSeen, PutsUnconnected, SeenAt, SeenBuilt, ThunkGivesAt, Writes, WritesActual, WritesActuals, WritesCall, WritesCell, WritesConstant, WritesElement, WritesGiving, WritesLink, WritesLinkTo, WritesName, WritesNamed, WritesOwn, WritesPassed, WritesSeen, WritesStandard, WritesThrough, WritesThunk, WritesUnconnected, WritesUse, formals_of_block, passed_of, seen_formal, seen_of}
 use Rattle.codegen_expr.specs.EmitObjects.{OfConnection, PutsBase, WritesFit, WritesObjectOf, WritesOf}
 use Rattle.codegen_expr.specs.EmitVirtuals.{WritesMatch}
 use Rattle.codegen_expr.specs.Sites.{At, Inside, Is, Pushes, Site, block_number, class_number}
@@ -94,142 +94,164 @@ module _ (b : Bound) (w : Spot) (n : ℕ) where
 
   -- ---- actual parameters
 
-  plain_passed : (keeps : Bool) (m : Mode) (k : FormalKind) (t : Bool) (line : ℕ) (P : Type 0) (A : Place) (a c : DraftOf) → passed.Plain ≡ passed_of keeps m k t → Emits w a c P A → Emits w a c (P × ActualBuilt m k) (λ final site p q. ActualAt final site n line keeps m k t (A final site) p q)
-  plain_passed keeps mode.ByValue shape.Array t line P A a c e f = absurd (cc)
-  plain_passed keeps mode.ByValue shape.Simple true line P A a c e f = absurd (cc)
-  plain_passed keeps mode.ByValue shape.Simple false line P A a c e f = emits_as w _ _ _ _ a c (λ t. t.0) (λ t. (t, tt)) (λ final site p q _ _ r. r) f
-  plain_passed keeps mode.ByValue shape.Procedure t line P A a c e f = absurd (cc)
-  plain_passed true mode.ByReference shape.Array t line P A a c e f = absurd (cc)
-  plain_passed false mode.ByReference shape.Array t line P A a c e f = emits_as w _ _ _ _ a c (λ t. t.0) (λ t. (t, tt)) (λ final site p q _ _ r. r) f
-  plain_passed true mode.ByReference shape.Simple t line P A a c e f = emits_as w _ _ _ _ a c (λ t. t.0) (λ t. (t, tt)) (λ final site p q _ _ r. r) f
-  plain_passed false mode.ByReference shape.Simple t line P A a c e f = emits_as w _ _ _ _ a c (λ t. t.0) (λ t. (t, tt)) (λ final site p q _ _ r. r) f
-  plain_passed true mode.ByReference shape.Procedure t line P A a c e f = absurd (cc)
-  plain_passed false mode.ByReference shape.Procedure t line P A a c e f = absurd (cc)
-  plain_passed keeps mode.ByName shape.Array t line P A a c e f = absurd (cc)
-  plain_passed keeps mode.ByName shape.Simple t line P A a c e f = absurd (cc)
-  plain_passed keeps mode.ByName shape.Procedure t line P A a c e f = absurd (cc)
+  plain_passed : (keeps : Bool) (m : Mode) (k : FormalKind) (t : Bool) (line : ℕ) (P G : Type 0) (A T : Place) (a c : DraftOf) → passed.Plain ≡ passed_of keeps m k t → Emits w a c P A → Emits w a c (ActualBuilt m k P G) (λ final site p q. ActualAt final site n line keeps m k t (A final site) (T final) p q)
+  plain_passed keeps mode.ByValue shape.Array t line P G A T a c e f = absurd (cc)
+  plain_passed keeps mode.ByValue shape.Simple true line P G A T a c e f = absurd (cc)
+  plain_passed keeps mode.ByValue shape.Simple false line P G A T a c e f = f
+  plain_passed keeps mode.ByValue shape.Procedure t line P G A T a c e f = absurd (cc)
+  plain_passed true mode.ByReference shape.Array t line P G A T a c e f = absurd (cc)
+  plain_passed false mode.ByReference shape.Array t line P G A T a c e f = f
+  plain_passed true mode.ByReference shape.Simple t line P G A T a c e f = f
+  plain_passed false mode.ByReference shape.Simple t line P G A T a c e f = f
+  plain_passed true mode.ByReference shape.Procedure t line P G A T a c e f = absurd (cc)
+  plain_passed false mode.ByReference shape.Procedure t line P G A T a c e f = absurd (cc)
+  plain_passed keeps mode.ByName shape.Array t line P G A T a c e f = absurd (cc)
+  plain_passed keeps mode.ByName shape.Simple t line P G A T a c e f = absurd (cc)
+  plain_passed keeps mode.ByName shape.Procedure t line P G A T a c e f = absurd (cc)
 
-  copied_passed : (keeps : Bool) (m : Mode) (k : FormalKind) (t : Bool) (line : ℕ) (P : Type 0) (A : Place) (a c : DraftOf) → passed.Copied ≡ passed_of keeps m k t → Emits w a c (P × ⊤) (λ final site p q. (x : ℕ) × A final site p x × At final i.CopyArr line x q) → Emits w a c (P × ActualBuilt m k) (λ final site p q. ActualAt final site n line keeps m k t (A final site) p q)
-  copied_passed keeps mode.ByValue shape.Array t line P A a c e f = f
-  copied_passed keeps mode.ByValue shape.Simple true line P A a c e f = absurd (cc)
-  copied_passed keeps mode.ByValue shape.Simple false line P A a c e f = absurd (cc)
-  copied_passed keeps mode.ByValue shape.Procedure t line P A a c e f = absurd (cc)
-  copied_passed true mode.ByReference shape.Array t line P A a c e f = absurd (cc)
-  copied_passed false mode.ByReference shape.Array t line P A a c e f = absurd (cc)
-  copied_passed true mode.ByReference shape.Simple t line P A a c e f = absurd (cc)
-  copied_passed false mode.ByReference shape.Simple t line P A a c e f = absurd (cc)
-  copied_passed true mode.ByReference shape.Procedure t line P A a c e f = absurd (cc)
-  copied_passed false mode.ByReference shape.Procedure t line P A a c e f = absurd (cc)
-  copied_passed keeps mode.ByName shape.Array t line P A a c e f = absurd (cc)
-  copied_passed keeps mode.ByName shape.Simple t line P A a c e f = absurd (cc)
-  copied_passed keeps mode.ByName shape.Procedure t line P A a c e f = absurd (cc)
+  copied_passed : (keeps : Bool) (m : Mode) (k : FormalKind) (t : Bool) (line : ℕ) (P G : Type 0) (A T : Place) (a c : DraftOf) → passed.Copied ≡ passed_of keeps m k t → Emits w a c (P × ⊤) (λ final site p q. (x : ℕ) × A final site p x × At final i.CopyArr line x q) → Emits w a c (ActualBuilt m k P G) (λ final site p q. ActualAt final site n line keeps m k t (A final site) (T final) p q)
+  copied_passed keeps mode.ByValue shape.Array t line P G A T a c e f = emits_as w _ _ _ _ a c (λ t. (t, tt)) (λ t. t.0) (λ final site p q _ _ r. r) f
+  copied_passed keeps mode.ByValue shape.Simple true line P G A T a c e f = absurd (cc)
+  copied_passed keeps mode.ByValue shape.Simple false line P G A T a c e f = absurd (cc)
+  copied_passed keeps mode.ByValue shape.Procedure t line P G A T a c e f = absurd (cc)
+  copied_passed true mode.ByReference shape.Array t line P G A T a c e f = absurd (cc)
+  copied_passed false mode.ByReference shape.Array t line P G A T a c e f = absurd (cc)
+  copied_passed true mode.ByReference shape.Simple t line P G A T a c e f = absurd (cc)
+  copied_passed false mode.ByReference shape.Simple t line P G A T a c e f = absurd (cc)
+  copied_passed true mode.ByReference shape.Procedure t line P G A T a c e f = absurd (cc)
+  copied_passed false mode.ByReference shape.Procedure t line P G A T a c e f = absurd (cc)
+  copied_passed keeps mode.ByName shape.Array t line P G A T a c e f = absurd (cc)
+  copied_passed keeps mode.ByName shape.Simple t line P G A T a c e f = absurd (cc)
+  copied_passed keeps mode.ByName shape.Procedure t line P G A T a c e f = absurd (cc)
 
-  kept_passed : (keeps : Bool) (m : Mode) (k : FormalKind) (t : Bool) (line : ℕ) (P : Type 0) (A : Place) (a c : DraftOf) → passed.Kept ≡ passed_of keeps m k t → Emits w a c (P × ⊤) (λ final site p q. (x : ℕ) × A final site p x × At final i.Keep 0 x q) → Emits w a c (P × ActualBuilt m k) (λ final site p q. ActualAt final site n line keeps m k t (A final site) p q)
-  kept_passed keeps mode.ByValue shape.Array t line P A a c e f = absurd (cc)
-  kept_passed keeps mode.ByValue shape.Simple true line P A a c e f = absurd (cc)
-  kept_passed keeps mode.ByValue shape.Simple false line P A a c e f = absurd (cc)
-  kept_passed keeps mode.ByValue shape.Procedure t line P A a c e f = absurd (cc)
-  kept_passed true mode.ByReference shape.Array t line P A a c e f = emits_as w _ _ _ _ a c (λ t. t) (λ t. t) (λ final site p q _ _ r. (r.0, r.1, record { line = 0; is = r.2 })) f
-  kept_passed false mode.ByReference shape.Array t line P A a c e f = absurd (cc)
-  kept_passed true mode.ByReference shape.Simple t line P A a c e f = absurd (cc)
-  kept_passed false mode.ByReference shape.Simple t line P A a c e f = absurd (cc)
-  kept_passed true mode.ByReference shape.Procedure t line P A a c e f = absurd (cc)
-  kept_passed false mode.ByReference shape.Procedure t line P A a c e f = absurd (cc)
-  kept_passed keeps mode.ByName shape.Array t line P A a c e f = absurd (cc)
-  kept_passed keeps mode.ByName shape.Simple t line P A a c e f = absurd (cc)
-  kept_passed keeps mode.ByName shape.Procedure t line P A a c e f = absurd (cc)
+  kept_passed : (keeps : Bool) (m : Mode) (k : FormalKind) (t : Bool) (line : ℕ) (P G : Type 0) (A T : Place) (a c : DraftOf) → passed.Kept ≡ passed_of keeps m k t → Emits w a c (P × ⊤) (λ final site p q. (x : ℕ) × A final site p x × At final i.Keep 0 x q) → Emits w a c (ActualBuilt m k P G) (λ final site p q. ActualAt final site n line keeps m k t (A final site) (T final) p q)
+  kept_passed keeps mode.ByValue shape.Array t line P G A T a c e f = absurd (cc)
+  kept_passed keeps mode.ByValue shape.Simple true line P G A T a c e f = absurd (cc)
+  kept_passed keeps mode.ByValue shape.Simple false line P G A T a c e f = absurd (cc)
+  kept_passed keeps mode.ByValue shape.Procedure t line P G A T a c e f = absurd (cc)
+  kept_passed true mode.ByReference shape.Array t line P G A T a c e f = emits_as w _ _ _ _ a c (λ t. (t, tt)) (λ t. t.0) (λ final site p q _ _ r. (r.0, r.1, record { line = 0; is = r.2 })) f
+  kept_passed false mode.ByReference shape.Array t line P G A T a c e f = absurd (cc)
+  kept_passed true mode.ByReference shape.Simple t line P G A T a c e f = absurd (cc)
+  kept_passed false mode.ByReference shape.Simple t line P G A T a c e f = absurd (cc)
+  kept_passed true mode.ByReference shape.Procedure t line P G A T a c e f = absurd (cc)
+  kept_passed false mode.ByReference shape.Procedure t line P G A T a c e f = absurd (cc)
+  kept_passed keeps mode.ByName shape.Array t line P G A T a c e f = absurd (cc)
+  kept_passed keeps mode.ByName shape.Simple t line P G A T a c e f = absurd (cc)
+  kept_passed keeps mode.ByName shape.Procedure t line P G A T a c e f = absurd (cc)
 
   copies : (final : CodeOf) (site : Site) (line x q : ℕ) → At final (i.Std (pos 15)) line x q → n < site.room → StandardIs final site n line name_of.Copy 1 x q
   unfolding row_of
   copies final site line x q at fits = record { as_many = refl; number = 15; numbered = refl; is = at; fits = λ _. fits }
 
-  text_passed : (keeps : Bool) (m : Mode) (k : FormalKind) (t : Bool) (line : ℕ) (P : Type 0) (A : Place) (a c : DraftOf) → passed.CopiedText ≡ passed_of keeps m k t → Emits w a c (P × ⊤) (λ final site p q. (x : ℕ) × A final site p x × (At final (i.Std (pos 15)) line x q × (n < site.room))) → Emits w a c (P × ActualBuilt m k) (λ final site p q. ActualAt final site n line keeps m k t (A final site) p q)
-  text_passed keeps mode.ByValue shape.Array t line P A a c e f = absurd (cc)
-  text_passed keeps mode.ByValue shape.Simple true line P A a c e f = emits_as w _ _ _ _ a c (λ t. t) (λ t. t) (λ final site p q _ _ r. (r.0, r.1, copies final site line r.0 q r.2.0 r.2.1)) f
-  text_passed keeps mode.ByValue shape.Simple false line P A a c e f = absurd (cc)
-  text_passed keeps mode.ByValue shape.Procedure t line P A a c e f = absurd (cc)
-  text_passed true mode.ByReference shape.Array t line P A a c e f = absurd (cc)
-  text_passed false mode.ByReference shape.Array t line P A a c e f = absurd (cc)
-  text_passed true mode.ByReference shape.Simple t line P A a c e f = absurd (cc)
-  text_passed false mode.ByReference shape.Simple t line P A a c e f = absurd (cc)
-  text_passed true mode.ByReference shape.Procedure t line P A a c e f = absurd (cc)
-  text_passed false mode.ByReference shape.Procedure t line P A a c e f = absurd (cc)
-  text_passed keeps mode.ByName shape.Array t line P A a c e f = absurd (cc)
-  text_passed keeps mode.ByName shape.Simple t line P A a c e f = absurd (cc)
-  text_passed keeps mode.ByName shape.Procedure t line P A a c e f = absurd (cc)
+  text_passed : (keeps : Bool) (m : Mode) (k : FormalKind) (t : Bool) (line : ℕ) (P G : Type 0) (A T : Place) (a c : DraftOf) → passed.CopiedText ≡ passed_of keeps m k t → Emits w a c (P × ⊤) (λ final site p q. (x : ℕ) × A final site p x × (At final (i.Std (pos 15)) line x q × (n < site.room))) → Emits w a c (ActualBuilt m k P G) (λ final site p q. ActualAt final site n line keeps m k t (A final site) (T final) p q)
+  text_passed keeps mode.ByValue shape.Array t line P G A T a c e f = absurd (cc)
+  text_passed keeps mode.ByValue shape.Simple true line P G A T a c e f = emits_as w _ _ _ _ a c (λ t. (t, tt)) (λ t. t.0) (λ final site p q _ _ r. (r.0, r.1, copies final site line r.0 q r.2.0 r.2.1)) f
+  text_passed keeps mode.ByValue shape.Simple false line P G A T a c e f = absurd (cc)
+  text_passed keeps mode.ByValue shape.Procedure t line P G A T a c e f = absurd (cc)
+  text_passed true mode.ByReference shape.Array t line P G A T a c e f = absurd (cc)
+  text_passed false mode.ByReference shape.Array t line P G A T a c e f = absurd (cc)
+  text_passed true mode.ByReference shape.Simple t line P G A T a c e f = absurd (cc)
+  text_passed false mode.ByReference shape.Simple t line P G A T a c e f = absurd (cc)
+  text_passed true mode.ByReference shape.Procedure t line P G A T a c e f = absurd (cc)
+  text_passed false mode.ByReference shape.Procedure t line P G A T a c e f = absurd (cc)
+  text_passed keeps mode.ByName shape.Array t line P G A T a c e f = absurd (cc)
+  text_passed keeps mode.ByName shape.Simple t line P G A T a c e f = absurd (cc)
+  text_passed keeps mode.ByName shape.Procedure t line P G A T a c e f = absurd (cc)
 
-  other_passed : (keeps : Bool) (m : Mode) (k : FormalKind) (t : Bool) → passed.Other ≡ passed_of keeps m k t → ActualBuilt m k → ⊥
-  other_passed keeps mode.ByValue shape.Array t e h = cc
-  other_passed keeps mode.ByValue shape.Simple true e h = cc
-  other_passed keeps mode.ByValue shape.Simple false e h = cc
-  other_passed keeps mode.ByValue shape.Procedure t e h = h
-  other_passed true mode.ByReference shape.Array t e h = cc
-  other_passed false mode.ByReference shape.Array t e h = cc
-  other_passed true mode.ByReference shape.Simple t e h = cc
-  other_passed false mode.ByReference shape.Simple t e h = cc
-  other_passed true mode.ByReference shape.Procedure t e h = h
-  other_passed false mode.ByReference shape.Procedure t e h = h
-  other_passed keeps mode.ByName shape.Array t e h = h
-  other_passed keeps mode.ByName shape.Simple t e h = h
-  other_passed keeps mode.ByName shape.Procedure t e h = h
+  named_passed : (keeps : Bool) (m : Mode) (k : FormalKind) (t : Bool) (line : ℕ) (P G : Type 0) (A T : Place) (a c : DraftOf) → passed.Named ≡ passed_of keeps m k t → Emits w a c G (λ final site p q. ThunkAt final site n (T final) p q) → Emits w a c (ActualBuilt m k P G) (λ final site p q. ActualAt final site n line keeps m k t (A final site) (T final) p q)
+  named_passed keeps mode.ByValue shape.Array t line P G A T a c e f = absurd (cc)
+  named_passed keeps mode.ByValue shape.Simple true line P G A T a c e f = absurd (cc)
+  named_passed keeps mode.ByValue shape.Simple false line P G A T a c e f = absurd (cc)
+  named_passed keeps mode.ByValue shape.Procedure t line P G A T a c e f = absurd (cc)
+  named_passed true mode.ByReference shape.Array t line P G A T a c e f = absurd (cc)
+  named_passed false mode.ByReference shape.Array t line P G A T a c e f = absurd (cc)
+  named_passed true mode.ByReference shape.Simple t line P G A T a c e f = absurd (cc)
+  named_passed false mode.ByReference shape.Simple t line P G A T a c e f = absurd (cc)
+  named_passed true mode.ByReference shape.Procedure t line P G A T a c e f = absurd (cc)
+  named_passed false mode.ByReference shape.Procedure t line P G A T a c e f = absurd (cc)
+  named_passed keeps mode.ByName shape.Array t line P G A T a c e f = absurd (cc)
+  named_passed keeps mode.ByName shape.Simple t line P G A T a c e f = f
+  named_passed keeps mode.ByName shape.Procedure t line P G A T a c e f = absurd (cc)
+
+  other_passed : (keeps : Bool) (m : Mode) (k : FormalKind) (t : Bool) → (P G : Type 0) → passed.Other ≡ passed_of keeps m k t → ActualBuilt m k P G → ⊥
+  other_passed keeps mode.ByValue shape.Array t P G e h = cc
+  other_passed keeps mode.ByValue shape.Simple true P G e h = cc
+  other_passed keeps mode.ByValue shape.Simple false P G e h = cc
+  other_passed keeps mode.ByValue shape.Procedure t P G e h = h
+  other_passed true mode.ByReference shape.Array t P G e h = cc
+  other_passed false mode.ByReference shape.Array t P G e h = cc
+  other_passed true mode.ByReference shape.Simple t P G e h = cc
+  other_passed false mode.ByReference shape.Simple t P G e h = cc
+  other_passed true mode.ByReference shape.Procedure t P G e h = h
+  other_passed false mode.ByReference shape.Procedure t P G e h = h
+  other_passed keeps mode.ByName shape.Array t P G e h = h
+  other_passed keeps mode.ByName shape.Simple t P G e h = cc
+  other_passed keeps mode.ByName shape.Procedure t P G e h = h
+
+  abbrev Given : Expr → Type 0
+  Given x = GivenBuilt (source_of b) w.text (syntax_of x)
+
+  abbrev Gives : Expr → Place
+  Gives x final inner p q = ThunkGivesAt (source_of b) final inner (syntax_of x) p q
 
   pub see_plain_actual : (a c : DraftOf) (keeps : Bool) (token : TokenNo) (x : Expr) (f : Formal) (k : Passed) → Writes b w n a c x → k ≡ passed_of keeps f.mode f.kind (is_text_type f.ty) → k ≡ passed.Plain → WritesPassed b w n a c keeps token x f
   unfolding WritesPassed Writes Puts
-  see_plain_actual a c keeps token x f k g ek is = plain_passed keeps f.mode f.kind (is_text_type f.ty) (line_at (source_of b) token.0) _ (λ z site p q. ExprAt (source_of b) z site n (syntax_of x) p q) a c (sym is ∙ ek) g
+  see_plain_actual a c keeps token x f k g ek is = plain_passed keeps f.mode f.kind (is_text_type f.ty) (line_at (source_of b) token.0) _ (Given x) (λ z site p q. ExprAt (source_of b) z site n (syntax_of x) p q) (Gives x) a c (sym is ∙ ek) g
 
   pub see_copied_actual : (a c0 c : DraftOf) (keeps : Bool) (token : TokenNo) (x : Expr) (f : Formal) (k : Passed) (line : ℕ) → Writes b w n a c0 x → k ≡ passed_of keeps f.mode f.kind (is_text_type f.ty) → k ≡ passed.Copied → line ≡ line_at (source_of b) token.0 → c ≡ with_instr c0 i.CopyArr line → WritesPassed b w n a c keeps token x f
   unfolding WritesPassed Writes Puts
   see_copied_actual a c0 c keeps token x f k line g ek is el ec =
       let s = source_of b in
-      copied_passed keeps f.mode f.kind (is_text_type f.ty) (line_at s token.0) _ (λ z site p q. ExprAt s z site n (syntax_of x) p q) a c (sym is ∙ ek)
+      copied_passed keeps f.mode f.kind (is_text_type f.ty) (line_at s token.0) _ (Given x) (λ z site p q. ExprAt s z site n (syntax_of x) p q) (Gives x) a c (sym is ∙ ek)
       (emits_then w _ _ (λ z site p q. ExprAt s z site n (syntax_of x) p q) (λ z site. At z i.CopyArr (line_at s token.0)) a c0 c g (emits_at w c0 c i.CopyArr (line_at s token.0) (ec ∙ ap (λ z. with_instr c0 i.CopyArr z) el) (λ z. cc) refl))
 
   pub see_text_actual : (a c0 c : DraftOf) (keeps : Bool) (token : TokenNo) (x : Expr) (f : Formal) (k : Passed) (line : ℕ) (y : Instr) → Writes b w n a c0 x → k ≡ passed_of keeps f.mode f.kind (is_text_type f.ty) → k ≡ passed.CopiedText → y ≡ i.Std (pos 15) → line ≡ line_at (source_of b) token.0 → c ≡ with_push c0 n y line → WritesPassed b w n a c keeps token x f
   unfolding WritesPassed Writes Puts
   see_text_actual a c0 c keeps token x f k line y g ek is ey el ec =
       let s = source_of b in
-      text_passed keeps f.mode f.kind (is_text_type f.ty) (line_at s token.0) _ (λ z site p q. ExprAt s z site n (syntax_of x) p q) a c (sym is ∙ ek)
+      text_passed keeps f.mode f.kind (is_text_type f.ty) (line_at s token.0) _ (Given x) (λ z site p q. ExprAt s z site n (syntax_of x) p q) (Gives x) a c (sym is ∙ ek)
       (emits_then w _ _ (λ z site p q. ExprAt s z site n (syntax_of x) p q) (λ z site p q. At z (i.Std (pos 15)) (line_at s token.0) p q × (n < site.room)) a c0 c g
       (emits_push_at w c0 c n (i.Std (pos 15)) (line_at s token.0) (ec ∙ ap (λ z. with_push c0 n z line) ey ∙ ap (λ z. with_push c0 n (i.Std (pos 15)) z) el) (λ z. cc) refl))
 
-  pub see_no_actual : (a c0 c : DraftOf) (keeps : Bool) (token : TokenNo) (x : Expr) (f : Formal) (k : Passed) → Writes b w n a c0 x → k ≡ passed_of keeps f.mode f.kind (is_text_type f.ty) → k ≡ passed.Other → c ≡ given_up c0 → WritesPassed b w n a c keeps token x f
-  unfolding WritesPassed Writes Puts
-  see_no_actual a c0 c keeps token x f k g ek is ec =
-      let never : ActualBuilt f.mode f.kind → ⊥ = other_passed keeps f.mode f.kind (is_text_type f.ty) (sym is ∙ ek) in
-      emits_as w (IsBuilt (source_of b) w.text (syntax_of x) × ⊥) _ _ _ a c (λ q. absurd (never q.1)) (λ q. absurd q.1) (λ final site p q _ _ r. absurd r.2)
-      (emits_then w _ ⊥ (λ z site p q. ExprAt (source_of b) z site n (syntax_of x) p q) (λ final site p q. ⊥) a c0 c g (emits_nothing w c0 c ⊥ (λ final site p q. ⊥) (λ z. z) ec))
+  pub see_named_actual : (a c : DraftOf) (keeps : Bool) (token : TokenNo) (x : Expr) (f : Formal) (k : Passed) → k ≡ passed_of keeps f.mode f.kind (is_text_type f.ty) → k ≡ passed.Named → WritesThunk b w n a c x → WritesPassed b w n a c keeps token x f
+  unfolding WritesPassed WritesThunk
+  see_named_actual a c keeps token x f k ek is g =
+      named_passed keeps f.mode f.kind (is_text_type f.ty) (line_at (source_of b) token.0) (IsBuilt (source_of b) w.text (syntax_of x)) _ (λ z site p q. ExprAt (source_of b) z site n (syntax_of x) p q) (Gives x) a c (sym is ∙ ek) g
+
+  pub see_no_actual : (a c : DraftOf) (keeps : Bool) (token : TokenNo) (x : Expr) (f : Formal) (k : Passed) → k ≡ passed_of keeps f.mode f.kind (is_text_type f.ty) → k ≡ passed.Other → c ≡ given_up a → WritesPassed b w n a c keeps token x f
+  unfolding WritesPassed
+  see_no_actual a c keeps token x f k ek is ec = emits_nothing w a c _ _ (other_passed keeps f.mode f.kind (is_text_type f.ty) _ (Given x) (sym is ∙ ek)) ec
 
   pub see_kept_actual : (a c0 c : DraftOf) (keeps : Bool) (token : TokenNo) (x : Expr) (f : Formal) (k : Passed) → Writes b w n a c0 x → k ≡ passed_of keeps f.mode f.kind (is_text_type f.ty) → k ≡ passed.Kept → c ≡ with_instr c0 i.Keep 0 → WritesPassed b w n a c keeps token x f
   unfolding WritesPassed Writes Puts
   see_kept_actual a c0 c keeps token x f k g ek is ec =
       let s = source_of b in
-      kept_passed keeps f.mode f.kind (is_text_type f.ty) (line_at s token.0) _ (λ z site p q. ExprAt s z site n (syntax_of x) p q) a c (sym is ∙ ek)
+      kept_passed keeps f.mode f.kind (is_text_type f.ty) (line_at s token.0) _ (Given x) (λ z site p q. ExprAt s z site n (syntax_of x) p q) (Gives x) a c (sym is ∙ ek)
       (emits_then w _ _ (λ z site p q. ExprAt s z site n (syntax_of x) p q) (λ z site. At z i.Keep 0) a c0 c g (emits_at w c0 c i.Keep 0 ec (λ z. cc) refl))
 
   abbrev Fitting : (a c : DraftOf) → (keeps : Bool) → TokenNo → Expr → Formal → Option ℕ → Type 0
   Fitting a c keeps token x f o =
-      Emits w a c (IsBuilt (source_of b) w.text (syntax_of x) × ActualBuilt f.mode f.kind)
-      (λ final site p q. FittingAt (source_of b) final site n (line_at (source_of b) token.0) o (λ u v. ActualAt final site n (line_at (source_of b) token.0) keeps f.mode f.kind (is_text_type f.ty) (λ y z. ExprAt (source_of b) final site n (syntax_of x) y z) u v) p q)
+      Emits w a c (ActualBuilt f.mode f.kind (IsBuilt (source_of b) w.text (syntax_of x)) (Given x))
+      (λ final site p q. FittingAt (source_of b) final site n (line_at (source_of b) token.0) o (λ u v. ActualAt final site n (line_at (source_of b) token.0) keeps f.mode f.kind (is_text_type f.ty) (λ y z. ExprAt (source_of b) final site n (syntax_of x) y z) (Gives x final) u v) p q)
 
-  pub see_unfitted : (a c : DraftOf) (keeps : Bool) (token : TokenNo) (x : Expr) (f : Formal) (o : Option ℕ) → WritesPassed b w n a c keeps token x f → o ≡ parameter_qualification (source_of b) f.kind f.ty → o ≡ None → WritesActual b w n a c keeps token x f
+  pub see_unfitted : (a c : DraftOf) (keeps : Bool) (token : TokenNo) (x : Expr) (f : Formal) (o : Option ℕ) → WritesPassed b w n a c keeps token x f → o ≡ class_passed (source_of b) f → o ≡ None → WritesActual b w n a c keeps token x f
   unfolding WritesPassed WritesActual
   see_unfitted a c keeps token x f o g eo none = subst (Fitting a c keeps token x f) (sym none ∙ eo) g
 
-  pub see_fitted : (a c0 c : DraftOf) (keeps : Bool) (token : TokenNo) (x : Expr) (f : Formal) (o : Option ℕ) (k : ℕ) → WritesPassed b w n a c0 keeps token x f → o ≡ parameter_qualification (source_of b) f.kind f.ty → o ≡ Some k → WritesFit b w n c0 c token k → WritesActual b w n a c keeps token x f
+  pub see_fitted : (a c0 c : DraftOf) (keeps : Bool) (token : TokenNo) (x : Expr) (f : Formal) (o : Option ℕ) (k : ℕ) → WritesPassed b w n a c0 keeps token x f → o ≡ class_passed (source_of b) f → o ≡ Some k → WritesFit b w n c0 c token k → WritesActual b w n a c keeps token x f
   unfolding WritesPassed WritesActual WritesFit
   see_fitted a c0 c keeps token x f o k g eo some h =
       let s = source_of b in
       subst (Fitting a c keeps token x f) (sym some ∙ eo)
-      (emits_as w _ _ _ _ a c (λ t. (t, tt)) (λ t. t.0) (λ final site p q _ _ r. record { x = r.0; y = r.2.2; z = r.2.3; w = r.2.4; temp = w.used; behind = r.2.0; within = r.2.1; actual = r.1; address = r.2.5; under = r.2.6; put = r.2.7; again = r.2.8 })
-      (emits_then w _ _ (λ z site p q. ActualAt z site n (line_at s token.0) keeps f.mode f.kind (is_text_type f.ty) (λ u v. ExprAt s z site n (syntax_of x) u v) p q)
-      (λ z site p q. (site.used ≤ w.used) × (w.used < site.size) × (y : ℕ) × (u : ℕ) × (v : ℕ)
-      × Pushes z site (suc n) (i.Addr (pos (level_of s site.text)) (pos w.used) (pos (class_number s z k))) p y × Is z i.Swap y u × At z i.Put (line_at s token.0) u v × Pushes z site n (i.Load (pos (level_of s site.text)) (pos w.used)) v q) a c0 c g h))
+      (emits_as w _ _ _ _ a c (λ t. (t, tt)) (λ t. t.0) (λ final site p q _ _ r. r)
+      (emits_then w _ _ (λ z site p q. ActualAt z site n (line_at s token.0) keeps f.mode f.kind (is_text_type f.ty) (λ u v. ExprAt s z site n (syntax_of x) u v) (Gives x z) p q)
+      (λ z site p q. HeldAt s z site n (line_at s token.0) (class_number s z k) p q) a c0 c g h))
 
   unlike : (s : Source) (es : List Expr) (fs : List Formal) → length es ≢ length fs → ActualsBuilt s w.text (expressions (map syntax_of es)) fs → ⊥
   unlike s [] [] other h = other refl
   unlike s [] (f ∷ fs) other h = h
   unlike s (x ∷ es) [] other h = h
-  unlike s (x ∷ es) (f ∷ fs) other h = unlike s es fs (λ e. other (ap suc e)) h.2
+  unlike s (x ∷ es) (f ∷ fs) other h = unlike s es fs (λ e. other (ap suc e)) h.1
 
   pub see_unlike : (a c : DraftOf) (keeps : Bool) (token : TokenNo) (es : List Expr) (fs : List Formal) → length es ≢ length fs → c ≡ given_up a → WritesActuals b w n a c keeps token es fs
   unfolding WritesActuals
@@ -249,8 +271,8 @@ module _ (b : Bound) (w : Spot) (n : ℕ) where
       owes end
       (subst (λ z. Emits w c end (ActualsBuilt s w.text (expressions (map syntax_of z)) g) (λ final site p q. ActualsAt s final site m line keeps (expressions (map syntax_of z)) g p q)) (sym er)
       (subst (λ z. Emits w c end (ActualsBuilt s w.text (expressions (map syntax_of (x ∷ r'))) z) (λ final site p q. ActualsAt s final site m line keeps (expressions (map syntax_of (x ∷ r'))) z p q)) (sym eg)
-      (emits_as w _ _ _ _ c end (λ t. ((t.0, t.1), t.2)) (λ t. (t.0.0, t.0.1, t.1)) (λ final site p q _ _ r. r)
-      (emits_then w _ _ (λ z site p q. FittingAt s z site m line (parameter_qualification s f.kind f.ty) (λ y y'. ActualAt z site m line keeps f.mode f.kind (is_text_type f.ty) (λ u v. ExprAt s z site m (syntax_of x) u v) y y') p q) (λ z site p q. ActualsAt s z site (suc m) line keeps xs' g' p q) c d end one rest'))))
+      (emits_as w _ _ _ _ c end (λ t. t) (λ t. t) (λ final site p q _ _ r. r)
+      (emits_then w _ _ (λ z site p q. FittingAt s z site m line (class_passed s f) (λ y y'. ActualAt z site m line keeps f.mode f.kind (is_text_type f.ty) (λ u v. ExprAt s z site m (syntax_of x) u v) (Gives x z) y y') p q) (λ z site p q. ActualsAt s z site (suc m) line keeps xs' g' p q) c d end one rest'))))
 
   pub actuals_none : (a c : DraftOf) (keeps : Bool) (token : TokenNo) (es r : List Expr) (fs g : List Formal) (m : ℕ) → OwesActuals b w n a keeps token es fs m c r g → r ≡ [] → g ≡ [] → WritesActuals b w n a c keeps token es fs
   unfolding OwesActuals WritesActuals
@@ -316,6 +338,16 @@ module _ (b : Bound) (w : Spot) (n : ℕ) where
       let f' = subst (λ z. Emits w a c0 (StandsIn s w.text z) (λ final site p q. ThisAt s final site n z p q)) ek f in
       subst (λ z. AsSeen a c token d z (expressions (map syntax_of es))) (sym is)
       (match_called b w (StandsIn s w.text (block_of s d)) (λ final site p q. ThisAt s final site n (block_of s d) p q) a c0 c token d es f' g)
+
+  pub see_named : (a c : DraftOf) (token : TokenNo) (d : DeclNo) (x : Seen) (es : List Expr) → x ≡ seen.Named → length es ≡ 0 → WritesName b w n a c token d → WritesSeen b w n a c token d x es
+  unfolding WritesSeen PutsSeen WritesName WritesUse
+  see_named a c token d x [] is none f = subst (λ z. AsSeen a c token d z NoMore) (sym is) f
+  see_named a c token d x (y ∷ ys) is none f = absurd (omega (arith, none))
+
+  pub see_not_named : (a c : DraftOf) (token : TokenNo) (d : DeclNo) (x : Seen) (es : List Expr) → x ≡ seen.Named → length es ≢ 0 → c ≡ given_up a → WritesSeen b w n a c token d x es
+  unfolding WritesSeen PutsSeen
+  see_not_named a c token d x [] is some' ec = absurd (some' refl)
+  see_not_named a c token d x (y ∷ ys) is some' ec = subst (λ z. AsSeen a c token d z (expressions (map syntax_of (y ∷ ys)))) (sym is) (emits_nothing w a c _ _ (λ z. z) ec)
 
   pub see_nothing : (a c : DraftOf) (token : TokenNo) (d : DeclNo) (x : Seen) (es : List Expr) → x ≡ seen.Nothing → c ≡ given_up a → WritesSeen b w n a c token d x es
   unfolding WritesSeen PutsSeen
@@ -426,4 +458,4 @@ module _ (b : Bound) (w : Spot) (n : ℕ) where
 
 pub ruleset links = (to_link, to_no_link, link_declared)
 
-pub ruleset sees = (see_call, see_plain_actual, see_copied_actual, see_text_actual, see_no_actual, see_kept_actual, see_unfitted, see_fitted, see_unlike, see_variable, see_no_variable, see_constant, see_no_constant, see_array, see_element, see_called, see_virtual, see_nothing, see_declared, see_standard, see_undeclared, through_declared, through_standard, through_undeclared, see_through, see_unconnected, see_giving, see_not_giving)
+pub ruleset sees = (see_call, see_plain_actual, see_copied_actual, see_text_actual, see_named_actual, see_no_actual, see_kept_actual, see_unfitted, see_fitted, see_unlike, see_variable, see_no_variable, see_constant, see_no_constant, see_array, see_element, see_called, see_virtual, see_named, see_not_named, see_nothing, see_declared, see_standard, see_undeclared, through_declared, through_standard, through_undeclared, see_through, see_unconnected, see_giving, see_not_giving)

@@ -250,9 +250,9 @@ module _ (b : Bound) (w : Spot) (n : ℕ) where
       let s = source_of b in
       let f' = subst (λ z. Emits w c0 c1 (IsBuilt s w.text (syntax_of a)) (λ final site p q. ExprAt s final site z (syntax_of a) p q)) em f in
       join_emits (sort_of (is_text s left) operator) (line_at s token.0) (λ f site. ExprAt s f site n left) (λ f site. ExprAt s f site n (syntax_of a)) (λ f site. ExprAt s f site (suc n) (syntax_of a)) (IsBuilt s w.text left) (IsBuilt s w.text (syntax_of a)) start c2 (sym ex ∙ ek ∙ ap sorted_of (sym st))
-      (emits_as w _ _ _ _ start c2 (λ t. (t.0, (t.1, tt))) (λ t. (t.0, t.1.0)) (λ final site p q _ _ r. record { x = r.0; y = r.2.0; temp = w.used; behind = r.2.2.0; within = r.2.2.1; left = r.1; right = r.2.1; room = r.2.2.2; joins = r.2.2.3 })
-      (emits_then w _ _ (λ z site. ExprAt s z site n left) (λ z site p q. (y : ℕ) × ExprAt s z site (suc n) (syntax_of a) p y × ((site.used ≤ w.used) × (suc (suc w.used) < site.size) × (suc (suc n) < site.room) × Stand z (line_at s token.0) (join_instrs (level_of s site.text) w.used) y q)) start c0 c2 l
-      (emits_then w _ _ (λ z site. ExprAt s z site (suc n) (syntax_of a)) (λ z site y q. (site.used ≤ w.used) × (suc (suc w.used) < site.size) × (suc (suc n) < site.room) × Stand z (line_at s token.0) (join_instrs (level_of s site.text) w.used) y q) c0 c1 c2 f' g)))
+      (emits_as w _ _ _ _ start c2 (λ t. (t.0, (t.1, tt))) (λ t. (t.0, t.1.0)) (λ final site p q _ _ r. record { x = r.0; y = r.2.0; within = r.2.2.0; left = r.1; right = r.2.1; room = r.2.2.1; joins = r.2.2.2 })
+      (emits_then w _ _ (λ z site. ExprAt s z site n left) (λ z site p q. (y : ℕ) × ExprAt s z site (suc n) (syntax_of a) p y × ((suc (suc site.temps) < site.size) × (suc (suc n) < site.room) × Stand z (line_at s token.0) (join_instrs (level_of s site.text) site.temps) y q)) start c0 c2 l
+      (emits_then w _ _ (λ z site. ExprAt s z site (suc n) (syntax_of a)) (λ z site y q. (suc (suc site.temps) < site.size) × (suc (suc n) < site.room) × Stand z (line_at s token.0) (join_instrs (level_of s site.text) site.temps) y q) c0 c1 c2 f' g)))
 
   -- further operands
   pub owes_all : (a : DraftOf) (ts : List Tail) → OwesTails b w n a ts a ts

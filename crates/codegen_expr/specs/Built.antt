@@ -1,4 +1,4 @@
--- Which expressions are built: all that speak of no parameter by name and of no formal procedure.
+-- Which expressions are built: all that speak of no array by name and of no formal procedure.
 use Rattle.std.specs.Prelude.{◌≡◌, ◌&&◌, ◌||◌, ⊤, ℕ, zero, suc, Bool, true, false, ◌==◌, if◌then◌else◌, List, [], ◌∷◌, length, Option, Some, None}
 use Rattle.sim_base.specs.declared.numbering.DeclNo.{DeclNo}
 use Rattle.sim_scope.specs.declared.scopes.Denotation.{Denotation}
@@ -23,7 +23,7 @@ use Rattle.sim_values.specs.Plain.{Plain, Integer, Truth, Character, Text}
 use Rattle.sim_code.specs.Simulations.{is_simulation_name}
 use Rattle.sim_code.specs.Running.{name_runs}
 use Rattle.sim_meaning.specs.Attributes.{class_made, cell_of_connection, connection_at, is_connection, own_attribute}
-use Rattle.sim_meaning.specs.Closing.{class_parameters, formals_at, is_attribute, is_variable, left_type, result_meant, stream_of}
+use Rattle.sim_meaning.specs.Closing.{class_parameters, formals_at, is_attribute, is_placed, is_variable, left_type, result_meant, stream_of}
 use Rattle.sim_meaning.specs.Constants.{text_constant}
 use Rattle.sim_meaning.specs.Levels.{class_at, qualification}
 use Rattle.sim_meaning.specs.Names.{procedure_named}
@@ -96,6 +96,7 @@ ArrayBuilt s text d NoMore Subscripts = CellBuilt s text d
 ArrayBuilt s text d (Then e es) Subscripts = CellBuilt s text d × Subscripts
 
 abbrev pub FormalBuilt : Source → (text : ℕ) → DeclNo → Mode → FormalKind → Expressions → (Subscripts : Type 0) → Type 0
+FormalBuilt s text d mode.ByName shape.Simple es Subscripts = VariableBuilt s text d es
 FormalBuilt s text d mode.ByName kind es Subscripts = ⊥
 FormalBuilt s text d mode shape.Simple es Subscripts = VariableBuilt s text d es
 FormalBuilt s text d mode shape.Array es Subscripts = ArrayBuilt s text d es Subscripts
@@ -246,6 +247,7 @@ ArrayPlaceBuilt s text d NoMore Subscripts = ⊥
 ArrayPlaceBuilt s text d (Then e es) Subscripts = CellBuilt s text d × Subscripts
 
 abbrev pub FormalPlaceBuilt : Source → (text : ℕ) → DeclNo → Mode → FormalKind → Expressions → (Subscripts : Type 0) → Type 0
+FormalPlaceBuilt s text d mode.ByName shape.Simple es Subscripts = VariableBuilt s text d es
 FormalPlaceBuilt s text d mode.ByName kind es Subscripts = ⊥
 FormalPlaceBuilt s text d mode shape.Simple es Subscripts = VariableBuilt s text d es
 FormalPlaceBuilt s text d mode shape.Array es Subscripts = ArrayPlaceBuilt s text d es Subscripts
@@ -282,12 +284,13 @@ DotBuilt s None stream is_variable es Place Value Operands Actuals = ⊥
 DotBuilt s (Some (denotation.Standard name)) stream is_variable es Place Value Operands Actuals = BehindDotBuilt stream (procedure_named name) is_variable es Place Value Operands
 DotBuilt s (Some (denotation.Declared d)) stream is_variable es Place Value Operands Actuals = OfObjectBuilt s d (entry_of s.tables d) es Value Operands (Actuals (formals_at s d))
 
--- an actual parameter: none by name, and no procedure
-abbrev pub ActualBuilt : Mode → FormalKind → Type 0
-ActualBuilt mode shape.Procedure = ⊥
-ActualBuilt mode.ByName kind = ⊥
-ActualBuilt mode.ByValue kind = ⊤
-ActualBuilt mode.ByReference kind = ⊤
+-- an actual parameter: no array by name, and no procedure; `Given` is what a thunk gives
+abbrev pub ActualBuilt : Mode → FormalKind → (Value Given : Type 0) → Type 0
+ActualBuilt mode shape.Procedure Value Given = ⊥
+ActualBuilt mode.ByName shape.Array Value Given = ⊥
+ActualBuilt mode.ByName shape.Simple Value Given = Given
+ActualBuilt mode.ByValue kind Value Given = Value
+ActualBuilt mode.ByReference kind Value Given = Value
 
 -- ---- expressions
 
@@ -337,7 +340,7 @@ abbrev mutual
   ActualsBuilt s text NoMore [] = ⊤
   ActualsBuilt s text NoMore (f ∷ fs) = ⊥
   ActualsBuilt s text (Then e es) [] = ⊥
-  ActualsBuilt s text (Then e es) (f ∷ fs) = IsBuilt s text e × ActualBuilt f.mode f.kind × ActualsBuilt s text es fs
+  ActualsBuilt s text (Then e es) (f ∷ fs) = ActualBuilt f.mode f.kind (IsBuilt s text e) (ObjectBuilt (is_placed s e) (PlaceBuilt s text e) (IsBuilt s text e)) × ActualsBuilt s text es fs
 
 -- where a reference lies, with its qualification
 abbrev pub PlaceOrResultBuilt : Source → (text : ℕ) → (own : Option ℕ) → (Place : Type 0) → Type 0

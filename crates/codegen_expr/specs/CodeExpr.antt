@@ -12,7 +12,7 @@ use Rattle.sim_scope.specs.declared.types.Mode.{Mode}
 use Rattle.sim_scope.specs.declared.types.Mode.TheVariants as mode
 use Rattle.sim_scope.specs.declared.types.SimType.{SimType}
 use Rattle.sim_scope.specs.Scopes.{entry_of}
-use Rattle.sim_scope.specs.Source.{Source, block_of, denoted, found_at, level_of, line_at}
+use Rattle.sim_scope.specs.Source.{Source, block_of, denoted, found_at, level_of, line_at, type_at}
 use Rattle.sim_tree.specs.declared.expr.Membership.{Membership}
 use Rattle.sim_tree.specs.declared.expr.Membership.TheVariants as membership
 use Rattle.sim_tree.specs.declared.expr.Sign.{Sign}
@@ -39,15 +39,15 @@ use Rattle.sim_code.specs.Names.{standard_names}
 use Rattle.sim_code.specs.Rows.{text_value}
 use Rattle.sim_code.specs.Simulations.{actual_count, is_simulation_name}
 use Rattle.sim_code.specs.Sets.{is_attribute_name, parameter_count}
-use Rattle.sim_meaning.specs.Attributes.{class_made, cell_of_connection, connection_at, is_connection, own_attribute, parameter_qualification}
-use Rattle.sim_meaning.specs.Closing.{has_type, Joining, Lazily, Negated, Plainly, Sort, class_parameters, formals_at, is_attribute, is_text, is_text_type, is_variable, left_type, result_meant, sort_of, stream_of, sysout}
+use Rattle.sim_meaning.specs.Attributes.{class_made, cell_of_connection, connection_at, is_connection, own_attribute}
+use Rattle.sim_meaning.specs.Closing.{by_name, class_of_formal, class_passed, has_type, is_placed, Joining, Lazily, Negated, Plainly, Sort, class_parameters, formals_at, is_attribute, is_text, is_text_type, is_variable, left_type, result_meant, sort_of, stream_of, sysout, typed_token}
 use Rattle.sim_meaning.specs.Constants.{constants_of, text_constant}
 use Rattle.sim_meaning.specs.Levels.{class_at, qualification}
 use Rattle.sim_meaning.specs.Names.{procedure_named}
-use Rattle.sim_meaning.specs.Pending.{Declared, Result}
+use Rattle.sim_meaning.specs.Pending.{Declared, ForPlace, ForValue, Result, Use}
 use Rattle.sim_meaning.specs.Statements.{has_value, standard_leaves}
 use Rattle.sim_meaning.specs.Texts.{constant_of, text}
-use Rattle.codegen_expr.specs.Sites.{At, HasCell, IfAt, Inside, Is, Pushes, Site, block_number, class_number, frame_text, slot_of}
+use Rattle.codegen_expr.specs.Sites.{Ahead, At, HasCell, IfAt, Inside, Is, Pushes, Site, block_number, class_number, frame_text, slot_of}
 
 -- ---- operators
 
@@ -101,8 +101,9 @@ abbrev pub Stand : CodeOf → (line : ℕ) → List Instr → ℕ → ℕ → Ty
 Stand code line [] p q = q ≡ p
 Stand code line (x ∷ xs) p q = (y : ℕ) × At code x line p y × Stand code line xs y q
 
--- What `&` does with both texts on the stack, in three temps of a level. 20 is `length`, 14 `blanks`, 27 `sub`. `==` tells that both are texts. The lengths are added; where that sum
--- and one is no integer, that is told first. Then there is a new text of both lengths, the left one is assigned to it, and the right one to its rest.
+-- What `&` does with both texts on the stack, in the three temps of expressions of a level. 20 is `length`, 14 `blanks`, 27 `sub`. `==` tells that both
+-- are texts. The lengths are added; where that sum and one is no integer, that is told first. Then there is a new text of both lengths, the left one is
+-- assigned to it, and the right one to its rest.
 abbrev pub joined_in : (level left right new : ℕ) → List Instr
 joined_in l a b c =
     i.Store (pos l) (pos b) ∷ i.Store (pos l) (pos a) ∷ i.Load (pos l) (pos a) ∷ i.Load (pos l) (pos b) ∷ i.SameT ∷ i.Pop ∷
@@ -118,13 +119,11 @@ join_instrs l t = joined_in l t (suc t) (suc (suc t))
 pub record JoinAt (s : Source) (code : CodeOf) (site : Site) (n line : ℕ) (A C : ℕ → ℕ → Type 0) (p q : ℕ) : Type 0 where
   pub x : ℕ
   pub y : ℕ
-  pub temp : ℕ
-  pub behind : site.used ≤ temp
-  pub within : suc (suc temp) < site.size
+  pub within : suc (suc site.temps) < site.size
   pub left : A p x
   pub right : C x y
   pub room : suc (suc n) < site.room
-  pub joins : Stand code line (join_instrs (level_of s site.text) temp) y q
+  pub joins : Stand code line (join_instrs (level_of s site.text) site.temps) y q
 
 -- A is the first operand on n values, B the second one on n values, and C the second one on one more
 abbrev pub TwoAt : Source → CodeOf → Site → ℕ → Sort → (line : ℕ) → (A B C : ℕ → ℕ → Type 0) → ℕ → ℕ → Type 0
@@ -183,7 +182,36 @@ abbrev pub ArrayAt : Source → CodeOf → Site → ℕ → (line : ℕ) → Dec
 ArrayAt s code site n line d NoMore Subscripts p q = CellAt s code site n d p q
 ArrayAt s code site n line d (Then e es) Subscripts p q = (x : ℕ) × ElementAt s code site n line 0 d (Then e es) Subscripts p x × Is code i.Fetch x q
 
+-- a use of a formal parameter by name, whose cell stands in a text around
+pub record UsedAt (s : Source) (code : CodeOf) (site : Site) (n line : ℕ) (d : DeclNo) (used : (level cell : ℤ) → Instr) (p q : ℕ) : Type 0 where
+  pub use_is : At code (used (pos (level_of s (block_of s d))) (pos (slot_of s code (block_of s d) (Declared d.0)))) line p q
+  pub fits : n < site.room
+  pub inside : Inside s.tables site.text (block_of s d)
+  pub within : HasCell s (block_of s d) (Declared d.0)
+
+abbrev pub class_or_none : Source → CodeOf → Option ℕ → ℕ
+class_or_none s code None = 0
+class_or_none s code (Some k) = class_number s code k
+
+abbrev pub truth_number : Bool → ℕ
+truth_number false = 0
+truth_number true = 1
+
+-- its value, held against its class; or where it lies, and whether its value is enough
+abbrev pub use_instr : Source → CodeOf → Use → (level cell : ℤ) → Instr
+use_instr s code (ForValue class line) l c = i.NameVal l c (pos (class_or_none s code class))
+use_instr s code (ForPlace value_too line) l c = i.NameAddr l c (pos (truth_number value_too))
+
+abbrev pub line_of_use : Use → ℕ
+line_of_use (ForValue class line) = line
+line_of_use (ForPlace value_too line) = line
+
+abbrev pub ByNameAt : Source → CodeOf → Site → ℕ → DeclNo → Expressions → Use → ℕ → ℕ → Type 0
+ByNameAt s code site n d NoMore wanted p q = UsedAt s code site n (line_of_use wanted) d (use_instr s code wanted) p q
+ByNameAt s code site n d (Then e es) wanted p q = ⊥
+
 abbrev pub FormalAt : Source → CodeOf → Site → ℕ → (line : ℕ) → DeclNo → Mode → FormalKind → Expressions → (Subscripts : ℕ → ℕ → Type 0) → ℕ → ℕ → Type 0
+FormalAt s code site n line d mode.ByName shape.Simple es Subscripts p q = ByNameAt s code site n d es (ForValue (class_of_formal s d) line) p q
 FormalAt s code site n line d mode.ByName kind es Subscripts p q = ⊥
 FormalAt s code site n line d mode shape.Simple es Subscripts p q = VariableAt s code site n d es p q
 FormalAt s code site n line d mode shape.Array es Subscripts p q = ArrayAt s code site n line d es Subscripts p q
@@ -483,6 +511,7 @@ ArrayPlaceAt s code site n line class d NoMore Subscripts p q = ⊥
 ArrayPlaceAt s code site n line class d (Then e es) Subscripts p q = ElementAt s code site n line class d (Then e es) Subscripts p q
 
 abbrev pub FormalPlaceAt : Source → CodeOf → Site → (n line class : ℕ) → DeclNo → Mode → FormalKind → Expressions → (Subscripts : ℕ → ℕ → Type 0) → ℕ → ℕ → Type 0
+FormalPlaceAt s code site n line class d mode.ByName shape.Simple es Subscripts p q = ByNameAt s code site n d es (ForPlace true line) p q
 FormalPlaceAt s code site n line class d mode.ByName kind es Subscripts p q = ⊥
 FormalPlaceAt s code site n line class d mode shape.Simple es Subscripts p q = VariablePlaceAt s code site n class d es p q
 FormalPlaceAt s code site n line class d mode shape.Array es Subscripts p q = ArrayPlaceAt s code site n line class d es Subscripts p q
@@ -504,7 +533,7 @@ abbrev pub StreamPlaceAt : CodeOf → Site → ℕ → (stream : Option ℕ) →
 StreamPlaceAt code site n None Other p q = Other p q
 StreamPlaceAt code site n (Some image) Other p q = Pushes code site n (i.AddrImg (pos image)) p q
 
--- An attribute that moves the position of a variable gets where that lies, any other the text itself.
+-- An attribute that moves the position of a variable gets where that lies, any other the text itself; and so does an actual parameter by name.
 abbrev pub ObjectAt : (place : Bool) → (Place Value : ℕ → ℕ → Type 0) → ℕ → ℕ → Type 0
 ObjectAt true Place Value p q = Place p q
 ObjectAt false Place Value p q = Value p q
@@ -527,35 +556,56 @@ DotAt s code site n line (Some (denotation.Declared d)) stream is_variable es Pl
 
 -- ---- actual parameters
 
--- an array and a text by value are copied; an array by reference of a class is kept
-abbrev pub ActualAt : CodeOf → Site → (n line : ℕ) → (keeps : Bool) → Mode → FormalKind → (text : Bool) → (A : ℕ → ℕ → Type 0) → ℕ → ℕ → Type 0
-ActualAt code site n line keeps mode.ByValue shape.Array text A p q = (x : ℕ) × A p x × At code i.CopyArr line x q
-ActualAt code site n line true mode.ByReference shape.Array text A p q = (x : ℕ) × A p x × Is code i.Keep x q
-ActualAt code site n line false mode.ByReference shape.Array text A p q = A p q
-ActualAt code site n line keeps mode.ByValue shape.Simple true A p q = (x : ℕ) × A p x × StandardIs code site n line name_of.Copy 1 x q
-ActualAt code site n line keeps mode.ByValue shape.Simple false A p q = A p q
-ActualAt code site n line keeps mode.ByReference shape.Simple text A p q = A p q
-ActualAt code site n line keeps mode shape.Procedure text A p q = ⊥
-ActualAt code site n line keeps mode.ByName kind text A p q = ⊥
-
--- A reference for a formal parameter with a class: it is put into a temp behind those in use, and so held against the class.
-pub record FitsAt (s : Source) (code : CodeOf) (site : Site) (n line class : ℕ) (A : ℕ → ℕ → Type 0) (p q : ℕ) : Type 0 where
+-- An actual parameter by name: its code, which is gone past, with an operand stack of its own; and then its thunk is pushed.
+pub record ThunkAt (code : CodeOf) (site : Site) (n : ℕ) (Given : Site → ℕ → ℕ → Type 0) (p q : ℕ) : Type 0 where
   pub x : ℕ
   pub y : ℕ
   pub z : ℕ
-  pub w : ℕ
-  pub temp : ℕ
-  pub behind : site.used ≤ temp
-  pub within : temp < site.size
-  pub actual : A p x
-  pub address : Pushes code site (suc n) (i.Addr (pos (level_of s site.text)) (pos temp) (pos class)) x y
-  pub under : Is code i.Swap y z
-  pub put : At code i.Put line z w
-  pub again : Pushes code site n (i.Load (pos (level_of s site.text)) (pos temp)) w q
+  pub number : ℕ
+  pub room : ℕ
+  pub over : Is code (i.Jump (pos z)) p x
+  pub past : Ahead code p z
+  pub there : slice_get code.thunks number ≡ Some (record { entry = x; room = room })
+  pub given : Given (record site { room = room }) x y
+  pub end : Is code i.EndThunk y z
+  pub thunk : Pushes code site n (i.Thunk (pos number)) z q
 
+-- An array and a text by value are copied; an array by reference of a class is kept. `Given` is what a thunk does.
+abbrev pub ActualAt : CodeOf → Site → (n line : ℕ) → (keeps : Bool) → Mode → FormalKind → (text : Bool) → (A : ℕ → ℕ → Type 0) → (Given : Site → ℕ → ℕ → Type 0) → ℕ → ℕ → Type 0
+ActualAt code site n line keeps mode.ByValue shape.Array text A Given p q = (x : ℕ) × A p x × At code i.CopyArr line x q
+ActualAt code site n line true mode.ByReference shape.Array text A Given p q = (x : ℕ) × A p x × Is code i.Keep x q
+ActualAt code site n line false mode.ByReference shape.Array text A Given p q = A p q
+ActualAt code site n line keeps mode.ByValue shape.Simple true A Given p q = (x : ℕ) × A p x × StandardIs code site n line name_of.Copy 1 x q
+ActualAt code site n line keeps mode.ByValue shape.Simple false A Given p q = A p q
+ActualAt code site n line keeps mode.ByReference shape.Simple text A Given p q = A p q
+ActualAt code site n line keeps mode.ByName shape.Simple text A Given p q = ThunkAt code site n Given p q
+ActualAt code site n line keeps mode.ByName kind text A Given p q = ⊥
+ActualAt code site n line keeps mode shape.Procedure text A Given p q = ⊥
+
+-- What a thunk gives: where a variable lies, or the value of any other expression. The class of a reference there is tested, but not that of a
+-- formal parameter by name, which is handed on as it is.
+abbrev pub class_unless : Source → CodeOf → Option DeclNo → (class : Option ℕ) → ℕ
+class_unless s code (Some d) class = 0
+class_unless s code None class = class_or_none s code class
+
+abbrev pub class_given : Source → CodeOf → Expression → ℕ
+class_given s code e = class_unless s code (by_name s e) (qualification s (type_at s (typed_token e)))
+
+-- The reference on top of n values is put into a temp of expressions, and so held against a class.
+pub record HeldAt (s : Source) (code : CodeOf) (site : Site) (n line class p q : ℕ) : Type 0 where
+  pub x : ℕ
+  pub y : ℕ
+  pub z : ℕ
+  pub within : site.temps < site.size
+  pub address : Pushes code site (suc n) (i.Addr (pos (level_of s site.text)) (pos site.temps) (pos class)) p x
+  pub under : Is code i.Swap x y
+  pub put : At code i.Put line y z
+  pub again : Pushes code site n (i.Load (pos (level_of s site.text)) (pos site.temps)) z q
+
+-- a reference for a formal parameter with a class
 abbrev pub FittingAt : Source → CodeOf → Site → (n line : ℕ) → (class : Option ℕ) → (A : ℕ → ℕ → Type 0) → ℕ → ℕ → Type 0
 FittingAt s code site n line None A p q = A p q
-FittingAt s code site n line (Some k) A p q = FitsAt s code site n line (class_number s code k) A p q
+FittingAt s code site n line (Some k) A p q = (x : ℕ) × A p x × HeldAt s code site n line (class_number s code k) x q
 
 -- ---- expressions
 
@@ -604,7 +654,8 @@ abbrev mutual
   ActualsAt s code site n line keeps NoMore (f ∷ fs) p q = ⊥
   ActualsAt s code site n line keeps (Then e es) [] p q = ⊥
   ActualsAt s code site n line keeps (Then e es) (f ∷ fs) p q =
-      (x : ℕ) × FittingAt s code site n line (parameter_qualification s f.kind f.ty) (ActualAt code site n line keeps f.mode f.kind (is_text_type f.ty) (ExprAt s code site n e)) p x × ActualsAt s code site (suc n) line keeps es fs x q
+      (x : ℕ) × FittingAt s code site n line (class_passed s f) (ActualAt code site n line keeps f.mode f.kind (is_text_type f.ty) (ExprAt s code site n e)
+      (λ inner. ObjectAt (is_placed s e) (PlaceAt s code inner 0 (class_given s code e) e) (ExprAt s code inner 0 e))) p x × ActualsAt s code site (suc n) line keeps es fs x q
 
 -- ---- where a reference lies, with its qualification
 

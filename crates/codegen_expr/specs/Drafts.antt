@@ -6,6 +6,7 @@ use Rattle.sim_code.specs.declared.instr.Lined.{Lined}
 use Rattle.sim_code.specs.Code.{CodeOf}
 use Rattle.sim_code.specs.Running.{AllRun}
 use Rattle.sim_code.specs.declared.code.CodeType.{CodeType}
+use Rattle.sim_code.specs.declared.code.ThunkRecord.{ThunkRecord}
 use Rattle.sim_code.specs.Code as code
 use Rattle.sim_scope.specs.Source.{Source}
 use Rattle.codegen_expr.specs.declared.spot.Spot.{Spot}
@@ -20,41 +21,55 @@ pub record PlannedOf : Type 0 where
   pub types : List CodeType
 
 -- What is written so far: the instructions, the room on the operand stack that is enough for them, how many cells and temps are enough, and
--- whether all that was to be written is written. Where a form is not built, it is not. And for each block of the code what is planned of it.
+-- whether all that was to be written is written. Where a form is not built, it is not. And for each block of the code what is planned of it. And
+-- the thunks so far, of which one has room for no value as long as its code is being written.
 pub record DraftOf : Type 0 where
   pub instrs : List Lined
   pub room : ℕ
   pub size : ℕ
   pub whole : Bool
   pub classes : List PlannedOf
+  pub thunks : List ThunkRecord
 
 -- one more instruction
 unfoldable pub with_instr : DraftOf → Instr → (line : ℕ) → DraftOf
-with_instr c x line = record { instrs = c.instrs ++ (lined x line ∷ []); room = c.room; size = c.size; whole = c.whole; classes = c.classes }
+with_instr c x line = record { instrs = c.instrs ++ (lined x line ∷ []); room = c.room; size = c.size; whole = c.whole; classes = c.classes; thunks = c.thunks }
 
 -- one more instruction, which may push a value on n others
 unfoldable pub with_push : DraftOf → (n : ℕ) → Instr → (line : ℕ) → DraftOf
-with_push c n x line = record { instrs = c.instrs ++ (lined x line ∷ []); room = max c.room (suc n); size = c.size; whole = c.whole; classes = c.classes }
+with_push c n x line = record { instrs = c.instrs ++ (lined x line ∷ []); room = max c.room (suc n); size = c.size; whole = c.whole; classes = c.classes; thunks = c.thunks }
 
 -- the operand stack has room for a value on n others
 unfoldable pub with_room : DraftOf → (n : ℕ) → DraftOf
-with_room c n = record { instrs = c.instrs; room = max c.room (suc n); size = c.size; whole = c.whole; classes = c.classes }
+with_room c n = record { instrs = c.instrs; room = max c.room (suc n); size = c.size; whole = c.whole; classes = c.classes; thunks = c.thunks }
 
 -- the frame has a temp of this number
 unfoldable pub with_temp : DraftOf → (temp : ℕ) → DraftOf
-with_temp c temp = record { instrs = c.instrs; room = c.room; size = max c.size (suc temp); whole = c.whole; classes = c.classes }
+with_temp c temp = record { instrs = c.instrs; room = c.room; size = max c.size (suc temp); whole = c.whole; classes = c.classes; thunks = c.thunks }
 
 -- a hole, in which an instruction is still to be written: a jump whose target is not known yet
 unfoldable pub with_hole : DraftOf → DraftOf
-with_hole c = record { instrs = c.instrs ++ (lined i.Halt 0 ∷ []); room = c.room; size = c.size; whole = c.whole; classes = c.classes }
+with_hole c = record { instrs = c.instrs ++ (lined i.Halt 0 ∷ []); room = c.room; size = c.size; whole = c.whole; classes = c.classes; thunks = c.thunks }
 
 -- an instruction in the place of a hole
 unfoldable pub filled_in : DraftOf → (place : ℕ) → Instr → DraftOf
-filled_in c k x = record { instrs = slice_set c.instrs k (lined x 0); room = c.room; size = c.size; whole = c.whole; classes = c.classes }
+filled_in c k x = record { instrs = slice_set c.instrs k (lined x 0); room = c.room; size = c.size; whole = c.whole; classes = c.classes; thunks = c.thunks }
+
+-- A thunk begins here. Its operand stack has room for what it gives.
+unfoldable pub thunk_begun : DraftOf → DraftOf
+thunk_begun c = record { instrs = c.instrs; room = 1; size = c.size; whole = c.whole; classes = c.classes; thunks = c.thunks ++ (record { entry = length c.instrs; room = 0 } ∷ []) }
+
+abbrev pub with_room_of : Option ThunkRecord → List ThunkRecord → (number room : ℕ) → List ThunkRecord
+with_room_of None ts t n = ts
+with_room_of (Some x) ts t n = slice_set ts t (record { entry = x.entry; room = n })
+
+-- the code of a thunk is written, outside of which this room was enough
+unfoldable pub thunk_ended : DraftOf → (number outside : ℕ) → DraftOf
+thunk_ended c t n = record { instrs = c.instrs; room = n; size = c.size; whole = c.whole; classes = c.classes; thunks = with_room_of (slice_get c.thunks t) c.thunks t c.room }
 
 -- something is not built
 unfoldable pub given_up : DraftOf → DraftOf
-given_up c = record { instrs = c.instrs; room = c.room; size = c.size; whole = false; classes = c.classes }
+given_up c = record { instrs = c.instrs; room = c.room; size = c.size; whole = false; classes = c.classes; thunks = c.thunks }
 
 abbrev pub planned_or_none : Option PlannedOf → PlannedOf
 planned_or_none None = record { class = 0; cells = 0; room = 0; types = [] }
@@ -90,15 +105,26 @@ planned_start s xs k = length (planned_front s xs k).types
 pub record Grows (code final : List Lined) : Type 0 where
   pub keeps : (k : ℕ) (x : Lined) → slice_get code k ≡ Some x → x.instr ≢ i.Halt → slice_get final k ≡ Some x
 
+-- a list of thunks, and a longer one that begins with it
+pub record Longer (thunks longer : List ThunkRecord) : Type 0 where
+  pub more : List ThunkRecord
+  pub front : longer ≡ thunks ++ more
+
+-- a later list of thunks keeps each one whose code is written
+pub record ThunksGrow (thunks final : List ThunkRecord) : Type 0 where
+  pub keeps : (k : ℕ) (x : ThunkRecord) → slice_get thunks k ≡ Some x → x.room ≢ 0 → slice_get final k ≡ Some x
+
 -- a code that a draft becomes in the end, for a spot: it keeps what is written, the operand stack has the room and the frame the size, and
--- another instruction follows; and its blocks are as planned
+-- another instruction follows; its thunks are kept; and its blocks are as planned
 pub record Becomes (spot : Spot) (c : DraftOf) (final : CodeOf) (site : Site) : Type 0 where
   pub grows : Grows c.instrs final.instrs
   pub roomy : c.room ≤ site.room
   pub sized : c.size ≤ site.size
   pub stands : site.text ≡ spot.text
+  pub temps : site.temps ≡ spot.temps
   pub taken : site.used ≡ spot.used
   pub follows : length c.instrs < length final.instrs
+  pub thunked : ThunksGrow c.thunks final.thunks
   pub classed : (block : ℕ) → planned_in (slice_get final.blocks block) ≡ planned_at c.classes block
 
 -- Behind old there is new. The draft stays whole just where all that is meant is built; and if it is whole, then whatever the code is in the
@@ -106,6 +132,7 @@ pub record Becomes (spot : Spot) (c : DraftOf) (final : CodeOf) (site : Site) : 
 pub record Emits (spot : Spot) (old new : DraftOf) (Built : Type 0) (Here : CodeOf → Site → ℕ → ℕ → Type 0) : Type 0 where
   pub rest : List Lined
   pub front : new.instrs ≡ old.instrs ++ rest
+  pub thunked : Longer old.thunks new.thunks
   pub roomier : old.room ≤ new.room
   pub larger : old.size ≤ new.size
   pub classed : new.classes ≡ old.classes

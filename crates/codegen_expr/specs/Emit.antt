@@ -31,11 +31,12 @@ use Rattle.sim_code.specs.declared.instr.Instr.TheVariants as i
 use Rattle.sim_code.specs.Code.{CodeOf}
 use Rattle.sim_code.specs.Names.{standard_names}
 use Rattle.sim_code.specs.Running.{name_runs, runs}
-use Rattle.sim_meaning.specs.Attributes.{connection_at, own_attribute, parameter_qualification}
-use Rattle.sim_meaning.specs.Closing.{Joining, Lazily, Negated, Plainly, Sort, formals_at, formals_from, is_attribute, is_attribute_denoted, is_image_denoted, is_text, is_text_type, is_variable, sort_of, stream_of}
+use Rattle.sim_meaning.specs.Attributes.{connection_at, own_attribute}
+use Rattle.sim_meaning.specs.Closing.{Joining, Lazily, Negated, Plainly, Sort, class_of_formal, class_passed, formals_at, formals_from, is_attribute, is_attribute_denoted, is_image_denoted, is_placed, is_text, is_text_type, is_variable, sort_of, stream_of}
 use Rattle.sim_meaning.specs.Constants.{text_constant}
 use Rattle.sim_meaning.specs.Constants.{text_constant}
 use Rattle.sim_meaning.specs.Names.{procedure_named}
+use Rattle.sim_meaning.specs.Pending.{ForPlace, ForValue, Use}
 use Rattle.sim_meaning.specs.Texts.{constant_of}
 use Rattle.codegen_expr.specs.declared.names.OnImage.{OnImage}
 use Rattle.codegen_expr.specs.declared.names.OnImage.TheVariants as image
@@ -49,8 +50,8 @@ use Rattle.codegen_expr.specs.declared.operators.Seen.TheVariants as seen
 use Rattle.codegen_expr.specs.declared.operators.Sorted.{Sorted}
 use Rattle.codegen_expr.specs.declared.operators.Sorted.TheVariants as sorted
 use Rattle.codegen_expr.specs.declared.spot.Spot.{Spot}
-use Rattle.codegen_expr.specs.Built.{ActualBuilt, ActualsBuilt, AreBuilt, ArrayBuilt, ArrayPlaceBuilt, CallBuilt, CellBuilt, ConnectedNameBuilt, ConstantBuilt, DotBuilt, IsBuilt, NameBuilt, NamedBuilt, NamedPlaceBuilt, OfObjectBuilt, OwnBuilt, OwnNameBuilt, PlaceBuilt, PlainBuilt, StandardBuilt, StandsIn, ThisFoundBuilt, ThroughBuilt, VariableBuilt}
-use Rattle.codegen_expr.specs.CodeExpr.{ActualAt, ActualsAt, ArrayAt, ArrayPlaceAt, CallAt, CellAt, CellPlaceAt, ConnectedNameAt, ConstantAt, DotAt, ElementAt, ExprAt, ExprsAt, FittingAt, GivenAt, IsConstant, NamedAt, NamedPlaceAt, OfObjectAt, OwnAt, OwnNameAt, PlaceAt, Stand, StandardAt, StandardIs, ThisAt, ThisFoundAt, ThroughAt, VariableAt, VariablePlaceAt, VirtualAt, join_instrs, operands, two_instr}
+use Rattle.codegen_expr.specs.Built.{ActualBuilt, ActualsBuilt, AreBuilt, ArrayBuilt, ArrayPlaceBuilt, CallBuilt, CellBuilt, ConnectedNameBuilt, ConstantBuilt, DotBuilt, IsBuilt, NameBuilt, NamedBuilt, NamedPlaceBuilt, ObjectBuilt, OfObjectBuilt, OwnBuilt, OwnNameBuilt, PlaceBuilt, PlainBuilt, StandardBuilt, StandsIn, ThisFoundBuilt, ThroughBuilt, VariableBuilt}
+use Rattle.codegen_expr.specs.CodeExpr.{ActualAt, ActualsAt, ArrayAt, ArrayPlaceAt, ByNameAt, CallAt, CellAt, CellPlaceAt, ConnectedNameAt, ConstantAt, DotAt, ElementAt, ExprAt, ExprsAt, FittingAt, GivenAt, IsConstant, NamedAt, NamedPlaceAt, ObjectAt, OfObjectAt, OwnAt, OwnNameAt, PlaceAt, Stand, StandardAt, StandardIs, ThisAt, ThisFoundAt, ThroughAt, ThunkAt, VariableAt, VariablePlaceAt, VirtualAt, class_given, join_instrs, operands, two_instr}
 use Rattle.codegen_expr.specs.Drafts.{DraftOf, Emits}
 use Rattle.codegen_expr.specs.Sites.{Inside, Pushes, Site}
 
@@ -81,6 +82,7 @@ formals_of_block s block = formals_from s (formals_in (slice_get s.tables.blocks
 
 -- what a declared identifier is seen as
 abbrev pub seen_formal : Mode → FormalKind → Seen
+seen_formal mode.ByName shape.Simple = seen.Named
 seen_formal mode.ByName kind = seen.Nothing
 seen_formal mode shape.Simple = seen.Variable
 seen_formal mode shape.Array = seen.Array
@@ -101,6 +103,7 @@ SeenBuilt s text d seen.Array es Operands Actuals = ArrayBuilt s text d es Opera
 SeenBuilt s text d seen.Constant es Operands Actuals = ConstantBuilt (constant_of s d) es
 SeenBuilt s text d (seen.Call block) es Operands Actuals = CallBuilt s text d (Actuals (formals_of_block s block))
 SeenBuilt s text d seen.Virtual es Operands Actuals = StandsIn s text (block_of s d)
+SeenBuilt s text d seen.Named es Operands Actuals = VariableBuilt s text d es
 SeenBuilt s text d seen.Nothing es Operands Actuals = ⊥
 
 abbrev pub SeenAt : Source → CodeOf → Site → ℕ → (line : ℕ) → DeclNo → Seen → Expressions → (Operands : ℕ → ℕ → Type 0) → (Actuals : List Formal → ℕ → ℕ → Type 0) → ℕ → ℕ → Type 0
@@ -109,6 +112,7 @@ SeenAt s code site n line d seen.Array es Operands Actuals p q = ArrayAt s code 
 SeenAt s code site n line d seen.Constant es Operands Actuals p q = ConstantAt s code site n (constant_of s d) es p q
 SeenAt s code site n line d (seen.Call block) es Operands Actuals p q = CallAt s code site n line d block es (Actuals (formals_of_block s block)) p q
 SeenAt s code site n line d seen.Virtual es Operands Actuals p q = VirtualAt code line d.0 es (ThisAt s code site n (block_of s d)) p q
+SeenAt s code site n line d seen.Named es Operands Actuals p q = ByNameAt s code site n d es (ForValue (class_of_formal s d) line) p q
 SeenAt s code site n line d seen.Nothing es Operands Actuals p q = ⊥
 
 -- what an attribute of an object is seen as
@@ -134,8 +138,9 @@ passed_of false mode.ByReference shape.Array text = passed.Plain
 passed_of keeps mode.ByValue shape.Simple true = passed.CopiedText
 passed_of keeps mode.ByValue shape.Simple false = passed.Plain
 passed_of keeps mode.ByReference shape.Simple text = passed.Plain
-passed_of keeps mode shape.Procedure text = passed.Other
+passed_of keeps mode.ByName shape.Simple text = passed.Named
 passed_of keeps mode.ByName kind text = passed.Other
+passed_of keeps mode shape.Procedure text = passed.Other
 
 -- what code has of a standard name that is done by itself: its number, and how many operands it takes
 pub record NumberedIs (name : Standard) (row : StandardCode) : Type 0 where
@@ -347,11 +352,13 @@ WritesUnconnectedPlace b w n old new class x ys =
 abbrev pub SeenPlaceBuilt : Source → (text : ℕ) → DeclNo → Seen → Expressions → (Subscripts : Type 0) → Type 0
 SeenPlaceBuilt s text d seen.Variable es Subscripts = VariableBuilt s text d es
 SeenPlaceBuilt s text d seen.Array es Subscripts = ArrayPlaceBuilt s text d es Subscripts
+SeenPlaceBuilt s text d seen.Named es Subscripts = VariableBuilt s text d es
 SeenPlaceBuilt s text d _ es Subscripts = ⊥
 
 abbrev pub SeenPlaceAt : Source → CodeOf → Site → (n line class : ℕ) → DeclNo → Seen → Expressions → (Subscripts : ℕ → ℕ → Type 0) → ℕ → ℕ → Type 0
 SeenPlaceAt s code site n line class d seen.Variable es Subscripts p q = VariablePlaceAt s code site n class d es p q
 SeenPlaceAt s code site n line class d seen.Array es Subscripts p q = ArrayPlaceAt s code site n line class d es Subscripts p q
+SeenPlaceAt s code site n line class d seen.Named es Subscripts p q = ByNameAt s code site n d es (ForPlace true line) p q
 SeenPlaceAt s code site n line class d _ es Subscripts p q = ⊥
 
 unfoldable pub WritesSeenPlace : Bound → Spot → (n : ℕ) → (old new : DraftOf) → (class : ℕ) → TokenNo → DeclNo → Seen → List Expr → Type 0
@@ -487,7 +494,7 @@ WritesAll w old new xs line = all_fit xs ≡ true → Emits w old new ⊤ (λ fi
 -- what joins two texts
 unfoldable pub WritesJoin : Bound → Spot → (n : ℕ) → (old new : DraftOf) → TokenNo → Type 0
 WritesJoin b w n old new token =
-    Emits w old new ⊤ (λ final site p q. (site.used ≤ w.used) × (suc (suc w.used) < site.size) × (suc (suc n) < site.room) × Stand final (line_at (source_of b) token.0) (join_instrs (level_of (source_of b) site.text) w.used) p q)
+    Emits w old new ⊤ (λ final site p q. (suc (suc site.temps) < site.size) × (suc (suc n) < site.room) × Stand final (line_at (source_of b) token.0) (join_instrs (level_of (source_of b) site.text) site.temps) p q)
 
 -- a declared identifier with its operands, as it is seen; the token is that of the identifier
 unfoldable pub WritesSeen : Bound → Spot → (n : ℕ) → (old new : DraftOf) → TokenNo → DeclNo → Seen → List Expr → Type 0
@@ -510,18 +517,46 @@ unfoldable pub WritesTextAt : Bound → Spot → (n : ℕ) → (old new : DraftO
 WritesTextAt b w n old new token =
     Emits w old new (ConstantBuilt (text_constant (source_of b) token.0) NoMore) (λ final site p q. GivenAt (source_of b) final site n (text_constant (source_of b) token.0) p q)
 
+-- ---- parameters by name
+
+-- what a thunk gives
+abbrev pub GivenBuilt : Source → (text : ℕ) → Expression → Type 0
+GivenBuilt s text e = ObjectBuilt (is_placed s e) (PlaceBuilt s text e) (IsBuilt s text e)
+
+abbrev pub ThunkGivesAt : Source → CodeOf → Site → Expression → ℕ → ℕ → Type 0
+ThunkGivesAt s code site e p q = ObjectAt (is_placed s e) (PlaceAt s code site 0 (class_given s code e) e) (ExprAt s code site 0 e) p q
+
+unfoldable pub WritesGiven : Bound → Spot → (old new : DraftOf) → Expr → Type 0
+WritesGiven b w old new e = Emits w old new (GivenBuilt (source_of b) w.text (syntax_of e)) (λ final site p q. ThunkGivesAt (source_of b) final site (syntax_of e) p q)
+
+-- an actual parameter by name
+unfoldable pub WritesThunk : Bound → Spot → (n : ℕ) → (old new : DraftOf) → Expr → Type 0
+WritesThunk b w n old new e =
+    Emits w old new (GivenBuilt (source_of b) w.text (syntax_of e)) (λ final site p q. ThunkAt final site n (λ inner x y. ThunkGivesAt (source_of b) final inner (syntax_of e) x y) p q)
+
+-- a use of a formal parameter by name: its value; or where it lies, with the line of its token
+unfoldable pub WritesUse : Bound → Spot → (n : ℕ) → (old new : DraftOf) → DeclNo → Use → Type 0
+WritesUse b w n old new d wanted = Emits w old new (CellBuilt (source_of b) w.text d) (λ final site p q. ByNameAt (source_of b) final site n d NoMore wanted p q)
+
+unfoldable pub WritesName : Bound → Spot → (n : ℕ) → (old new : DraftOf) → TokenNo → DeclNo → Type 0
+WritesName b w n old new token d = WritesUse b w n old new d (ForValue (class_of_formal (source_of b) d) (line_at (source_of b) token.0))
+
+unfoldable pub WritesNamePlace : Bound → Spot → (n : ℕ) → (old new : DraftOf) → (value_too : Bool) → TokenNo → DeclNo → Type 0
+WritesNamePlace b w n old new value_too token d = WritesUse b w n old new d (ForPlace value_too (line_at (source_of b) token.0))
+
 -- an actual parameter for this formal, as it is passed
 unfoldable pub WritesPassed : Bound → Spot → (n : ℕ) → (old new : DraftOf) → (keeps : Bool) → TokenNo → Expr → Formal → Type 0
 WritesPassed b w n old new keeps token e f =
-    Emits w old new (IsBuilt (source_of b) w.text (syntax_of e) × ActualBuilt f.mode f.kind)
-    (λ final site p q. ActualAt final site n (line_at (source_of b) token.0) keeps f.mode f.kind (is_text_type f.ty) (λ x y. ExprAt (source_of b) final site n (syntax_of e) x y) p q)
+    let s = source_of b in
+    Emits w old new (ActualBuilt f.mode f.kind (IsBuilt s w.text (syntax_of e)) (GivenBuilt s w.text (syntax_of e)))
+    (λ final site p q. ActualAt final site n (line_at s token.0) keeps f.mode f.kind (is_text_type f.ty) (λ x y. ExprAt s final site n (syntax_of e) x y) (λ inner x y. ThunkGivesAt s final inner (syntax_of e) x y) p q)
 
 -- and held against the qualification of the formal
 unfoldable pub WritesActual : Bound → Spot → (n : ℕ) → (old new : DraftOf) → (keeps : Bool) → TokenNo → Expr → Formal → Type 0
 WritesActual b w n old new keeps token e f =
     let s = source_of b in
-    Emits w old new (IsBuilt s w.text (syntax_of e) × ActualBuilt f.mode f.kind)
-    (λ final site p q. FittingAt s final site n (line_at s token.0) (parameter_qualification s f.kind f.ty) (λ u v. ActualAt final site n (line_at s token.0) keeps f.mode f.kind (is_text_type f.ty) (λ x y. ExprAt s final site n (syntax_of e) x y) u v) p q)
+    Emits w old new (ActualBuilt f.mode f.kind (IsBuilt s w.text (syntax_of e)) (GivenBuilt s w.text (syntax_of e)))
+    (λ final site p q. FittingAt s final site n (line_at s token.0) (class_passed s f) (λ u v. ActualAt final site n (line_at s token.0) keeps f.mode f.kind (is_text_type f.ty) (λ x y. ExprAt s final site n (syntax_of e) x y) (λ inner x y. ThunkGivesAt s final inner (syntax_of e) x y) u v) p q)
 
 -- in a loop: what is written of the rest is written of the whole
 unfoldable pub OwesList : Bound → Spot → (n : ℕ) → (old : DraftOf) → List Expr → (m : ℕ) → (now : DraftOf) → List Expr → Type 0

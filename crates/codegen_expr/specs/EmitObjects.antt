@@ -21,7 +21,7 @@ use Rattle.codegen_expr.specs.declared.operators.Seen.{Seen}
 use Rattle.codegen_expr.specs.declared.operators.Seen.TheVariants as seen
 use Rattle.codegen_expr.specs.declared.spot.Spot.{Spot}
 use Rattle.codegen_expr.specs.Built.{ActualsBuilt, AreBuilt, ArrayOfBuilt, ArrayPlaceOfBuilt, ClassBuilt, ConnectedBuilt, ConstantOfBuilt, GenerationBuilt, HasBuilt, IsBuilt, OfObjectBuilt, PlaceBehindBuilt, PlaceOfObjectBuilt, StandsIn, ThisFoundBuilt, VariableOfBuilt}
-use Rattle.codegen_expr.specs.CodeExpr.{ActualsAt, ArrayOfAt, ArrayPlaceOfAt, AttributePlaceAt, ConnectedAt, ConstantAttributeAt, ElementOfAt, ExprAt, ExprsAt, GenerationAt, MemberAt, NewAt, OfObjectAt, PlaceBehindAt, PlaceOfObjectAt, QuaAt, RemoteCallAt, ThisAt, ThisFoundAt, VariableOfAt, VariablePlaceOfAt, VirtualAt}
+use Rattle.codegen_expr.specs.CodeExpr.{ActualsAt, ArrayOfAt, ArrayPlaceOfAt, AttributePlaceAt, ConnectedAt, ConstantAttributeAt, ElementOfAt, ExprAt, ExprsAt, GenerationAt, HeldAt, MemberAt, NewAt, OfObjectAt, PlaceBehindAt, PlaceOfObjectAt, QuaAt, RemoteCallAt, ThisAt, ThisFoundAt, VariableOfAt, VariablePlaceOfAt, VirtualAt}
 use Rattle.codegen_expr.specs.Drafts.{DraftOf, Emits}
 use Rattle.codegen_expr.specs.Emit.{Puts, formals_of_block}
 use Rattle.codegen_expr.specs.Sites.{At, Is, Pushes, Site, class_number}
@@ -89,6 +89,7 @@ SeenOfBuilt s d seen.Constant es Object Operands Actuals = ConstantOfBuilt s d e
 SeenOfBuilt s d seen.Array es Object Operands Actuals = ArrayOfBuilt s d Object Operands
 SeenOfBuilt s d (seen.Call block) es Object Operands Actuals = Object × Actuals (formals_of_block s block)
 SeenOfBuilt s d seen.Virtual es Object Operands Actuals = Object
+SeenOfBuilt s d seen.Named es Object Operands Actuals = ⊥
 SeenOfBuilt s d seen.Nothing es Object Operands Actuals = ⊥
 
 abbrev pub SeenOfAt : Source → CodeOf → Site → ℕ → (line : ℕ) → DeclNo → Seen → Expressions → (Object Inner : ℕ → ℕ → Type 0) → (Actuals : List Formal → ℕ → ℕ → Type 0) → ℕ → ℕ → Type 0
@@ -97,6 +98,7 @@ SeenOfAt s code site n line d seen.Constant es Object Inner Actuals p q = Consta
 SeenOfAt s code site n line d seen.Array es Object Inner Actuals p q = ArrayOfAt s code line d es Object Inner p q
 SeenOfAt s code site n line d (seen.Call block) es Object Inner Actuals p q = RemoteCallAt s code line block es Object (Actuals (formals_of_block s block)) p q
 SeenOfAt s code site n line d seen.Virtual es Object Inner Actuals p q = VirtualAt code line d.0 es Object p q
+SeenOfAt s code site n line d seen.Named es Object Inner Actuals p q = ⊥
 SeenOfAt s code site n line d seen.Nothing es Object Inner Actuals p q = ⊥
 
 unfoldable pub WritesSeenOf : Bound → Spot → (n : ℕ) → (old new : DraftOf) → TokenNo → DeclNo → Seen → List Expr → Type 0
@@ -172,8 +174,7 @@ WritesQua b w n old new token class =
 unfoldable pub WritesFit : Bound → Spot → (n : ℕ) → (old new : DraftOf) → TokenNo → (class : ℕ) → Type 0
 WritesFit b w n old new token k =
     let s = source_of b in
-    Emits w old new ⊤ (λ final site p q. (site.used ≤ w.used) × (w.used < site.size) × (y : ℕ) × (z : ℕ) × (v : ℕ)
-    × Pushes final site (suc n) (i.Addr (pos (level_of s site.text)) (pos w.used) (pos (class_number s final k))) p y × Is final i.Swap y z × At final i.Put (line_at s token.0) z v × Pushes final site n (i.Load (pos (level_of s site.text)) (pos w.used)) v q)
+    Emits w old new ⊤ (λ final site p q. HeldAt s final site n (line_at s token.0) (class_number s final k) p q)
 
 -- `new` of the class with this text, which is declared so; the token is that of the word
 unfoldable pub WritesGeneration : Bound → Spot → (n : ℕ) → (old new : DraftOf) → TokenNo → Identifier → DeclNo → (class : ℕ) → List Expr → Type 0

@@ -1,6 +1,7 @@
 pub mod Sites
 pub mod CodeExpr
 pub mod Drafts
+pub mod Thunks
 pub mod Built
 pub mod Known
 pub mod Emit

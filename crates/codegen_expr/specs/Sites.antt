@@ -19,13 +19,19 @@ use Rattle.sim_meaning.specs.Entries.{cells_from, first_cells, numbers_of}
 use Rattle.sim_meaning.specs.Pending.{Connection, Held, Key, same_key}
 use Rattle.sim_meaning.specs.Texts.{ClassText, PrefixedText, StandardText, Text, text}
 
--- Where code stands: in which text, how many values its operand stack holds, how many cells and temps of the frame are in use, and how many
--- the frame has. A temp that code there takes lies behind those in use; the code inside that keeps it stands at a site with more in use.
+-- Where code stands: in which text, how many values its operand stack holds, where the temps of expressions begin, how many cells and temps of
+-- the frame are in use, and how many the frame has. What an expression puts into its temps it reads at once, so that all expressions of a frame share
+-- them, also those of thunks. A temp that a statement takes lies behind those in use; the code inside that keeps it stands at a site with more in use.
 pub record Site : Type 0 where
   pub text : ℕ
   pub room : ℕ
+  pub temps : ℕ
   pub used : ℕ
   pub size : ℕ
+
+-- how many temps expressions have
+abbrev pub expression_temps : ℕ
+expression_temps = 3
 
 abbrev pub lined : Instr → (line : ℕ) → Lined
 lined x line = record { instr = x; line = record { 0 = line } }

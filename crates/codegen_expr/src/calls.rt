@@ -4,7 +4,7 @@ ghost use Rattle.codegen_expr.specs.Known.{Known};
 ghost use Rattle.std.specs.Prelude.{OnOk};
 
 use crate::cells::Cells;
-use crate::classes::{connection_at, parameter_qualification};
+use crate::classes::{connection_at, passed_qualification};
 use crate::draft::{Draft, deeper};
 use crate::emit::emit_expr;
 use crate::instructions::{call_instr, element_instr, standard_instr};
@@ -17,6 +17,7 @@ use crate::sets::own_attribute;
 use crate::simulations::emit_own_name;
 use crate::spot::Spot;
 use crate::standard::emit_standard;
+use crate::thunks::{emit_name, emit_thunk};
 use crate::virtuals::emit_match;
 use sim_base::{DeclNo, Line, TokenNo};
 use sim_code::Instr;
@@ -67,12 +68,21 @@ fn emit_passed(
     requires cells { Known bound.now cells.now }
     ensures { OnOk result (WritesPassed bound.now spot depth draft.old draft.new keeps token expr.now formal) }
 {
-    emit_expr(bound, cells, spot, draft, depth, expr)?;
     match passed_of(keeps, formal) {
-        Passed::Plain => Ok(()),
-        Passed::Kept => draft.put(Instr::Keep, Line(0)),
-        Passed::Copied => draft.put(Instr::CopyArr, line_at(bound, token)),
-        Passed::CopiedText => draft.push(depth, standard_instr(15), line_at(bound, token)),
+        Passed::Plain => emit_expr(bound, cells, spot, draft, depth, expr),
+        Passed::Kept => {
+            emit_expr(bound, cells, spot, draft, depth, expr)?;
+            draft.put(Instr::Keep, Line(0))
+        }
+        Passed::Copied => {
+            emit_expr(bound, cells, spot, draft, depth, expr)?;
+            draft.put(Instr::CopyArr, line_at(bound, token))
+        }
+        Passed::CopiedText => {
+            emit_expr(bound, cells, spot, draft, depth, expr)?;
+            draft.push(depth, standard_instr(15), line_at(bound, token))
+        }
+        Passed::Named => emit_thunk(bound, cells, spot, draft, depth, expr),
         Passed::Other => {
             draft.give_up();
             Ok(())
@@ -98,7 +108,7 @@ fn emit_actual(
     ensures { OnOk result (WritesActual bound.now spot depth draft.old draft.new keeps token expr.now formal) }
 {
     emit_passed(bound, cells, spot, draft, depth, keeps, token, expr, formal)?;
-    match parameter_qualification(bound, cells, formal) {
+    match passed_qualification(bound, cells, formal) {
         Some(class) => emit_fit(bound, cells, spot, draft, depth, token, class),
         None => Ok(()),
     }
@@ -232,6 +242,13 @@ fn emit_seen(
                 block,
                 list,
             )
+        }
+        Seen::Named => {
+            if list.len() == 0 {
+                return emit_name(bound, cells, spot, draft, depth, token, declaration);
+            }
+            draft.give_up();
+            Ok(())
         }
         Seen::Virtual => {
             emit_object(bound, spot, draft, depth, block_of(bound, declaration))?;

@@ -2,7 +2,7 @@
 ghost use Rattle.std.specs.Prelude.{◌≡◌, IfOk};
 ghost use Rattle.sim_scope.specs.Source.{found_at as found_at_of, source_of};
 ghost use Rattle.sim_meaning.specs.Attributes.{is_bare_process, cell_of_connection, connection_at as connection_at_of, connection_in, first_in, is_connection as is_connection_of, parameter_qualification as qualification_of_parameter};
-ghost use Rattle.sim_meaning.specs.Closing.{class_parameters as class_parameters_of};
+ghost use Rattle.sim_meaning.specs.Closing.{class_parameters as class_parameters_of, class_passed as class_passed_of};
 ghost use Rattle.sim_meaning.specs.Levels.{class_at as class_at_of, class_text as class_text_of, is_class as is_class_of, qualification as qualification_of};
 ghost use Rattle.sim_meaning.specs.Texts.{text as text_of};
 ghost use Rattle.codegen_expr.specs.Built.{slot_in};
@@ -15,7 +15,7 @@ use crate::draft::deeper;
 use crate::lookups::{cell_count, denoted};
 use sim_base::TokenNo;
 use sim_scope::{
-    BlockKind, Bound, Denotation, Formal, FormalKind, Scopes, SimType, class_block, encloser,
+    BlockKind, Bound, Denotation, Formal, FormalKind, Mode, Scopes, SimType, class_block, encloser,
 };
 use std::alloc::AllocError;
 
@@ -144,6 +144,18 @@ pub(crate) fn parameter_qualification(bound: &Bound, cells: &Cells, formal: Form
         FormalKind::Simple => qualification(bound, cells, formal.ty),
         FormalKind::Array => None,
         FormalKind::Procedure => None,
+    }
+}
+
+/// The class against which an actual parameter is held when it is passed: by name that is done at each use.
+pub(crate) fn passed_qualification(bound: &Bound, cells: &Cells, formal: Formal) -> Option<u32>
+    requires cells { Known bound.now cells.now }
+    ensures { result ≡ class_passed_of (source_of bound.now) formal }
+{
+    match formal.mode {
+        Mode::ByName => None,
+        Mode::ByValue => parameter_qualification(bound, cells, formal),
+        Mode::ByReference => parameter_qualification(bound, cells, formal),
     }
 }
 

@@ -3,7 +3,7 @@ ghost use Rattle.std.specs.Prelude.{◌≡◌, ◌≢◌, ◌&&◌, ◌||◌, dr
 ghost use Rattle.sim_scope.specs.Source.{source_of};
 ghost use Rattle.sim_tree.specs.Syntax.{Expression, Expressions};
 ghost use Rattle.sim_tree.specs.SyntaxOf.{selected, selector_syntax, syntax_of};
-ghost use Rattle.sim_meaning.specs.Closing.{is_attribute as is_attribute_of, is_attribute_denoted as is_attribute_denoted_of, is_image_denoted, is_variable as is_variable_of, is_variable_denoted as is_variable_denoted_of, is_variable_entry as is_variable_entry_of, stream_denoted as stream_denoted_of, stream_of as stream_of_expression};
+ghost use Rattle.sim_meaning.specs.Closing.{is_attribute as is_attribute_of, is_attribute_denoted as is_attribute_denoted_of, is_image_denoted, is_placed as is_placed_of, is_variable as is_variable_of, is_variable_denoted as is_variable_denoted_of, is_variable_entry as is_variable_entry_of, stream_denoted as stream_denoted_of, stream_of as stream_of_expression};
 ghost use Rattle.codegen_expr.specs.Emit.{image_placed as image_placed_of, moves_denoted as moves_denoted_of, moves_next, moves_selection, takes_attribute as takes_attribute_of, takes_image as takes_image_of};
 
 use crate::forms::{Form, form_of};
@@ -68,8 +68,8 @@ fn is_variable_entry(entry: Option<Entry>) -> bool
         Some(Entry::Variable(_)) => true,
         Some(Entry::Array { .. }) => true,
         Some(Entry::Formal(formal)) => match (formal.mode, formal.kind) {
-            (Mode::ByName, _) => false,
             (_, FormalKind::Simple) => true,
+            (Mode::ByName, _) => false,
             (_, FormalKind::Array) => true,
             (_, FormalKind::Procedure) => false,
         },
@@ -178,6 +178,20 @@ fn is_attribute_taken(bound: &Bound, rest: &[Selector]) -> bool
         return false;
     }
     takes_attribute(bound, &rest[rest.len() - 1])
+}
+
+/// Whether an expression is a variable that is declared, or an element of an array, with a dot or without. An image is none.
+#[tactic(auto, using(crate::proofs::ByName::thunks))]
+pub(crate) fn is_declared_variable(bound: &Bound, expr: &Expr) -> bool
+    ensures { result ≡ is_placed_of (source_of bound.now) (syntax_of expr.now) }
+{
+    match form_of(expr) {
+        Form::Named { name, .. } => is_attribute_denoted(bound, denoted(bound, name.token)),
+        Form::Taken { rest, .. } => is_attribute_taken(bound, rest),
+        Form::Closed { .. } => false,
+        Form::New => false,
+        Form::Other => false,
+    }
 }
 
 /// Whether what moves the position of a text does so to a variable.

@@ -1,10 +1,10 @@
 //! Code that is being written.
 ghost use Rattle.std.specs.Prelude.{◌≡◌, [], IfOk, OnOk, length, pos, suc, true};
 ghost use Rattle.sim_code.specs.declared.instr.Instr.TheVariants as i;
-ghost use Rattle.codegen_expr.specs.Drafts.{class_of as class_of_block, filled_in, given_up, size_of as size_of_block, with_hole, with_instr, with_push, with_room, with_temp};
+ghost use Rattle.codegen_expr.specs.Drafts.{class_of as class_of_block, filled_in, given_up, size_of as size_of_block, thunk_begun, thunk_ended, with_hole, with_instr, with_push, with_room, with_temp};
 
 use sim_base::Line;
-use sim_code::{CodeType, Instr, Lined};
+use sim_code::{CodeType, Instr, Lined, ThunkRecord};
 use std::alloc::{AllocError, Global};
 use std::marker::Model;
 
@@ -37,6 +37,7 @@ pub struct Draft {
     size: u32,
     whole: bool,
     classes: Vec<Planned>,
+    thunks: Vec<ThunkRecord>,
 }
 
 impl Model for Draft {
@@ -44,13 +45,13 @@ impl Model for Draft {
 
     ghost Value = { DraftOf };
 
-    ghost view = { λ d. record { instrs = d.instrs.items; room = d.room; size = d.size; whole = d.whole; classes = d.classes.items } };
+    ghost view = { λ d. record { instrs = d.instrs.items; room = d.room; size = d.size; whole = d.whole; classes = d.classes.items; thunks = d.thunks.items } };
 }
 
 impl Draft {
     /// No instruction yet. It is given what is planned of each block of the code.
     pub fn new(alloc: Global, classes: Vec<Planned>) -> Draft
-        ensures { result ≡ record { instrs = []; room = 0; size = 0; whole = true; classes = classes.items } }
+        ensures { result ≡ record { instrs = []; room = 0; size = 0; whole = true; classes = classes.items; thunks = [] } }
     {
         Draft {
             instrs: Vec::new(alloc),
@@ -58,6 +59,7 @@ impl Draft {
             size: 0,
             whole: true,
             classes,
+            thunks: Vec::new(alloc),
         }
     }
 
@@ -114,11 +116,41 @@ impl Draft {
         self.size
     }
 
-    /// The instructions, where no more are written.
-    pub fn into_instrs(self) -> Vec<Lined>
-        ensures { result.items ≡ self.instrs }
+    /// The instructions and the thunks, where no more are written.
+    pub fn into_parts(self) -> (Vec<Lined>, Vec<ThunkRecord>)
+        ensures instrs { result.0.items ≡ self.instrs }
+        ensures thunks { result.1.items ≡ self.thunks }
     {
-        self.instrs
+        (self.instrs, self.thunks)
+    }
+
+    /// A thunk begins here. Its operand stack holds what it gives. The answer is its number.
+    #[tactic(auto, unfolding(crate::specs::Drafts::thunk_begun))]
+    pub fn begin_thunk(&mut self) -> Result<u32, AllocError>
+        ensures number { IfOk result (λ n. n ≡ length self.old.thunks) }
+        ensures begun { OnOk result (self.new ≡ thunk_begun self.old) }
+    {
+        let number = u32::try_from(self.thunks.len()).map_err(|_| AllocError)?;
+        let entry = u32::try_from(self.instrs.len()).map_err(|_| AllocError)?;
+        self.thunks.push(ThunkRecord { entry, room: 0 })?;
+        self.room = 1;
+        Ok(number)
+    }
+
+    /// The code of a thunk is written, outside of which the operand stack must hold so many values.
+    #[tactic(auto, unfolding(crate::specs::Drafts::thunk_ended))]
+    pub fn end_thunk(&mut self, number: u32, outside: u32)
+        ensures { self.new ≡ thunk_ended self.old number outside }
+    {
+        let index = number as usize;
+        if index < self.thunks.len() {
+            let entry = self.thunks[index].entry;
+            self.thunks[index] = ThunkRecord {
+                entry,
+                room: self.room,
+            };
+        }
+        self.room = outside;
     }
 
     /// The code of a text begins, whose frames have so many cells.

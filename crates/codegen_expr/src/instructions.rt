@@ -1,7 +1,7 @@
 //! Instructions with operands.
 ghost use Rattle.std.specs.Prelude.{◌≡◌, ◌<◌, IfOk, pos};
 ghost use Rattle.sim_code.specs.declared.instr.Instr.TheVariants as i;
-ghost use Rattle.codegen_expr.specs.CodeExpr.{member_instr as member_instr_of};
+ghost use Rattle.codegen_expr.specs.CodeExpr.{member_instr as member_instr_of, truth_number};
 
 use sim_code::Instr;
 use sim_tree::Membership;
@@ -136,6 +136,32 @@ pub fn image_instr(image: u32) -> Instr
     ensures { result ≡ i.AddrImg (pos image) }
 {
     Instr::AddrImg(i64::from(image))
+}
+
+/// The instruction that pushes the value of a parameter by name, held against a class, or 0.
+pub fn name_value_instr(level: u32, cell: u32, class: u32) -> Instr
+    ensures { result ≡ i.NameVal (pos level) (pos cell) (pos class) }
+{
+    Instr::NameVal {
+        level: i64::from(level),
+        cell: i64::from(cell),
+        class: i64::from(class),
+    }
+}
+
+/// The instruction that pushes where a parameter by name lies; or else its value, where that is enough.
+pub fn name_address_instr(level: u32, cell: u32, value_too: bool) -> Instr
+    ensures { result ≡ i.NameAddr (pos level) (pos cell) (pos (truth_number value_too)) }
+{
+    let value = match value_too {
+        true => 1,
+        false => 0,
+    };
+    Instr::NameAddr {
+        level: i64::from(level),
+        cell: i64::from(cell),
+        value,
+    }
 }
 
 /// The instruction that takes a value into a cell.

@@ -82,14 +82,14 @@ pub(crate) fn emit_join(
 ) -> Result<(), AllocError>
     ensures { OnOk result (WritesJoin bound.now spot depth draft.old draft.new token) }
 {
-    let right = deeper(spot.used)?;
+    let right = deeper(spot.temps)?;
     let new = deeper(right)?;
     let inside = deeper(depth)?;
     let above = deeper(inside)?;
     draft.take_temp(new)?;
     draft.make_room(above)?;
     let level = level_of(bound, spot.text);
-    let instrs = join_instrs(level, spot.used, right, new);
+    let instrs = join_instrs(level, spot.temps, right, new);
     emit_all(spot, draft, &instrs, line_at(bound, token))?;
     Ok(())
 }

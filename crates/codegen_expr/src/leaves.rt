@@ -368,7 +368,7 @@ pub(crate) fn emit_qua(
 
 /// A reference on top is held against a class, by way of a temp. The token is that of the identifier that is called.
 #[tactic(auto, using(crate::proofs::OfObjects::leaves))]
-pub(crate) fn emit_fit(
+pub fn emit_fit(
     bound: &Bound,
     cells: &Cells,
     spot: Spot,
@@ -383,10 +383,10 @@ pub(crate) fn emit_fit(
     let inside = deeper(depth)?;
     let number = draft.class_of(block_number(bound, cells, class));
     let level = level_of(bound, spot.text);
-    draft.take_temp(spot.used)?;
-    draft.push(inside, address_instr(level, spot.used, number), Line(0))?;
+    draft.take_temp(spot.temps)?;
+    draft.push(inside, address_instr(level, spot.temps, number), Line(0))?;
     draft.put(Instr::Swap, Line(0))?;
     draft.put(Instr::Put, line_at(bound, token))?;
-    draft.push(depth, load_instr(level, spot.used), Line(0))?;
+    draft.push(depth, load_instr(level, spot.temps), Line(0))?;
     Ok(())
 }

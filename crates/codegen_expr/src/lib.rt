@@ -21,6 +21,7 @@ mod sets;
 mod simulations;
 mod spot;
 mod standard;
+mod thunks;
 mod variables;
 mod virtuals;
 
@@ -37,7 +38,7 @@ pub use instructions::{
     address_instr, attribute_instr, call_instr, character_instr, element_instr, link_instr,
     load_instr, member_instr, new_instr, standard_instr, store_instr, this_instr,
 };
-pub use leaves::{emit_cell, emit_connected, emit_link_to, emit_this};
+pub use leaves::{emit_cell, emit_connected, emit_fit, emit_link_to, emit_this};
 pub use lookups::{
     block_number, block_of, cell_count, cell_number, constant_value, denoted, formals_of_block,
     gives, has_result, is_around, is_text, is_text_at, level_of, line_at, prefix_of, slot_of,
@@ -47,6 +48,7 @@ pub use names::{StandardCode, standard_leaves};
 pub use operands::emit_list;
 pub use operators::Object;
 pub use selectors::{emit_before, emit_dot};
-pub use spot::Spot;
+pub use spot::{Spot, spot_in};
 pub use standard::emit_standard;
+pub use thunks::{by_name, emit_name_place, formal_qualification};
 pub use variables::{emit_named_place, emit_place};

@@ -111,6 +111,10 @@ fn emit_seen_of(
             draft.put(call_instr(number, list.len())?, line_at(bound, token))
         }
         Seen::Virtual => emit_match(bound, draft, token, declaration, list),
+        Seen::Named => {
+            draft.give_up();
+            Ok(())
+        }
         Seen::Nothing => {
             draft.give_up();
             Ok(())
@@ -206,6 +210,10 @@ fn emit_seen_place_of(
             Ok(())
         }
         Seen::Virtual => {
+            draft.give_up();
+            Ok(())
+        }
+        Seen::Named => {
             draft.give_up();
             Ok(())
         }

@@ -87,6 +87,8 @@ pub(crate) enum Seen {
     Call(u32),
     /// A virtual procedure.
     Virtual,
+    /// A formal parameter by name.
+    Named,
     /// It is not built.
     Nothing,
 }
@@ -102,6 +104,7 @@ pub(crate) fn seen_of(entry: Option<Entry>) -> Seen
         Some(Entry::Procedure { block, .. }) => Seen::Call(block),
         Some(Entry::Virtual { .. }) => Seen::Virtual,
         Some(Entry::Formal(formal)) => match (formal.mode, formal.kind) {
+            (Mode::ByName, FormalKind::Simple) => Seen::Named,
             (Mode::ByName, _) => Seen::Nothing,
             (_, FormalKind::Simple) => Seen::Variable,
             (_, FormalKind::Array) => Seen::Array,
@@ -141,6 +144,8 @@ pub(crate) enum Passed {
     Copied,
     /// As a copy of a text.
     CopiedText,
+    /// By name.
+    Named,
     /// It is not built.
     Other,
 }
@@ -150,6 +155,7 @@ pub(crate) fn passed_of(keeps: bool, formal: Formal) -> Passed
     ensures { result ≡ passed_by keeps formal.mode formal.kind (is_text_type formal.ty) }
 {
     match (formal.mode, formal.kind, formal.ty) {
+        (Mode::ByName, FormalKind::Simple, _) => Passed::Named,
         (Mode::ByName, _, _) => Passed::Other,
         (_, FormalKind::Procedure, _) => Passed::Other,
         (Mode::ByValue, FormalKind::Array, _) => Passed::Copied,

@@ -15,6 +15,7 @@ use crate::objects::emit_place_behind;
 use crate::operators::{Seen, seen_of};
 use crate::selectors::{emit_place_taken, emit_start, emit_steps};
 use crate::spot::Spot;
+use crate::thunks::emit_name_place;
 use sim_base::{DeclNo, TokenNo};
 use sim_scope::{Bound, Denotation, entry_of};
 use sim_tree::{Expr, Identifier};
@@ -73,6 +74,13 @@ fn emit_seen_place(
             Ok(())
         }
         Seen::Virtual => {
+            draft.give_up();
+            Ok(())
+        }
+        Seen::Named => {
+            if subscripts.len() == 0 {
+                return emit_name_place(bound, cells, spot, draft, depth, true, token, declaration);
+            }
             draft.give_up();
             Ok(())
         }

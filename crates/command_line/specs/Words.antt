@@ -10,7 +10,7 @@ use Rattle.command_line.specs.Options.{default_limits, setting_of, value_of}
 use Rattle.command_line.specs.declared.options.Setting.{Setting}
 use Rattle.command_line.specs.declared.options.Setting.TheVariants.{Storage, Ticks, InLength, OutLength}
 use Rattle.command_line.specs.declared.words.Command.{Command}
-use Rattle.command_line.specs.declared.words.Command.TheVariants.{Run, Check, Print}
+use Rattle.command_line.specs.declared.words.Command.TheVariants.{Run, Check, Compile, Listing, Print}
 
 -- the bytes of each word
 abbrev pub texts : List (String Global) → List (List ℕ)
@@ -21,6 +21,8 @@ abbrev pub command_of : List ℕ → Option Command
 command_of word =
     if bytes_eq word (codes "run") then Some Run
     else if bytes_eq word (codes "check") then Some Check
+    else if bytes_eq word (codes "compile") then Some Compile
+    else if bytes_eq word (codes "list") then Some Listing
     else if bytes_eq word (codes "print") then Some Print
     else None
 
@@ -144,6 +146,8 @@ has_options given = is_some given.storage || (is_some given.ticks || (is_some gi
 abbrev pub takes_options : Command → Bool
 takes_options Run = true
 takes_options Check = false
+takes_options Compile = false
+takes_options Listing = false
 takes_options Print = false
 
 -- a command, its limits and its FILE
@@ -159,7 +163,7 @@ request_with command given =
     then option_map (λ file. record { command = command; limits = limits_of given; file = file }) given.file
     else None
 
--- What the words ask for: `run` with options in any order and a FILE, or `check` or `print` with a FILE. Other words are no command.
+-- What the words ask for: `run` with options in any order and a FILE, or `check`, `compile`, `list` or `print` with a FILE. Other words are no command.
 abbrev pub request_of : List (List ℕ) → Option Request
 request_of [] = None
 request_of (word ∷ rest) =

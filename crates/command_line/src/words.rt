@@ -14,6 +14,10 @@ pub enum Command {
     Run,
     /// `check`: to say what refuses it, and to run nothing.
     Check,
+    /// `compile`: to write its code as a code file, and to run nothing.
+    Compile,
+    /// `list`: to write its code as text, and to run nothing.
+    Listing,
     /// `print`: to write its canonical text, and to run nothing.
     Print,
 }
@@ -60,7 +64,7 @@ impl Command {
     {
         match self {
             Command::Run => true,
-            Command::Check | Command::Print => false,
+            Command::Check | Command::Compile | Command::Listing | Command::Print => false,
         }
     }
 }
@@ -72,6 +76,8 @@ fn command_of(word: &str) -> Option<Command>
     match word {
         "run" => Some(Command::Run),
         "check" => Some(Command::Check),
+        "compile" => Some(Command::Compile),
+        "list" => Some(Command::Listing),
         "print" => Some(Command::Print),
         _ => None,
     }

@@ -33,7 +33,7 @@ const MODELS: [(&str, Option<&str>); 15] = [
 ];
 
 // The collections of data/ whose sources are run, in the order in which they are shown.
-const COLLECTIONS: [&str; 14] = [
+const COLLECTIONS: [&str; 15] = [
     "messages.cases",
     "programs.cases",
     "tokens.cases",
@@ -46,6 +46,7 @@ const COLLECTIONS: [&str; 14] = [
     "simulation.cases",
     "virtuals.cases",
     "keeping.cases",
+    "names.cases",
     "manual.cases",
     "models.cases",
 ];

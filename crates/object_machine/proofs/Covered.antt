@@ -1,6 +1,6 @@
 -- What a frame that goes on top leaves.
 use Rattle.std.proofs.Common.{◌≡◌, ℕ, zero, suc, ◌+◌, ◌≤◌, List, [], ◌∷◌, ◌++◌, length, sym, subst, refl, ap, ◌∙◌, arith}
-use Rattle.std.specs.Prelude.{Option, Some, false, slice_get}
+use Rattle.std.specs.Prelude.{Option, Some, None, slice_get}
 use Rattle.sim_base.specs.declared.limits.Limits.{Limits}
 use Rattle.sim_values.specs.declared.value.FrameRef.{FrameRef}
 use Rattle.sim_code.specs.Code.{BlockOf}
@@ -25,7 +25,7 @@ use Rattle.object_machine.proofs.Going.{act}
 
 -- a frame that goes on behind its instruction
 abbrev pub behind : working.Activation → Registers
-behind u = record { home = u.registers.home; pc = u.registers.pc + 1; depth = u.registers.depth; stage = u.registers.stage }
+behind u = record { thunk = u.registers.thunk; home = u.registers.home; pc = u.registers.pc + 1; depth = u.registers.depth; stage = u.registers.stage }
 
 abbrev pub under_of : working.Activation → working.Activation
 under_of u = record { registers = behind u; stack = u.stack }
@@ -58,7 +58,7 @@ module _ (l : Limits) (line : ℕ) (p p2 : Storage) (k : ℕ) (b : BlockOf) (g :
     waits : (t : working.Activation) → t.registers ≡ record r { pc = r.pc + 1 } → t.stack.items ≡ stack → activation_of t ≡ waiting (activation_at r stack) (values_of r.depth stack)
     waits t e e2 =
         let r2 : Registers = record r { pc = r.pc + 1 } in
-        ap (λ q. activation_at q t.stack.items) e ∙ ap (λ x. activation_at r2 x) e2 ∙ ap (λ n. act r.home.stamp n (values_of r.depth stack) (length stack) r.stage) (let n : r.pc + 1 ≡ suc r.pc = omega arith in n)
+        ap (λ q. activation_at q t.stack.items) e ∙ ap (λ x. activation_at r2 x) e2 ∙ ap (λ n. act r.thunk r.home.stamp n (values_of r.depth stack) (length stack) r.stage) (let n : r.pc + 1 ≡ suc r.pc = omega arith in n)
 
     covered : Covers flow.On next r stack below top below2 → Leaves flow.On l line p2 top.registers top.stack.items below2 before now Entered
     unfolding Leaves
@@ -69,7 +69,7 @@ module _ (l : Limits) (line : ℕ) (p p2 : Storage) (k : ℕ) (b : BlockOf) (g :
         let items = c.1.3 in
         let chain : below_of below2 ≡ waiting (activation_at r stack) (values_of r.depth stack) ∷ below_of below =
         ap (λ w. below_of w) there ∙ below_more below t ∙ ap (λ a. a ∷ below_of below) (waits t regs items) in
-        let first : activation_of top ≡ record { thunk = false; home = length m.instances; pc = g.start; stack = []; room = b.room; stage = g.stage } = ap (λ u. activation_of u) c.0 ∙ h.top in (
+        let first : activation_of top ≡ record { thunk = None; home = length m.instances; pc = g.start; stack = []; room = b.room; stage = g.stage } = ap (λ u. activation_of u) c.0 ∙ h.top in (
           ap (λ a. a ∷ (waiting (activation_at r stack) (values_of r.depth stack) ∷ below_of below)) (sym first) ∙ ap (λ w. activation_of top ∷ w) (sym chain),
           record {
             stores = h.stores;
@@ -88,6 +88,7 @@ module _ (l : Limits) (line : ℕ) (p p2 : Storage) (k : ℕ) (b : BlockOf) (g :
     covered_by flow.TickLimit c = absurd c
     covered_by flow.Exhausted c = absurd c
     covered_by (flow.Fault e) c = absurd c
+    covered_by (flow.FaultAt e place) c = absurd c
     covered_by flow.Memory c = tt
     covered_by flow.WriteFault c = elim c [ ]
     covered_by flow.InputFault c = elim c [ ]

@@ -1,8 +1,8 @@
 -- Activations of a chain, and where it is cut.
 use Rattle.std.proofs.Common.{◌≡◌, ℕ, zero, suc, ◌-◌, ◌<◌, ◌≤◌, inl, inr, List, [], ◌∷◌, ◌++◌, length, map, sym, subst, refl, ap, ◌∙◌, arith, eq-eqb}
 use Rattle.std.proofs.lemmas.List.{append_assoc, reverse-append, reverse-reverse}
-use Rattle.std.specs.Prelude.{Bool, true, false, ◌==◌, ◌||◌, reverse, Some, None, slice_get, slice_index_or}
-use Rattle.sim_chains.specs.Chains.{outermost, stands_on}
+use Rattle.std.specs.Prelude.{Bool, true, false, ◌||◌, reverse, Some, None, slice_get, slice_index_or}
+use Rattle.sim_chains.specs.Chains.{is_instance, outermost, stands_on}
 use Rattle.sim_code.specs.Machine.{owner}
 use Rattle.frame_arena.proofs.Changes.{off, same_or_not}
 use Rattle.frame_arena.proofs.Enclosers.{index_there}
@@ -59,7 +59,7 @@ each_later P Q (t ∷ ts) later h = (later t h.0, each_later P Q ts later h.1)
 
 module _ (j : ℕ) where
   abbrev pub Other : working.Activation → Type 0
-  Other t = (t.registers.home.stamp == j) ≡ false
+  Other t = (is_instance j (frame_of t)) ≡ false
 
   pub others_stand : (ts : List working.Activation) → Each Other ts → stands_on frame_of j ts ≡ false
   others_stand [] h = refl
@@ -68,7 +68,7 @@ module _ (j : ℕ) where
   pub stand_others : (ts : List working.Activation) → stands_on frame_of j ts ≡ false → Each Other ts
   stand_others [] e = tt
   stand_others (t ∷ ts) e =
-      let n = neither (t.registers.home.stamp == j) (stands_on frame_of j ts) e in
+      let n = neither (is_instance j (frame_of t)) (stands_on frame_of j ts) e in
       (n.0, stand_others ts n.1)
 
   no_middle : (b : Bool) → (b ≡ false → ⊥) → b ≡ true
@@ -76,24 +76,24 @@ module _ (j : ℕ) where
   no_middle false h = absurd (h refl)
 
   -- on the operating chain
-  pub stands_on_top : (top : working.Activation) (below : List working.Activation) → (top.registers.home.stamp == j) ≡ true → stands_on frame_of j (operating top below) ≡ true
+  pub stands_on_top : (top : working.Activation) (below : List working.Activation) → (is_instance j (frame_of top)) ≡ true → stands_on frame_of j (operating top below) ≡ true
   stands_on_top top below e = ap (λ b. b || stands_on frame_of j (reverse below)) e
 
-  pub stands_below : (top : working.Activation) (below : List working.Activation) (k : ℕ) (t : working.Activation) → slice_get below k ≡ Some t → (t.registers.home.stamp == j) ≡ true → stands_on frame_of j (operating top below) ≡ true
+  pub stands_below : (top : working.Activation) (below : List working.Activation) (k : ℕ) (t : working.Activation) → slice_get below k ≡ Some t → (is_instance j (frame_of t)) ≡ true → stands_on frame_of j (operating top below) ≡ true
   stands_below top below k t there e =
       no_middle (stands_on frame_of j (operating top below))
       (λ h. off (sym (each_below Other top below (stand_others (operating top below) h) k t there) ∙ e))
 
-  pub stands_nowhere : (top : working.Activation) (below : List working.Activation) → (top.registers.home.stamp == j) ≡ false → ((k : ℕ) (t : working.Activation) → slice_get below k ≡ Some t → (t.registers.home.stamp == j) ≡ false) → stands_on frame_of j (operating top below) ≡ false
+  pub stands_nowhere : (top : working.Activation) (below : List working.Activation) → (is_instance j (frame_of top)) ≡ false → ((k : ℕ) (t : working.Activation) → slice_get below k ≡ Some t → (is_instance j (frame_of t)) ≡ false) → stands_on frame_of j (operating top below) ≡ false
   stands_nowhere top below e h = others_stand (operating top below) (each_operating Other top below e h)
 
   -- from one place on, and from the one before
-  pub none_from : (below : List working.Activation) (at at2 : ℕ) (d : working.Activation) → at2 ≡ at - 1 → 0 < at → at ≤ length below → ((slice_index_or below at2 d).registers.home.stamp == j) ≡ false →
-      ((k : ℕ) (t : working.Activation) → at ≤ k → slice_get below k ≡ Some t → (t.registers.home.stamp == j) ≡ false) →
-      (k : ℕ) (t : working.Activation) → at2 ≤ k → slice_get below k ≡ Some t → (t.registers.home.stamp == j) ≡ false
+  pub none_from : (below : List working.Activation) (at at2 : ℕ) (d : working.Activation) → at2 ≡ at - 1 → 0 < at → at ≤ length below → (is_instance j (frame_of (slice_index_or below at2 d))) ≡ false →
+      ((k : ℕ) (t : working.Activation) → at ≤ k → slice_get below k ≡ Some t → (is_instance j (frame_of t)) ≡ false) →
+      (k : ℕ) (t : working.Activation) → at2 ≤ k → slice_get below k ≡ Some t → (is_instance j (frame_of t)) ≡ false
   none_from below at at2 d is more within here h k t low there =
       elim (same_or_not k at2) [
-        | inl e ↦ subst (λ u. (u.registers.home.stamp == j) ≡ false) (index_there below at2 t d (subst (λ k. slice_get below k ≡ Some t) e there)) here
+        | inl e ↦ subst (λ u. (is_instance j (frame_of u)) ≡ false) (index_there below at2 t d (subst (λ k. slice_get below k ≡ Some t) e there)) here
         | inr ne ↦ h k t (omega (arith, is, more, low, ne)) there
       ]
 
@@ -101,20 +101,20 @@ module _ (j : ℕ) where
   pub outermost_other : (ts : List working.Activation) → stands_on frame_of j ts ≡ false → outermost owner (map activation_of ts) ≡ Some j → ⊥
   outermost_other [] e h = absurd (cc)
   outermost_other (t ∷ []) e h =
-      let n = neither (t.registers.home.stamp == j) false e in
-      off (sym n.0 ∙ eq-eqb t.registers.home.stamp j (same_found (Some t.registers.home.stamp) t.registers.home.stamp j refl h))
+      let n = neither (is_instance j (frame_of t)) false e in
+      off (sym n.0 ∙ ap (is_instance j) h ∙ eq-eqb j j refl)
   outermost_other (t ∷ u ∷ ts) e h =
-      let n = neither (t.registers.home.stamp == j) (stands_on frame_of j (u ∷ ts)) e in
+      let n = neither (is_instance j (frame_of t)) (stands_on frame_of j (u ∷ ts)) e in
       outermost_other (u ∷ ts) n.1 h
 
 -- the outermost activation of a chain
-pub outermost_at : (ts : List working.Activation) (d : working.Activation) → (length ts ≡ 0 → ⊥) → outermost owner (map activation_of ts) ≡ Some (slice_index_or ts (length ts - 1) d).registers.home.stamp
+pub outermost_at : (ts : List working.Activation) (d : working.Activation) → (length ts ≡ 0 → ⊥) → outermost owner (map activation_of ts) ≡ frame_of (slice_index_or ts (length ts - 1) d)
 outermost_at [] d h = absurd (h refl)
 outermost_at (t ∷ []) d h = refl
 outermost_at (t ∷ u ∷ ts) d h =
     let e : length (u ∷ ts) - 1 ≡ length ts = omega arith in
     let e2 : length (t ∷ u ∷ ts) - 1 ≡ suc (length ts) = omega arith in
-    outermost_at (u ∷ ts) d (λ z. omega (arith, z)) ∙ ap (λ k. Some (slice_index_or (u ∷ ts) k d).registers.home.stamp) e ∙ ap (λ k. Some (slice_index_or (t ∷ u ∷ ts) k d).registers.home.stamp) (sym e2)
+    outermost_at (u ∷ ts) d (λ z. omega (arith, z)) ∙ ap (λ k. frame_of (slice_index_or (u ∷ ts) k d)) e ∙ ap (λ k. frame_of (slice_index_or (t ∷ u ∷ ts) k d)) (sym e2)
 
 pub outermost_none : (ts : List working.Activation) → length ts ≡ 0 → outermost owner (map activation_of ts) ≡ None
 outermost_none [] e = refl
@@ -137,10 +137,10 @@ pub step_up : (whole above above2 : List working.Activation) (top : working.Acti
 step_up whole above above2 top below next e e2 =
     e ∙ ap (λ w. w ++ operating top below) e2 ∙ append_assoc above2 (next ∷ []) (operating top below) ∙ ap (λ w. above2 ++ next ∷ w) (sym (reverse-append below (top ∷ [])))
 
-pub none_more : (j : ℕ) (above : List working.Activation) (t : working.Activation) → stands_on frame_of j above ≡ false → (t.registers.home.stamp == j) ≡ false → stands_on frame_of j (above ++ t ∷ []) ≡ false
+pub none_more : (j : ℕ) (above : List working.Activation) (t : working.Activation) → stands_on frame_of j above ≡ false → (is_instance j (frame_of t)) ≡ false → stands_on frame_of j (above ++ t ∷ []) ≡ false
 none_more j [] t h e = ap (λ b. b || false) e
 none_more j (x ∷ xs) t h e =
-    let n = neither (x.registers.home.stamp == j) (stands_on frame_of j xs) h in
+    let n = neither (is_instance j (frame_of x)) (stands_on frame_of j xs) h in
     ap (λ b. b || stands_on frame_of j (xs ++ t ∷ [])) n.0 ∙ none_more j xs t n.1 e
 
 pub only_top : (whole above : List working.Activation) (top : working.Activation) (below : List working.Activation) → whole ≡ above ++ operating top below → below ≡ [] → whole ≡ above ++ top ∷ []

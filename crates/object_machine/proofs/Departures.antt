@@ -22,6 +22,7 @@ use Rattle.object_machine.specs.declared.machine.Registers.{Registers}
 use Rattle.object_machine.specs.declared.machine.Activation as working
 use Rattle.object_machine.specs.declared.machine.Flow.TheVariants as flow
 use Rattle.object_machine.specs.FrameEnds.{Ends, ValueLeads}
+use Rattle.object_machine.specs.Keeping.{owner_at}
 use Rattle.object_machine.specs.Standing.{AllAtWork, AllFit, AtWork, Leaves, Outside, Stands, Stores, activation_at, activation_of, below_of, parked, ports_of}
 use Rattle.object_machine.proofs.Filling.{none_taken}
 use Rattle.object_machine.proofs.Going.{Stays, act, moved}
@@ -32,16 +33,23 @@ use Rattle.object_machine.proofs.Places.{lead_later, led_array_at, led_at}
 
 -- ---- the block of the frame on top
 
-pub own_at : (code : CodeOf) (kind : BlockKind) (m : Frames) (r : Registers) (stack : List Slot) (o : World) (go : BlockOf → Run Machine) (x : Instance Cells) → slice_get m.instances r.home.stamp ≡ Some x →
+pub own_at : (code : CodeOf) (kind : BlockKind) (m : Frames) (r : Registers) (stack : List Slot) (o : World) (go : BlockOf → Run Machine) (x : Instance Cells) → owner_at r ≡ Some r.home.stamp → slice_get m.instances r.home.stamp ≡ Some x →
     own_block code kind m (activation_at r stack) o go ≡ having (slice_get code.blocks x.text) o (λ b. when (same_kind b.kind kind) o (go b))
 unfolding own_block having
-own_at code kind m r stack o go x e = ap (λ y. having (text_in y) o (λ k. having (slice_get code.blocks k) o (λ b. when (same_kind b.kind kind) o (go b)))) e
+own_at code kind m r stack o go x owned e =
+    ap (λ q. having q o (λ j. having (text_in (slice_get m.instances j)) o (λ k. having (slice_get code.blocks k) o (λ b. when (same_kind b.kind kind) o (go b))))) owned
+    ∙ ap (λ y. having (text_in y) o (λ k. having (slice_get code.blocks k) o (λ b. when (same_kind b.kind kind) o (go b)))) e
 
 -- the same where the frame lies in its region
-pub own_found : (code : CodeOf) (kind : BlockKind) (fs : List Frame) (cells : List Slot) (m : Frames) (r : Registers) (stack : List Slot) (o : World) (go : BlockOf → Run Machine) (place k : ℕ) → Holds fs cells m → Has fs place r.home.stamp → k ≡ (frame_at fs place).block →
+pub own_found : (code : CodeOf) (kind : BlockKind) (fs : List Frame) (cells : List Slot) (m : Frames) (r : Registers) (stack : List Slot) (o : World) (go : BlockOf → Run Machine) (place k : ℕ) → owner_at r ≡ Some r.home.stamp → Holds fs cells m → Has fs place r.home.stamp → k ≡ (frame_at fs place).block →
     own_block code kind m (activation_at r stack) o go ≡ having (slice_get code.blocks k) o (λ b. when (same_kind b.kind kind) o (go b))
-own_found code kind fs cells m r stack o go place k h has e =
-    own_at code kind m r stack o go (instance_of cells (frame_at fs place)) (h.known place r.home.stamp has) ∙ sym (ap (λ k. having (slice_get code.blocks k) o (λ b. when (same_kind b.kind kind) o (go b))) e)
+own_found code kind fs cells m r stack o go place k owned h has e =
+    own_at code kind m r stack o go (instance_of cells (frame_at fs place)) owned (h.known place r.home.stamp has) ∙ sym (ap (λ k. having (slice_get code.blocks k) o (λ b. when (same_kind b.kind kind) o (go b))) e)
+
+-- a thunk has no block of its own
+pub no_block_of_thunk : (code : CodeOf) (kind : BlockKind) (m : Frames) (r : Registers) (stack : List Slot) (o : World) (go : BlockOf → Run Machine) → owner_at r ≡ None → own_block code kind m (activation_at r stack) o go ≡ no_rule o
+unfolding own_block having
+no_block_of_thunk code kind m r stack o go e = ap (λ q. having q o (λ j. having (text_in (slice_get m.instances j)) o (λ k. having (slice_get code.blocks k) o (λ b. when (same_kind b.kind kind) o (go b))))) e
 
 module _ (code : CodeOf) (kind : BlockKind) (k : ℕ) (o : World) (go : BlockOf → Run Machine) where
   abbrev Looked : Option BlockOf → Run Machine
@@ -199,7 +207,7 @@ module _ (l : Limits) (line : ℕ) (p p2 : Storage) (b : BlockOf) (r : Registers
         Leaves flow.On l line p2 r2 stack2 rest before now (leaving b (below_of below) v r.home.stamp o m)
     unfolding Leaves
     becomes_top r2 stack2 ends home place long slots arrays put =
-        let chain : act t.registers.home.stamp t.registers.pc (values_of r2.depth stack2) (length t.stack.items) t.registers.stage ≡ activation_at r2 stack2 =
+        let chain : act t.registers.thunk t.registers.home.stamp t.registers.pc (values_of r2.depth stack2) (length t.stack.items) t.registers.stage ≡ activation_at r2 stack2 =
         moved t.registers r2 stack2 t.registers.pc (values_of r2.depth stack2) (length t.stack.items) home (sym place) refl (sym long) in
         subst (λ q. Leaves flow.On l line p2 r2 stack2 rest before now q) (sym (leaving_is ∙ put Then)) (
           ap (λ a. a ∷ below_of rest) chain,

@@ -66,3 +66,4 @@ pub mod PrefixRows
 pub mod Pushed
 pub mod Held
 pub mod VirtualRows
+pub mod ThunkRows

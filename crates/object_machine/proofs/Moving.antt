@@ -65,6 +65,7 @@ module _ (l : Limits) (line : ℕ) (before : Option (List ℕ)) (now : Outside) 
     joins_on flow.TickLimit h fit e stores ek et = absurd h
     joins_on flow.Exhausted h fit e stores ek et = absurd h
     joins_on (flow.Fault x) h fit e stores ek et = absurd h
+    joins_on (flow.FaultAt x place) h fit e stores ek et = absurd h
     joins_on flow.Memory h fit e stores ek et = tt
     joins_on flow.WriteFault h fit e stores ek et = elim h [ ]
     joins_on flow.InputFault h fit e stores ek et = elim h [ ]
@@ -132,6 +133,7 @@ module _ (l : Limits) (line : ℕ) (p : Storage) (top : working.Activation) (bel
     leaving_ends flow.TickLimit ne p2 kept top2 below2 h = absurd h
     leaving_ends flow.Exhausted ne p2 kept top2 below2 h = absurd h
     leaving_ends (flow.Fault e) ne p2 kept top2 below2 h = absurd h
+    leaving_ends (flow.FaultAt e place) ne p2 kept top2 below2 h = absurd h
     leaving_ends flow.Memory ne p2 kept top2 below2 h = tt
     leaving_ends flow.WriteFault ne p2 kept top2 below2 h = elim h [ ]
     leaving_ends flow.InputFault ne p2 kept top2 below2 h = elim h [ ]
@@ -223,7 +225,7 @@ waited t depth = record t { registers = record (t.registers) { pc = t.registers.
 
 pub waits_as : (t t2 : working.Activation) (depth : ℕ) → t2 ≡ waited t depth → waiting (activation_of t) (values_of depth t.stack.items) ≡ activation_of t2
 waits_as t t2 depth e =
-    ap (λ n. act t.registers.home.stamp n (values_of depth t.stack.items) (length t.stack.items) t.registers.stage) (let e : suc t.registers.pc ≡ t.registers.pc + 1 = omega arith in e) ∙ ap (λ t. activation_of t) (sym e)
+    ap (λ n. act t.registers.thunk t.registers.home.stamp n (values_of depth t.stack.items) (length t.stack.items) t.registers.stage) (let e : suc t.registers.pc ≡ t.registers.pc + 1 = omega arith in e) ∙ ap (λ t. activation_of t) (sym e)
 
 -- where it stands does not depend on its place in the code
 module _ (t : working.Activation) (below : List working.Activation) (depth j : ℕ) where

@@ -336,7 +336,7 @@ module _ (l : Limits) (line : ℕ) (p p2 : Storage) (below : List working.Activa
 
   -- the same with the other stack, which is as long
   same_room : (w : World) (n2 : Frames) (values : List Value) → on w n2 (activation_at r stack) values (below_of below) ≡ on w n2 (activation_at r stack2) values (below_of below)
-  same_room w n2 values = ap (λ k. Going w (record { chain = record { thunk = false; home = r.home.stamp; pc = suc r.pc; stack = values; room = k; stage = r.stage } ∷ below_of below; memory = n2 })) (sym long)
+  same_room w n2 values = ap (λ k. Going w (record { chain = record { thunk = r.thunk; home = r.home.stamp; pc = suc r.pc; stack = values; room = k; stage = r.stage } ∷ below_of below; memory = n2 })) (sym long)
 
   module _ (q : Run Machine) (is : q ≡ standard_row l line name (held r.depth new) o go) where
     follows : (f : Flow) (d : ℕ) (t : TextVal) (w : World) (place : Placing) → PutsBack place l p2 r stack2 below before now2 w m address t → Follows place f d r r2 → Stands l later r stack2 below before now2 w m →
@@ -345,7 +345,7 @@ module _ (l : Limits) (line : ℕ) (p p2 : Storage) (below : List working.Activa
     follows f d t w placing.Done puts fl st e =
         subst (λ f. Leaves f l line p2 r2 stack2 below before now2 q) (sym fl.0)
         (along l line p2 below before now2 flow.On r2 stack2 _ _ (e ∙ puts.is _ ∙ same_room puts.world puts.memory (values_of d stack2))
-        (depth_goes_on l line p2 below before now2 r r2 stack2 stack2 puts.world puts.memory d puts.stands refl (ap (λ x. x.home) fl.1, ap (λ x. x.stage) fl.1) (ap (λ x. x.pc) fl.1) (ap (λ x. x.depth) fl.1) puts.stands.top.slots puts.stands.top.arrays_lead))
+        (depth_goes_on l line p2 below before now2 r r2 stack2 stack2 puts.world puts.memory d puts.stands refl (ap (λ x. x.home) fl.1, ap (λ x. x.stage) fl.1, ap (λ x. x.thunk) fl.1) (ap (λ x. x.pc) fl.1) (ap (λ x. x.depth) fl.1) puts.stands.top.slots puts.stands.top.arrays_lead))
     follows f d t w placing.NoRule puts fl st e =
         subst (λ f. Leaves f l line p2 r2 stack2 below before now2 q) (sym fl) (along l line p2 below before now2 flow.NoRule r2 stack2 _ _ (e ∙ puts _) (refl, st.stores.world.written))
     follows f d t w placing.Memory puts fl st e = subst (λ f. Leaves f l line p2 r2 stack2 below before now2 q) (sym fl) tt
@@ -356,7 +356,7 @@ module _ (l : Limits) (line : ℕ) (p p2 : Storage) (below : List working.Activa
         subst (λ f. Leaves f l line p2 r2 stack2 below before now2 q) (sym settled.0)
         (subst (λ x. Leaves flow.On l line x r2 stack2 below before now2 q) (sym settled.1)
         (along l line later below before now2 flow.On r2 stack2 _ _ (is ∙ did.3 l line o go limit agrees ∙ not_moved (wrote o new2 did.0) m _ _ ∙ same_room (wrote o new2 did.0) m (values_of d stack2))
-        (depth_goes_on l line later below before now2 r r2 stack2 stack2 (wrote o new2 did.0) m d (stands_later did.0 did.1 did.2) refl (ap (λ x. x.home) settled.2, ap (λ x. x.stage) settled.2) (ap (λ x. x.pc) settled.2) (ap (λ x. x.depth) settled.2) slots arrays)))
+        (depth_goes_on l line later below before now2 r r2 stack2 stack2 (wrote o new2 did.0) m d (stands_later did.0 did.1 did.2) refl (ap (λ x. x.home) settled.2, ap (λ x. x.stage) settled.2, ap (λ x. x.thunk) settled.2) (ap (λ x. x.pc) settled.2) (ap (λ x. x.depth) settled.2) slots arrays)))
     name_row (performed.Moved d t) f did settled led =
         let st = stands_later did.0 did.1 did.2 in
         follows f d t (wrote o new2 did.0) settled.placing (settled.puts l r stack2 below before now2 (wrote o new2 did.0) m st led) settled.follows st

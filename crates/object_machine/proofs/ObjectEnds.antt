@@ -22,6 +22,7 @@ use Rattle.object_machine.specs.declared.machine.Registers.{Registers}
 use Rattle.object_machine.specs.declared.machine.Activation as working
 use Rattle.object_machine.specs.declared.machine.Flow.{Flow}
 use Rattle.object_machine.specs.declared.machine.Flow.TheVariants as flow
+use Rattle.object_machine.specs.Keeping.{owner_at}
 use Rattle.object_machine.specs.Standing.{AllFit, AtWork, Leaves, Outside, Stands, Stores, activation_at, activation_of, below_of, parked}
 use Rattle.object_machine.specs.Transferring.{Anew, CutsAt, JoinsChain, operating}
 use Rattle.object_machine.proofs.Anew.{anew_twice}
@@ -124,11 +125,20 @@ module _ (code : CodeOf) (l : Limits) (o : World) (m : Frames) (r : Registers) (
   abbrev Top : Activation
   Top = activation_at r stack
 
-  pub outermost_is : (fs : List Frame) (cells : List Slot) (place k : ℕ) → Holds fs cells m → Has fs place r.home.stamp → k ≡ (frame_at fs place).block →
+  abbrev Outermost_of : Option ℕ → Run Machine
+  Outermost_of q = having q o (λ j. having (text_in (slice_get m.instances j)) o (λ k. choosing (k == 0) (stopping Normal o) (outermost_ended code l o m Top below j k)))
+
+  -- a thunk has no outermost level
+  pub no_level_of_thunk : owner_at r ≡ None → level_ended code l o m Top below 0 ≡ no_rule o
+  unfolding having
+  no_level_of_thunk e = ap Outermost_of e
+
+  pub outermost_is : (fs : List Frame) (cells : List Slot) (place k : ℕ) → owner_at r ≡ Some r.home.stamp → Holds fs cells m → Has fs place r.home.stamp → k ≡ (frame_at fs place).block →
       level_ended code l o m Top below 0 ≡ choosing (k == 0) (stopping Normal o) (outermost_ended code l o m Top below r.home.stamp k)
   unfolding having
-  outermost_is fs cells place k h has e =
-      ap (λ x. having (text_in x) o (λ k. choosing (k == 0) (stopping Normal o) (outermost_ended code l o m Top below r.home.stamp k))) (h.known place r.home.stamp has)
+  outermost_is fs cells place k owned h has e =
+      ap Outermost_of owned
+      ∙ ap (λ x. having (text_in x) o (λ k. choosing (k == 0) (stopping Normal o) (outermost_ended code l o m Top below r.home.stamp k))) (h.known place r.home.stamp has)
       ∙ sym (ap (λ k. choosing {S = Machine} (k == 0) (stopping Normal o) (outermost_ended code l o m Top below r.home.stamp k)) e)
 
   module _ (j k : ℕ) where

@@ -1,6 +1,6 @@
 -- A new frame stands in the parts.
 use Rattle.std.proofs.Common.{◌≡◌, ℕ, zero, suc, ◌+◌, ◌≤◌, List, [], ◌∷◌, length, length-append, replicate, sym, subst, refl, ap, ◌∙◌}
-use Rattle.std.specs.Prelude.{false, Option}
+use Rattle.std.specs.Prelude.{false, Option, None}
 use Rattle.sim_base.specs.declared.limits.Limits.{Limits}
 use Rattle.sim_values.specs.declared.value.FrameRef.{FrameRef}
 use Rattle.sim_code.specs.declared.stage.Stage.{Stage}
@@ -46,12 +46,12 @@ long_replicate : (n : ℕ) → length (replicate n empty_slot) ≡ n
 long_replicate zero = refl
 long_replicate (suc n) = ap suc (long_replicate n)
 
-pub first_activation : (number count region entry room : ℕ) (stage : Stage) (stack : List Slot) → number ≡ count → stack ≡ replicate room empty_slot →
-    activation_at (record { home = record { frame = region; stamp = number }; pc = entry; depth = 0; stage = stage }) stack ≡ record { thunk = false; home = count; pc = entry; stack = []; room = room; stage = stage }
-first_activation number count region entry room stage stack e s =
-    ap (λ h. act h entry (values_of 0 stack) (length stack) stage) e
-    ∙ ap (λ v. act count entry v (length stack) stage) (values_none stack)
-    ∙ ap (λ n. act count entry [] n stage) (ap length s ∙ long_replicate room)
+pub first_activation : (thunk : Option ℕ) (number count region entry room : ℕ) (stage : Stage) (stack : List Slot) → number ≡ count → stack ≡ replicate room empty_slot →
+    activation_at (record { thunk = thunk; home = record { frame = region; stamp = number }; pc = entry; depth = 0; stage = stage }) stack ≡ record { thunk = thunk; home = count; pc = entry; stack = []; room = room; stage = stage }
+first_activation thunk number count region entry room stage stack e s =
+    ap (λ h. act thunk h entry (values_of 0 stack) (length stack) stage) e
+    ∙ ap (λ v. act thunk count entry v (length stack) stage) (values_none stack)
+    ∙ ap (λ n. act thunk count entry [] n stage) (ap length s ∙ long_replicate room)
 
 module _ (l : Limits) (p p2 : Storage) (k : ℕ) (b : BlockOf) (g : Beginning) (parent : Option FrameRef) (t : working.Activation) (before : Option (List ℕ)) (now : Outside) (o : World) (m : Frames) (s : Stores l p before now o m) where
   pub opens : p2.arrays ≡ p.arrays → p2.texts ≡ p.texts → p2.image ≡ p.image → p2.members ≡ p.members → p2.simulations ≡ p.simulations → p2.ticks ≡ p.ticks → p2.words ≡ p.words → p2.entered ≡ p.entered + 1 →
@@ -59,7 +59,7 @@ module _ (l : Limits) (p p2 : Storage) (k : ℕ) (b : BlockOf) (g : Beginning) (
       Holds p2.frames.items p2.cells.items (opened m k b g parent) → ((r : FrameRef) → Leads p.frames.items m r → Leads p2.frames.items (opened m k b g parent) r) →
       AllLeadArrays p.arrays.regions o.arrays p2.cells.items →
       Leads p2.frames.items (opened m k b g parent) t.registers.home → AllLead p2.frames.items (opened m k b g parent) t.stack.items → AllLeadArrays p.arrays.regions o.arrays t.stack.items →
-      activation_of t ≡ record { thunk = false; home = length m.instances; pc = g.start; stack = []; room = b.room; stage = g.stage } → Opens l p p2 k b g parent t before now o m
+      activation_of t ≡ record { thunk = None; home = length m.instances; pc = g.start; stack = []; room = b.room; stage = g.stage } → Opens l p p2 k b g parent t before now o m
   opens ea et ei eb es ek ew en each same before_kept h leads cells home slots arrays top =
       let works : (r : Registers) (stack : List Slot) → Works p.frames.items m p.arrays.regions o.arrays r stack → Works p2.frames.items (opened m k b g parent) p2.arrays.regions o.arrays r stack = λ r stack w.
       subst (λ a. Works p2.frames.items (opened m k b g parent) a.regions o.arrays r stack) (sym ea)
@@ -91,7 +91,7 @@ module _ (l : Limits) (p p2 : Storage) (k : ℕ) (b : BlockOf) (g : Beginning) (
       AllLeadArrays p.arrays.regions o.arrays cs →
       Leads fs (opened m k b g parent) t.registers.home → AllLead fs (opened m k b g parent) t.stack.items → AllLeadArrays p.arrays.regions o.arrays t.stack.items →
       length p2.parks.items ≡ length fs → ((at : ℕ) → parked p2.parks.items at ≡ parked p.parks.items at) → KeptBefore p.frames.items fs →
-      activation_of t ≡ record { thunk = false; home = length m.instances; pc = g.start; stack = []; room = b.room; stage = g.stage } → Opens l p p2 k b g parent t before now o m
+      activation_of t ≡ record { thunk = None; home = length m.instances; pc = g.start; stack = []; room = b.room; stage = g.stage } → Opens l p p2 k b g parent t before now o m
   opens_from fs cs ef ec ea et ei eb es ek ew en h leads cells home slots arrays each same before_kept top =
       opens ea et ei eb es ek ew en
       (each ∙ ap (λ f. length f) (sym ef)) same (subst (λ f. KeptBefore p.frames.items f) (sym ef) before_kept)

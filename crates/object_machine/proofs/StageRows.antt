@@ -16,6 +16,7 @@ use Rattle.frame_arena.specs.declared.slot.Slot.{Slot}
 use Rattle.object_machine.specs.declared.levels.Part.{Part}
 use Rattle.object_machine.specs.declared.levels.Part.TheVariants as part
 use Rattle.object_machine.specs.declared.machine.Registers.{Registers}
+use Rattle.object_machine.specs.Keeping.{owner_at}
 use Rattle.object_machine.specs.Levelling.{index_in}
 use Rattle.object_machine.specs.Standing.{activation_at}
 
@@ -31,15 +32,23 @@ index_is z n o go e = ap (λ q. having q o go) (sym e)
 module _ (code : CodeOf) (m : Frames) (r : Registers) (stack : List Slot) (s : Stage) (o : World) (go : List ℕ → Run Machine) where
   pub stage_wrong : same_stage r.stage s ≡ false → own_levels code m (activation_at r stack) s o go ≡ no_rule o
   unfolding own_levels when
-  stage_wrong e = ap (λ b. when b o (having (Some r.home.stamp) o (λ j. having (levels_in code (class_of code m j)) o go))) e
+  stage_wrong e = ap (λ b. when b o (having (owner_at r) o (λ j. having (levels_in code (class_of code m j)) o go))) e
 
-  pub levels_missing : same_stage r.stage s ≡ true → levels_in code (class_of code m r.home.stamp) ≡ None → own_levels code m (activation_at r stack) s o go ≡ no_rule o
-  unfolding own_levels when having
-  levels_missing e h = ap (λ b. when b o (having (Some r.home.stamp) o (λ j. having (levels_in code (class_of code m j)) o go))) e ∙ ap (λ q. having q o go) h
+  owned_at : same_stage r.stage s ≡ true → (q : Option ℕ) → owner_at r ≡ q → own_levels code m (activation_at r stack) s o go ≡ having q o (λ j. having (levels_in code (class_of code m j)) o go)
+  unfolding own_levels when
+  owned_at e q owned = ap (λ b. when b o (having (owner_at r) o (λ j. having (levels_in code (class_of code m j)) o go))) e ∙ ap (λ q. having q o (λ j. having (levels_in code (class_of code m j)) o go)) owned
 
-  pub levels_found : (cs : List ℕ) → same_stage r.stage s ≡ true → levels_in code (class_of code m r.home.stamp) ≡ Some cs → own_levels code m (activation_at r stack) s o go ≡ go cs
-  unfolding own_levels when having
-  levels_found cs e h = ap (λ b. when b o (having (Some r.home.stamp) o (λ j. having (levels_in code (class_of code m j)) o go))) e ∙ ap (λ q. having q o go) h
+  pub levels_of_thunk : same_stage r.stage s ≡ true → owner_at r ≡ None → own_levels code m (activation_at r stack) s o go ≡ no_rule o
+  unfolding having
+  levels_of_thunk e owned = owned_at e None owned
+
+  pub levels_missing : same_stage r.stage s ≡ true → owner_at r ≡ Some r.home.stamp → levels_in code (class_of code m r.home.stamp) ≡ None → own_levels code m (activation_at r stack) s o go ≡ no_rule o
+  unfolding having
+  levels_missing e owned h = owned_at e (Some r.home.stamp) owned ∙ ap (λ q. having q o go) h
+
+  pub levels_found : (cs : List ℕ) → same_stage r.stage s ≡ true → owner_at r ≡ Some r.home.stamp → levels_in code (class_of code m r.home.stamp) ≡ Some cs → own_levels code m (activation_at r stack) s o go ≡ go cs
+  unfolding having
+  levels_found cs e owned h = owned_at e (Some r.home.stamp) owned ∙ ap (λ q. having q o go) h
 
 pub leads_nowhere : (code : CodeOf) (q : ℕ) (o : World) (go : Run Machine) → slice_get code.instrs q ≡ None → leading code q o go ≡ no_rule o
 unfolding leading having

@@ -1,10 +1,10 @@
 -- Transfers of control: what the rows do.
 use Rattle.std.proofs.Common.{◌≡◌, ℕ, List, [], ◌∷◌, ◌++◌, map, set, sym, refl, ap, ◌∙◌, eq-eqb}
-use Rattle.std.specs.Prelude.{Bool, true, false, ◌==◌, ◌||◌, if◌then◌else◌, Option, Some, None, slice_get}
+use Rattle.std.specs.Prelude.{Bool, true, false, ◌||◌, if◌then◌else◌, Option, Some, None, slice_get}
 use Rattle.std.specs.Option.{option_map}
 use Rattle.sim_base.specs.declared.run_error.RunError.TheVariants.{ComponentIsAttached, ComponentIsResumed, ComponentIsTerminated, NoneIsNoComponent, ObjectNotOperating, ResumedIsAttached, SystemNotOperating}
 use Rattle.sim_values.specs.Plain.{Plain, Integer, Truth, Character, Text, Object, MainOf, Nothing}
-use Rattle.sim_chains.specs.Chains.{Cut, cut_at, outermost, stands_on, under, upper}
+use Rattle.sim_chains.specs.Chains.{Cut, cut_at, is_instance, outermost, stands_on, under, upper}
 use Rattle.sim_chains.specs.Components.{AttachedObject, Components, DetachedObject, NoObject, ResumedObject, Standing, TerminatedObject, call_by, detach_by, give_up_at, kept, kept_as, kept_by, leave_at, main_at, main_by, resume_at, resume_by}
 use Rattle.sim_code.specs.Events.{computing, having, no_rule, pop_plain, popping, stopping}
 use Rattle.sim_code.specs.Instances.{going_below, system_head}
@@ -196,18 +196,18 @@ Cut_if t ts above here = if here then Some (record { above = []; here = activati
 pub no_cut : (j : ℕ) (ts : List working.Activation) → stands_on frame_of j ts ≡ false → cut_at owner j (map activation_of ts) ≡ None
 no_cut j [] e = refl
 no_cut j (t ∷ ts) e =
-    let n = neither (t.registers.home.stamp == j) (stands_on frame_of j ts) e in
+    let n = neither (is_instance j (frame_of t)) (stands_on frame_of j ts) e in
     ap (λ b. Cut_if t ts (cut_at owner j (map activation_of ts)) b) n.0 ∙ ap (λ q. option_map (under (activation_of t)) q) (no_cut j ts n.1)
 
-pub cut_here : (j : ℕ) (above : List working.Activation) (here : working.Activation) (rest : List working.Activation) → here.registers.home.stamp ≡ j → stands_on frame_of j above ≡ false →
+pub cut_here : (j : ℕ) (above : List working.Activation) (here : working.Activation) (rest : List working.Activation) → frame_of here ≡ Some j → stands_on frame_of j above ≡ false →
     cut_at owner j (map activation_of (above ++ here ∷ rest)) ≡ Some (record { above = map activation_of above; here = activation_of here; below = map activation_of rest })
-cut_here j [] here rest own e = ap (λ b. Cut_if here rest (cut_at owner j (map activation_of rest)) b) (eq-eqb here.registers.home.stamp j own)
+cut_here j [] here rest own e = ap (λ b. Cut_if here rest (cut_at owner j (map activation_of rest)) b) (ap (is_instance j) own ∙ eq-eqb j j refl)
 cut_here j (t ∷ ts) here rest own e =
-    let n = neither (t.registers.home.stamp == j) (stands_on frame_of j ts) e in
+    let n = neither (is_instance j (frame_of t)) (stands_on frame_of j ts) e in
     ap (λ b. Cut_if t (ts ++ here ∷ rest) (cut_at owner j (map activation_of (ts ++ here ∷ rest))) b) n.0 ∙ ap (λ q. option_map (under (activation_of t)) q) (cut_here j ts here rest own n.1)
 
 -- an instance that stands on a chain cuts it somewhere
-stands_cut : (j : ℕ) (t : working.Activation) (ts : List working.Activation) (b : Bool) (rest : (stands_on frame_of j ts ≡ true) → (k : Cut Activation) × (cut_at owner j (map activation_of ts) ≡ Some k)) → (t.registers.home.stamp == j) ≡ b → (b || stands_on frame_of j ts) ≡ true →
+stands_cut : (j : ℕ) (t : working.Activation) (ts : List working.Activation) (b : Bool) (rest : (stands_on frame_of j ts ≡ true) → (k : Cut Activation) × (cut_at owner j (map activation_of ts) ≡ Some k)) → (is_instance j (frame_of t)) ≡ b → (b || stands_on frame_of j ts) ≡ true →
     (k : Cut Activation) × (cut_at owner j (map activation_of (t ∷ ts)) ≡ Some k)
 stands_cut j t ts true rest e h = (record { above = []; here = activation_of t; below = map activation_of ts }, ap (λ b. Cut_if t ts (cut_at owner j (map activation_of ts)) b) e)
 stands_cut j t ts false rest e h =
@@ -216,4 +216,4 @@ stands_cut j t ts false rest e h =
 
 pub some_cut : (j : ℕ) (ts : List working.Activation) → stands_on frame_of j ts ≡ true → (k : Cut Activation) × (cut_at owner j (map activation_of ts) ≡ Some k)
 some_cut j [] h = absurd (cc)
-some_cut j (t ∷ ts) h = stands_cut j t ts (t.registers.home.stamp == j) (λ e. some_cut j ts e) refl h
+some_cut j (t ∷ ts) h = stands_cut j t ts (is_instance j (frame_of t)) (λ e. some_cut j ts e) refl h

@@ -27,7 +27,7 @@ opened_with m k b g parent cells =
 -- A new frame with these cells stands in the parts, is at work, and all that was at work is so still.
 pub record OpensWith (l : Limits) (p p2 : Storage) (k : ℕ) (b : BlockOf) (g : Beginning) (parent : Option FrameRef) (cells : Cells) (t : working.Activation) (before : Option (List ℕ)) (now : Outside) (o o2 : World) (m : Frames) : Type 0 where
   pub stores : Stores l p2 before now o2 (opened_with m k b g parent cells)
-  pub top : activation_of t ≡ record { thunk = false; home = length m.instances; pc = g.start; stack = []; room = b.room; stage = g.stage }
+  pub top : activation_of t ≡ record { thunk = None; home = length m.instances; pc = g.start; stack = []; room = b.room; stage = g.stage }
   pub works : AtWork p2 o2 (opened_with m k b g parent cells) t.registers t.stack.items
   pub others : (r : Registers) (stack : List Slot) → AtWork p o m r stack → AtWork p2 o2 (opened_with m k b g parent cells) r stack
 

@@ -50,6 +50,6 @@ opened m k b g parent =
 -- A new frame stands in the parts, is at work, and all that was at work is so still.
 pub record Opens (l : Limits) (p p2 : Storage) (k : ℕ) (b : BlockOf) (g : Beginning) (parent : Option FrameRef) (t : working.Activation) (before : Option (List ℕ)) (now : Outside) (o : World) (m : Frames) : Type 0 where
   pub stores : Stores l p2 before now o (opened m k b g parent)
-  pub top : activation_of t ≡ record { thunk = false; home = length m.instances; pc = g.start; stack = []; room = b.room; stage = g.stage }
+  pub top : activation_of t ≡ record { thunk = None; home = length m.instances; pc = g.start; stack = []; room = b.room; stage = g.stage }
   pub works : AtWork p2 o (opened m k b g parent) t.registers t.stack.items
   pub others : (r : Registers) (stack : List Slot) → AtWork p o m r stack → AtWork p2 o (opened m k b g parent) r stack

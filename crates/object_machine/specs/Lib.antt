@@ -27,5 +27,6 @@ pub mod Matching
 pub mod Parameters
 pub mod Generating
 pub mod Preparing
-pub mod Transferring
 pub mod Keeping
+pub mod Transferring
+pub mod Thunking

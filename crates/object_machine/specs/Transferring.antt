@@ -13,20 +13,21 @@ use Rattle.object_machine.specs.declared.machine.Flow.{Flow}
 use Rattle.object_machine.specs.declared.machine.Flow.TheVariants as flow
 use Rattle.object_machine.specs.declared.machine.Registers.{Registers}
 use Rattle.object_machine.specs.declared.machine.Storage.{Storage}
+use Rattle.object_machine.specs.Keeping.{owner_at}
 use Rattle.object_machine.specs.Standing.{AtWork, Outside, Stores}
 
 -- the operating chain, the innermost first
 abbrev pub operating : (top : working.Activation) → (below : List working.Activation) → List working.Activation
 operating top below = top ∷ reverse below
 
--- the frame whose activation it is
+-- the frame whose activation it is: a thunk is that of none
 abbrev pub frame_of : working.Activation → Option ℕ
-frame_of t = Some t.registers.home.stamp
+frame_of t = owner_at t.registers
 
 -- A chain is cut above the first activation of an instance, which is the top of what is left.
 pub record CutsAt (instance : ℕ) (chain above : List working.Activation) (top : working.Activation) (below : List working.Activation) : Type 0 where
   pub whole : chain ≡ above ++ operating top below
-  pub own : top.registers.home.stamp ≡ instance
+  pub own : frame_of top ≡ Some instance
   pub first : stands_on frame_of instance above ≡ false
 
 -- a chain that ends with the first activation of an object
@@ -34,7 +35,7 @@ pub record EndsAt (object : ℕ) (chain : List working.Activation) : Type 0 wher
   pub above : List working.Activation
   pub here : working.Activation
   pub is : chain ≡ above ++ here ∷ []
-  pub own : here.registers.home.stamp ≡ object
+  pub own : frame_of here ≡ Some object
   pub first : stands_on frame_of object above ≡ false
 
 -- An object leaves a chain: what it keeps, and what operates then. Where nothing is below it there is no rule.

@@ -11,7 +11,7 @@ ghost use Rattle.frame_arena.specs.Slots.{value_of};
 ghost use Rattle.frame_arena.specs.Stacks.{values_from, values_of};
 ghost use Rattle.object_machine.specs.Calling.{Filled, Fills, IsParent, Supplied, called, cells_set_from, with_actuals};
 ghost use Rattle.object_machine.specs.Entering.{Opens};
-ghost use Rattle.object_machine.specs.Keeping.{KeptIn};
+ghost use Rattle.object_machine.specs.Keeping.{KeptIn, owner_at};
 ghost use Rattle.object_machine.specs.declared.openings.Beginning.{Beginning};
 ghost use Rattle.object_machine.specs.Standing.{AllAtWork, AllFit, AtWork, Leaves, Obeys, Outside, activation_at, below_of};
 ghost use Rattle.sim_values.specs.declared.value.FrameRef.{FrameRef as Reference};
@@ -273,13 +273,13 @@ fn keep_for(
     ensures image { storage.new.image ≡ storage.old.image }
     ensures same { storage.new ≡ record (storage.old) { frames = storage.new.frames } }
     ensures stacks { rooms storage.new.frames.items ≡ rooms storage.old.frames.items }
-    ensures row { result ≡ true → (cells : List Slot) (m : Frames) (a : ActivationOf) → owner a ≡ Some top.now.registers.home.stamp → Holds storage.old.frames.items cells m →
+    ensures row { result ≡ true → (cells : List Slot) (m : Frames) (a : ActivationOf) → owner a ≡ owner_at top.now.registers → Holds storage.old.frames.items cells m →
         KeptIn storage.old.frames.items storage.new.frames.items cells m (frames_kept block.now (a ∷ below_of below.now) m) }
 {
     if block.class_free || !holds_one(&block.formals) {
         return true;
     }
-    keep_frames(&mut storage.frames, top.registers.home, below)
+    keep_frames(&mut storage.frames, top.registers, below)
 }
 
 /// Enters the block of a procedure with actual parameters. Where it has to keep the frames on the chain and one of them is not there, to which

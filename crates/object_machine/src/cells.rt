@@ -58,7 +58,7 @@ pub fn link(frames: &[Frame], stack: &mut [Slot], regs: &mut Registers, level: i
 
 /// The span of the frame of a level. `own` is that of some frame.
 #[inline(always)]
-fn level_span(frames: &[Frame], own: Span, home: FrameRef, operand: i64) -> Option<Span>
+pub fn level_span(frames: &[Frame], own: Span, home: FrameRef, operand: i64) -> Option<Span>
     requires own { IsSpan frames.now own }
     ensures span { IfSome result (λ s. IsSpan frames.now s) }
     ensures row { (cells : List Slot) (m : Frames) (a : ActivationOf) (o : World) (go : ℕ → Run Machine) → Holds frames.now cells m → Leads frames.now m home → a.home ≡ home.stamp →

@@ -1,24 +1,36 @@
 //! The operating chain: where it is cut, and what goes on top of it.
 ghost use Rattle.std.specs.Prelude.{◌≡◌, ℕ, ◌≤◌, [], List, length, true, false};
-ghost use Rattle.sim_chains.specs.Chains.{stands_on as stands_on_chain};
+ghost use Rattle.sim_chains.specs.Chains.{is_instance, stands_on as stands_on_chain};
 ghost use Rattle.object_machine.specs.declared.machine.Activation.{Activation as Working};
 ghost use Rattle.object_machine.specs.Standing.{AllFit};
 ghost use Rattle.object_machine.specs.Transferring.{CutsAt, JoinsChain, LeavesChain, frame_of, operating};
 
 use crate::machine::{Activation, Flow};
+use crate::owners::is_thunk;
 use std::mem;
+
+// Whether an activation is that of an instance, and no thunk.
+#[inline(always)]
+fn is_frame_of(activation: &Activation, instance: u64) -> bool
+    ensures { result ≡ is_instance instance (frame_of activation.now) }
+{
+    if is_thunk(&activation.registers) {
+        return false;
+    }
+    activation.registers.home.stamp == instance
+}
 
 /// Whether an instance stands on the operating chain, looked for from the top down.
 pub fn stands_on(instance: u64, top: &Activation, below: &[Activation]) -> bool
     ensures { result ≡ stands_on_chain frame_of instance (operating top.now below.now) }
 {
-    if top.registers.home.stamp == instance {
+    if is_frame_of(top, instance) {
         return true;
     }
     let mut at = below.len();
     while at > 0 {
         at -= 1;
-        if below[at].registers.home.stamp == instance {
+        if is_frame_of(&below[at], instance) {
             return true;
         }
     }
@@ -41,7 +53,7 @@ pub fn cut_above(
     ensures above { AllFit above.new.items }
     ensures cut { result ≡ true → CutsAt instance (operating top.old below.old.items) above.new.items top.new below.new.items }
 {
-    while top.registers.home.stamp != instance {
+    while !is_frame_of(top, instance) {
         let Some(next) = below.pop() else {
             return false;
         };
@@ -63,7 +75,7 @@ pub fn drop_above(instance: u64, top: &mut Activation, below: &mut Vec<Activatio
     ensures cut { result ≡ true → (above : List Working) × CutsAt instance (operating top.old below.old.items) above top.new below.new.items }
     ensures none { result ≡ false → stands_on_chain frame_of instance (operating top.old below.old.items) ≡ false }
 {
-    while top.registers.home.stamp != instance {
+    while !is_frame_of(top, instance) {
         let Some(next) = below.pop() else {
             return false;
         };

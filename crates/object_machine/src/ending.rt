@@ -90,6 +90,7 @@ pub fn answer<O: Sink>(limits: &Limits, storage: &mut Storage, out: &mut O, stop
             let line = stop.line;
             closed(storage, out, Ending::RunFault { error, line })
         }
+        Flow::FaultAt(error, line) => closed(storage, out, Ending::RunFault { error, line }),
         Flow::NoRule => without_rule(stop.at),
         Flow::Memory => Ending::Memory,
         Flow::InputFault => Ending::InputFault,

@@ -10,6 +10,7 @@ ghost use Rattle.object_machine.specs.Standing.{AllAtWork, AllFit, Outside, Stor
 ghost use Rattle.object_machine.specs.Transferring.{Anew};
 
 use crate::machine::{Activation, Storage};
+use crate::owners::is_thunk;
 use frame_arena::frames::{self, Component};
 use std::alloc::Global;
 use std::mem;
@@ -86,7 +87,7 @@ pub fn keep_chain(storage: &mut Storage, place: usize, component: Component, cha
     frames::stand(&mut storage.frames, place, component);
 }
 
-/// A chain is kept by the object that is the outermost on it, and detached then. It answers whether the frame of that one was found:
+/// A chain is kept by the object that is the outermost on it, and detached then; a thunk keeps none. It answers whether the frame of that one was found:
 /// no run comes to one that was given back.
 pub fn keep_by_object(storage: &mut Storage, chain: Vec<Activation>) -> bool
     requires fits { AllFit chain.items }
@@ -99,8 +100,11 @@ pub fn keep_by_object(storage: &mut Storage, chain: Vec<Activation>) -> bool
     if chain.len() == 0 {
         return true;
     }
-    let object = chain[chain.len() - 1].registers.home;
-    let Some(place) = frames::find(&storage.frames, object) else {
+    let outermost = chain[chain.len() - 1].registers;
+    if is_thunk(&outermost) {
+        return true;
+    }
+    let Some(place) = frames::find(&storage.frames, outermost.home) else {
         return false;
     };
     keep_chain(storage, place, Component::Detached, chain);

@@ -20,6 +20,7 @@ use crate::constants::index;
 use crate::finishing::{end_attached, end_resumed};
 use crate::levels::Part;
 use crate::machine::{Activation, Flow, Registers, Storage};
+use crate::owners::is_thunk;
 use crate::stages::{end_inner_level, reached};
 use frame_arena::frames::{self, Component, Frame};
 use frame_arena::{Slot, stack};
@@ -101,6 +102,7 @@ fn put(stack: &mut [Slot], regs: &mut Registers, value: Option<Slot>) -> bool
     ensures fits { regs.new.depth ≤ length stack.new }
     ensures home { regs.new.home ≡ regs.old.home }
     ensures stage { regs.new.stage ≡ regs.old.stage }
+    ensures thunk { regs.new.thunk ≡ regs.old.thunk }
     ensures place { regs.new.pc ≡ regs.old.pc }
     ensures long { length stack.new ≡ length stack.old }
     ensures leads { (frames : List Frame) (m : Frames) (regions : List RegionOf) (arrays : List ArrayOf) → AllLead frames m stack.old → ValueLeads frames m regions arrays value → AllLead frames m stack.new }
@@ -193,6 +195,9 @@ pub fn leave(
     ensures row { (code : CodeOf) (l : LimitsOf) (line : ℕ) (now : Outside) → code.blocks ≡ blocks.now →
         Obeys result l line (λ o m a b. own_block_of code BlockKind.SubBlock m a o (λ x. leaving x b None a.home o m)) storage.old storage.new top.old.registers top.new.registers top.old.stack.items top.new.stack.items below.old.items below.new.items now now }
 {
+    if is_thunk(&top.registers) {
+        return Flow::NoRule;
+    }
     let home = top.registers.home;
     let Some(place) = frames::find(&storage.frames, home) else {
         return Flow::Memory;
@@ -221,6 +226,9 @@ pub fn give_result(
     ensures row { (code : CodeOf) (l : LimitsOf) (line : ℕ) (now : Outside) → code.blocks ≡ blocks.now →
         Obeys result l line (λ o m a b. own_block_of code BlockKind.Procedure m a o (λ x. with_result x m a.home o (λ v. leaving x b v a.home o m))) storage.old storage.new top.old.registers top.new.registers top.old.stack.items top.new.stack.items below.old.items below.new.items now now }
 {
+    if is_thunk(&top.registers) {
+        return Flow::NoRule;
+    }
     let home = top.registers.home;
     let Some(place) = frames::find(&storage.frames, home) else {
         return Flow::Memory;
@@ -332,6 +340,9 @@ pub fn end_level(
             &mut top.registers,
             level,
         );
+    }
+    if is_thunk(&top.registers) {
+        return Flow::NoRule;
     }
     let Some(place) = frames::find(&storage.frames, top.registers.home) else {
         return Flow::Memory;

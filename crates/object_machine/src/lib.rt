@@ -32,6 +32,7 @@ mod names;
 mod objects;
 mod openings;
 mod operands;
+mod owners;
 mod pairs;
 mod parameters;
 mod paying;
@@ -51,6 +52,7 @@ mod stepping;
 mod steps;
 mod stretching;
 mod texts;
+mod thunks;
 mod transfers;
 mod virtuals;
 

@@ -4,7 +4,7 @@ use crate::simulated::Simulated;
 use basic_io::{InImage, OutImage};
 use frame_arena::frames::Frame;
 use frame_arena::{Arrays, Slot};
-use sim_base::RunError;
+use sim_base::{Line, RunError};
 use sim_code::Stage;
 use sim_values::FrameRef;
 use simset::Rings;
@@ -15,8 +15,10 @@ use text_objects::Texts;
 pub struct Registers {
     /// The index of its next instruction.
     pub pc: usize,
-    /// The frame.
+    /// The frame, or that for which the thunk is run.
     pub home: FrameRef,
+    /// The thunk that is at work.
+    pub thunk: Option<u32>,
     /// How many values are in its operand stack.
     pub depth: usize,
     /// Which of its levels is under way.
@@ -100,6 +102,8 @@ pub enum Flow {
     Exhausted,
     /// A run-time error.
     Fault(RunError),
+    /// A run-time error of another instruction, with the line of that.
+    FaultAt(RunError, Line),
     /// Want of memory.
     Memory,
     /// The output failed.

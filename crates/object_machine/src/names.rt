@@ -62,6 +62,7 @@ fn settle_performed(
     ensures next { Advances result regs.old regs.new }
     ensures home { regs.new.home ≡ regs.old.home }
     ensures stage { regs.new.stage ≡ regs.old.stage }
+    ensures thunk { regs.new.thunk ≡ regs.old.thunk }
     ensures settled { Settles performed result address storage.old storage.new regs.old regs.new }
 {
     match performed {
@@ -101,6 +102,7 @@ fn settle_scan(
     ensures next { Advances result regs.old regs.new }
     ensures home { regs.new.home ≡ regs.old.home }
     ensures stage { regs.new.stage ≡ regs.old.stage }
+    ensures thunk { regs.new.thunk ≡ regs.old.thunk }
     ensures settled { Settles performed result address storage.old storage.new regs.old regs.new }
 {
     match performed {
@@ -120,6 +122,7 @@ fn follow(regs: &mut Registers, placing: Placing, depth: usize) -> Flow
     ensures next { Advances result regs.old regs.new }
     ensures home { regs.new.home ≡ regs.old.home }
     ensures stage { regs.new.stage ≡ regs.old.stage }
+    ensures thunk { regs.new.thunk ≡ regs.old.thunk }
     ensures follows { Follows placing result depth regs.old regs.new }
 {
     match placing {
@@ -183,6 +186,7 @@ fn whole_standard(
     ensures next { Advances result regs.old regs.new }
     ensures home { regs.new.home ≡ regs.old.home }
     ensures stage { regs.new.stage ≡ regs.old.stage }
+    ensures thunk { regs.new.thunk ≡ regs.old.thunk }
     ensures row { (line : ℕ) (below : List Activation) (now : Outside) →
         Obeys result limits.now line (λ o m a b. named limits.now line name o m a b) storage.old storage.new regs.old regs.new stack.old stack.new below below now now }
 {
@@ -225,6 +229,7 @@ fn whole_apart(
 {
     let mut apart = Registers {
         home: regs.home,
+        thunk: regs.thunk,
         pc: regs.pc,
         depth: regs.depth,
         stage: regs.stage,

@@ -308,7 +308,7 @@ fn without_class(slot: Slot) -> Slot
 
 // Whether a value may be put where an address with this class leads.
 #[inline(always)]
-fn admit(
+pub fn admit(
     frames: &[Frame],
     blocks: &[BlockRecord],
     classes: &[ClassRecord],

@@ -81,6 +81,14 @@ fn reserve(
     add_region(frames, cells, &mut stacks, count, 0)
 }
 
+/// A new operand stack with no value.
+#[inline(always)]
+pub fn new_stack(alloc: Global, room: usize) -> Result<Vec<Slot>, AllocError>
+    ensures { IfOk result (λ v. v.items ≡ replicate room empty_slot) }
+{
+    vec![in alloc; EMPTY; room]
+}
+
 // An operand stack with no value: the one that is to spare in a region, where it has the room, or a new one.
 #[inline(always)]
 fn take_stack(
@@ -98,7 +106,7 @@ fn take_stack(
             return Ok(stack);
         }
     }
-    vec![in alloc; EMPTY; room]
+    new_stack(alloc, room)
 }
 
 // The cells of a free region get their first values.
@@ -206,6 +214,7 @@ pub fn open(
                 frame: region,
                 stamp: entry.number,
             },
+            thunk: None,
             pc: beginning.start,
             depth: 0,
             stage: beginning.stage,

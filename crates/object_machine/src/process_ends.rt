@@ -1,5 +1,5 @@
 //! Processes that come to their end.
-ghost use Rattle.std.specs.Prelude.{◌≡◌, List, Some};
+ghost use Rattle.std.specs.Prelude.{◌≡◌, List};
 ghost use Rattle.sim_code.specs.Classes.{is_marked, process_mark};
 ghost use Rattle.sim_code.specs.Code.{CodeOf};
 ghost use Rattle.sim_code.specs.Levels.{ending_process, frame_if};
@@ -8,6 +8,7 @@ ghost use Rattle.sim_code.specs.Simulations.{with_ended};
 ghost use Rattle.frame_arena.specs.declared.slot.Slot.{Slot as SlotOf};
 ghost use Rattle.frame_arena.specs.Frames.{Holds, Leads};
 ghost use Rattle.object_machine.specs.Enrolling.{Rises, stamps};
+ghost use Rattle.object_machine.specs.Keeping.{owner_at};
 ghost use Rattle.object_machine.specs.Rescheduling.{Ends};
 ghost use Rattle.object_machine.specs.Simulating.{simulation_of};
 ghost use Rattle.object_machine.specs.Standing.{activation_at};
@@ -16,6 +17,7 @@ use crate::levels::{class_of_level, own_levels};
 use crate::machine::Registers;
 use crate::marks::{PROCESS, is_marked_block};
 use crate::members::place_of;
+use crate::owners::is_thunk;
 use crate::simulated::Simulated;
 use frame_arena::frames::Frame;
 use sim_code::{BlockRecord, ClassRecord, Stage};
@@ -41,7 +43,7 @@ fn ends_process(
     regs: &Registers,
 ) -> bool
     ensures row { (code : CodeOf) (cells : List SlotOf) (m : Frames) (stack : List SlotOf) → code.blocks ≡ blocks.now → code.classes ≡ classes.now → Holds frames.now cells m → Leads frames.now m regs.now.home →
-        ending_process code m (activation_at regs.now stack) ≡ frame_if result (Some regs.now.home.stamp) }
+        ending_process code m (activation_at regs.now stack) ≡ frame_if result (owner_at regs.now) }
 {
     match regs.stage {
         Stage::Behind(level) => {
@@ -67,6 +69,9 @@ pub fn ending_object(
     ensures row { (code : CodeOf) (cells : List SlotOf) (m : Frames) (stack : List SlotOf) → code.blocks ≡ blocks.now → code.classes ≡ classes.now → Holds frames.now cells m → Leads frames.now m regs.now.home →
         ending_process code m (activation_at regs.now stack) ≡ result }
 {
+    if is_thunk(regs) {
+        return None;
+    }
     if ends_process(frames, blocks, classes, regs) {
         return Some(regs.home.stamp);
     }

@@ -191,10 +191,6 @@ pub fn obey_other(
         Instr::ProcVal(_) => no_rule(),
         Instr::Virt(number) => { find_match(&storage.frames, blocks, classes, stack, regs, number) }
         Instr::Param { .. } => no_rule(),
-        Instr::Thunk(_) => no_rule(),
-        Instr::NameVal { .. } => no_rule(),
-        Instr::NameAddr { .. } => no_rule(),
-        Instr::EndThunk => no_rule(),
         Instr::NotNone => not_none(stack, regs),
         _ => not_built(),
     }

@@ -53,6 +53,7 @@ pub fn run<I: Source, O: Sink>(
                 &code.texts,
                 &code.classes,
                 &code.actual_lists,
+                &code.thunks,
                 limits,
                 &mut storage,
                 input,

@@ -16,6 +16,7 @@ ghost use Rattle.object_machine.specs.Standing.{Obeys, Outside};
 use crate::constants::index;
 use crate::levels::{Levels, Part, own_levels, part_of_level};
 use crate::machine::{Flow, Registers};
+use crate::owners::is_thunk;
 use frame_arena::frames::Frame;
 use sim_code::{BlockRecord, ClassRecord, Lined, Stage};
 
@@ -72,6 +73,9 @@ fn under_way(
     let Some(short) = reached(regs.stage, part, level) else {
         return None;
     };
+    if is_thunk(regs) {
+        return None;
+    }
     let Some(own) = own_levels(frames, blocks, classes, regs.home) else {
         return None;
     };

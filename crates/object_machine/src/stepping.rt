@@ -23,10 +23,11 @@ use crate::rows::obey_other;
 use crate::scheduling::schedule;
 use crate::stages::{inner, next_declarations};
 use crate::texts::constant;
+use crate::thunks::{end_thunk, push_thunk, use_name};
 use crate::transfers::{attach, detach, resume};
 use crate::virtuals::{call_value, check_actuals};
 use sim_base::{ByteString, Limits};
-use sim_code::{ActualList, BlockRecord, ClassRecord, Instr, Lined};
+use sim_code::{ActualList, BlockRecord, ClassRecord, Instr, Lined, ThunkRecord};
 use sim_ports::{Sink, Source};
 use std::alloc::Global;
 
@@ -54,6 +55,7 @@ pub fn step<I: Source, O: Sink>(
     constants: &[ByteString],
     classes: &[ClassRecord],
     lists: &[ActualList],
+    thunks: &[ThunkRecord],
     limits: &Limits,
     storage: &mut Storage,
     input: &mut I,
@@ -74,7 +76,7 @@ pub fn step<I: Source, O: Sink>(
     ensures read { InputEnds (I.faults input.old) (I.faults input.new) result }
     ensures takes { (s : List ℕ) → I.left input.old ≡ Some s → (code : CodeOf) (line : ℕ) →
         StepTakes limits.now (λ o m a b. row code limits.now o m a b line instr) storage.old top.old.registers top.old.stack.items below.old.items (outside (O.written out.old) s) input.old input.new }
-    ensures row { Onward (I.left input.old) (I.left input.new) (λ s t. Still result (O.written out.old) (O.written out.new) × ((code : CodeOf) (line : ℕ) → code.blocks ≡ blocks.now → code.instrs ≡ instrs.now → code.texts ≡ constants.now → code.classes ≡ classes.now → code.actual_lists ≡ lists.now →
+    ensures row { Onward (I.left input.old) (I.left input.new) (λ s t. Still result (O.written out.old) (O.written out.new) × ((code : CodeOf) (line : ℕ) → code.blocks ≡ blocks.now → code.instrs ≡ instrs.now → code.texts ≡ constants.now → code.classes ≡ classes.now → code.actual_lists ≡ lists.now → code.thunks ≡ thunks.now →
         Obeys result limits.now line (λ o m a b. row code limits.now o m a b line instr) storage.old storage.new top.old.registers top.new.registers top.old.stack.items top.new.stack.items below.old.items below.new.items (outside (O.written out.old) s) (outside (O.written out.new) t))) }
 {
     match instr {
@@ -121,6 +123,26 @@ pub fn step<I: Source, O: Sink>(
         }
         Instr::CallV(values) => {
             let flow = call_value(alloc, blocks, instrs, limits, storage, top, below, values);
+            without_ports(flow)
+        }
+        Instr::Thunk(number) => {
+            let flow = push_thunk(thunks, &mut top.stack, &mut top.registers, number);
+            without_ports(flow)
+        }
+        Instr::NameVal { level, cell, .. } => {
+            let flow = use_name(
+                alloc, instrs, thunks, limits, storage, top, below, level, cell,
+            );
+            without_ports(flow)
+        }
+        Instr::NameAddr { level, cell, .. } => {
+            let flow = use_name(
+                alloc, instrs, thunks, limits, storage, top, below, level, cell,
+            );
+            without_ports(flow)
+        }
+        Instr::EndThunk => {
+            let flow = end_thunk(blocks, instrs, classes, storage, top, below);
             without_ports(flow)
         }
         Instr::Leave => {

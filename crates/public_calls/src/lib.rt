@@ -7,6 +7,8 @@ mod adapters;
 #[cfg(test)]
 mod ample_memory;
 #[cfg(test)]
+mod code_commands;
+#[cfg(test)]
 mod limited_runs;
 #[cfg(test)]
 mod matches;

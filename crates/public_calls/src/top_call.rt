@@ -96,7 +96,7 @@ pub fn check(
 #[test]
 fn words(rt: HostRuntime) {
     let usage =
-        b"usage: simula run [--storage W] [--ticks N] [--in-length N] [--out-length N] FILE, check|print FILE\n".as_slice();
+        b"usage: simula run [--storage W] [--ticks N] [--in-length N] [--out-length N] FILE, check|compile|list|print FILE\n".as_slice();
     let unread = b"cannot read the file\n".as_slice();
     let rows = [
         ([].as_slice(), 5, b"".as_slice(), usage),
@@ -112,6 +112,8 @@ fn words(rt: HostRuntime) {
         ),
         (&["run", "--storage", "999", "source.sim"], 5, b"", usage),
         (&["print", "--storage=1000", "source.sim"], 5, b"", usage),
+        (&["compile", "--ticks=5", "source.sim"], 5, b"", usage),
+        (&["list"], 5, b"", usage),
         (&["run", "--", "--ticks=5", "source.sim"], 5, b"", usage),
         (&["check", "other.sim"], 6, b"", unread),
         (&["run", "source.sim"], 0, b"  42\n", b""),

@@ -24,6 +24,7 @@ use Rattle.sim_agree.proofs.Brought.{parts_get}
 use Rattle.sim_agree.proofs.BroughtFine as fine
 use Rattle.sim_agree.proofs.BroughtKnown.{Added, Lists, RowAdded, a_class, added, among_all, an_attribute, an_own, row_added}
 use Rattle.sim_agree.proofs.BroughtRows.{added_declarations, added_number, with_standard}
+use Rattle.sim_agree.proofs.ByNames.{ByNames, OfName, named_stay}
 use Rattle.sim_agree.proofs.Clean.{Clean, Counts, OwedAt, RowFor, WrittenFor, owed_below, owed_kept}
 use Rattle.sim_agree.proofs.Covered.{Covered, covered_stays}
 use Rattle.sim_agree.proofs.Fine.{Fine, Stack, owner_in, same_around, stack_kept}
@@ -48,6 +49,9 @@ module _ (p : StandardPrefix) (n next token level : ℕ) where
 
   pub added_no_reference : (i : ℕ) (row : Declaration) → Added p n next token level i row → OfReferences row.entry → ⊥
   added_no_reference = added_entry (λ e. OfReferences e → ⊥) (λ k p. p) (λ name given result p. p)
+
+  added_no_name : (i : ℕ) (row : Declaration) → Added p n next token level i row → OfName row.entry → ⊥
+  added_no_name = added_entry (λ e. OfName e → ⊥) (λ k p. p) (λ name given result p. p)
 
   pub added_no_parameter : (i : ℕ) (row : Declaration) → Added p n next token level i row → IsParameter row.entry → ⊥
   added_no_parameter = added_entry (λ e. IsParameter e → ⊥) (λ k p. p) (λ name given result p. p)
@@ -174,6 +178,13 @@ module _ (p : StandardPrefix) (front : Identifier) (spelt : Spells p front) (b :
       old : (d : ℕ) (row : Declaration) → OfReferences row.entry → Part d row → slice_get b.tables.declarations d ≡ Some row
       old d row refs (inl q) = q.1
       old d row refs (inr q) = absurd (added_no_reference p n (length b.tables.declarations) token r.level q.0 row q.2 refs)
+
+  pub standard_names : ByNames b ts → ByNames (with_standard p b n token (prefixed_by front r)) (ts ++ brought_texts p)
+  standard_names = named_stay b (with_standard p b n token (prefixed_by front r)) ts (ts ++ brought_texts p) (λ d row is named. old d row named (row_part d row is)) (λ m y is. (fine.keeps p front spelt b n token r last at ts x owed os g cur in_front m y is).1)
+    where
+      old : (d : ℕ) (row : Declaration) → OfName row.entry → Part d row → slice_get b.tables.declarations d ≡ Some row
+      old d row named (inl q) = q.1
+      old d row named (inr q) = absurd (added_no_name p n (length b.tables.declarations) token r.level q.0 row q.2 named)
 
   pub standard_owned : Owned b ts → Owned (with_standard p b n token (prefixed_by front r)) (ts ++ brought_texts p)
   standard_owned v m y is = go (parts_get ts (brought_texts p) m y is)

@@ -11,11 +11,12 @@ use Rattle.sim_base.specs.declared.rule.Rule.TheVariants as r
 use Rattle.sim_tree.specs.declared.expr.Identifier.{Identifier}
 use Rattle.sim_scope.specs.declared.scopes.Declaration.{Declaration}
 use Rattle.sim_scope.specs.declared.types.Entry.{Entry}
+use Rattle.sim_scope.specs.declared.types.Entry.TheVariants as entry
 use Rattle.sim_scope.specs.declared.types.FormalKind.{FormalKind}
-use Rattle.sim_scope.specs.declared.types.Mode.TheVariants as mode
+use Rattle.sim_scope.specs.declared.types.Mode.{Mode}
 use Rattle.sim_scope.specs.declared.types.SimType.{SimType}
 use Rattle.sim_scope.specs.declared.types.WrittenMode.{WrittenMode}
-use Rattle.sim_scope.specs.Building.{BuildingOf, Mark, broken, broken_if, changed, changed_row, declared, declared_again, declared_at, declared_inside, declared_new, declared_twice, entered, headed, holding_class, in_class, inner, inner_at, inner_in, is_match, is_procedure, marked, matched, mode_allowed, moded, moded_as, qualified, specified, specified_as, token_in, unspecified_in, with_entry, with_mode, with_name, prefixed_by, guards, guards_at, protecting}
+use Rattle.sim_scope.specs.Building.{BuildingOf, Mark, broken, broken_if, changed, changed_row, declared, declared_again, declared_at, declared_inside, declared_new, declared_twice, entered, headed, holding_class, in_class, inner, inner_at, inner_in, is_match, is_procedure, marked, matched, mode_allowed, moded, moded_as, qualified, specified, specified_as, token_in, unspecified_in, with_entry, with_mode, with_name, prefixed_by, guards, guards_at, protecting, is_by_name}
 use Rattle.sim_scope.specs.Runs.{run}
 use Rattle.sim_scope.specs.Scopes.{declared_in, entry_of}
 use Rattle.sim_scope.specs.Tables.{BlockOf}
@@ -148,14 +149,18 @@ entered_calm b d e (Some row) = record { current = refl; size = refl; places = r
 entry_calm : (b : BuildingOf) (d : DeclNo) (e : Entry) → Calm b (with_entry b d e)
 entry_calm b d e = entered_calm b d e (slice_get b.tables.declarations d.0)
 
-moded_row : (b : BuildingOf) (token : TokenNo) (d : DeclNo) (o : Option (Option WrittenMode)) → Calm b (moded_as b token mode.ByValue d o)
-moded_row b token d None = rule_calm b token.0 r.ModeNotAllowed
-moded_row b token d (Some (Some w)) = rule_calm b token.0 r.ModeNotAllowed
-moded_row b token d (Some None) = entry_calm b d _
+moded_row : (b : BuildingOf) (token : TokenNo) (m : Mode) (d : DeclNo) (o : Option (Option WrittenMode)) → Calm b (moded_as b token m d o)
+moded_row b token m d None = rule_calm b token.0 r.ModeNotAllowed
+moded_row b token m d (Some (Some w)) = rule_calm b token.0 r.ModeNotAllowed
+moded_row b token m d (Some None) = go (is_by_name m && in_class b)
+  where
+    go : (c : Bool) → Calm b (if c then broken b token.0 r.ModeNotAllowed else with_entry b d (entry.Unspecified (Some (record { token = token; mode = m }))))
+    go true = rule_calm b token.0 r.ModeNotAllowed
+    go false = entry_calm b d _
 
-pub moded_calm : (b : BuildingOf) (token : TokenNo) (o : Option DeclNo) → Calm b (moded b token mode.ByValue o)
-moded_calm b token None = rule_calm b token.0 r.ModeNotAllowed
-moded_calm b token (Some d) = moded_row b token d (unspecified_in (entry_of b.tables d))
+pub moded_calm : (b : BuildingOf) (token : TokenNo) (m : Mode) (o : Option DeclNo) → Calm b (moded b token m o)
+moded_calm b token m None = rule_calm b token.0 r.ModeNotAllowed
+moded_calm b token m (Some d) = moded_row b token m d (unspecified_in (entry_of b.tables d))
 
 mode_calm : (b : BuildingOf) (d : DeclNo) (k : FormalKind) (ty : Option SimType) (o : Option WrittenMode) → Calm b (with_mode b d k ty o)
 mode_calm b d k ty None = entry_calm b d _

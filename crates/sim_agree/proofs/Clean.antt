@@ -18,10 +18,9 @@ use Rattle.sim_scope.specs.declared.types.Entry.{Entry}
 use Rattle.sim_scope.specs.declared.types.Entry.TheVariants as entry
 use Rattle.sim_scope.specs.declared.types.FormalKind.{FormalKind}
 use Rattle.sim_scope.specs.declared.types.Mode.{Mode}
-use Rattle.sim_scope.specs.declared.types.Mode.TheVariants as mode
 use Rattle.sim_scope.specs.declared.types.SimType.{SimType}
 use Rattle.sim_scope.specs.declared.types.WrittenMode.{WrittenMode}
-use Rattle.sim_scope.specs.Building.{BuildingOf, Declares, Headed, Mark, Qualifies, broken, broken_if, changed, changed_row, declared, declared_again, declared_at, declared_inside, declared_new, declared_twice, default_mode, entered, formal, headed as headed_of, holding_class, in_class, inner, inner_at, inner_in, is_procedure, marked, matched, mode_allowed, moded as moded_of, moded_as, qualified, row_of as new_row, specified as specified_of, specified_as, token_in, unspecified_in, with_entry, with_mode, with_name, prefixed_by, guards, guards_at, row_matching, is_match}
+use Rattle.sim_scope.specs.Building.{BuildingOf, Declares, Headed, Mark, Qualifies, broken, broken_if, changed, changed_row, declared, declared_again, declared_at, declared_inside, declared_new, declared_twice, default_mode, entered, formal, headed as headed_of, holding_class, in_class, inner, inner_at, inner_in, is_procedure, marked, matched, mode_allowed, moded as moded_of, moded_as, qualified, row_of as new_row, specified as specified_of, specified_as, token_in, unspecified_in, with_entry, with_mode, with_name, prefixed_by, guards, guards_at, row_matching, is_match, is_by_name}
 use Rattle.sim_scope.specs.Found.{fault, lesser, precedes}
 use Rattle.sim_scope.specs.Runs.{run}
 use Rattle.sim_scope.specs.Access.{around}
@@ -127,14 +126,18 @@ if_quiet false b c token rule q = q
 entry_quiet : (b : BuildingOf) (d : DeclNo) (e : Entry) → Quiet b (with_entry b d e)
 entry_quiet b d e = entered_quiet b d e (slice_get b.tables.declarations d.0)
 
-moded_row : (b : BuildingOf) (token : TokenNo) (d : DeclNo) (o : Option (Option WrittenMode)) → Quiet b (moded_as b token mode.ByValue d o)
-moded_row b token d None = broken_quiet b token.0 r.ModeNotAllowed
-moded_row b token d (Some (Some w)) = broken_quiet b token.0 r.ModeNotAllowed
-moded_row b token d (Some None) = entry_quiet b d _
+moded_row : (b : BuildingOf) (token : TokenNo) (m : Mode) (d : DeclNo) (o : Option (Option WrittenMode)) → Quiet b (moded_as b token m d o)
+moded_row b token m d None = broken_quiet b token.0 r.ModeNotAllowed
+moded_row b token m d (Some (Some w)) = broken_quiet b token.0 r.ModeNotAllowed
+moded_row b token m d (Some None) = go (is_by_name m && in_class b)
+  where
+    go : (c : Bool) → Quiet b (if c then broken b token.0 r.ModeNotAllowed else with_entry b d (entry.Unspecified (Some (record { token = token; mode = m }))))
+    go true = broken_quiet b token.0 r.ModeNotAllowed
+    go false = entry_quiet b d _
 
-pub moded_quiet : (b : BuildingOf) (token : TokenNo) (o : Option DeclNo) → Quiet b (moded_of b token mode.ByValue o)
-moded_quiet b token None = broken_quiet b token.0 r.ModeNotAllowed
-moded_quiet b token (Some d) = moded_row b token d (unspecified_in (entry_of b.tables d))
+pub moded_quiet : (b : BuildingOf) (token : TokenNo) (m : Mode) (o : Option DeclNo) → Quiet b (moded_of b token m o)
+moded_quiet b token m None = broken_quiet b token.0 r.ModeNotAllowed
+moded_quiet b token m (Some d) = moded_row b token m d (unspecified_in (entry_of b.tables d))
 
 mode_quiet : (b : BuildingOf) (d : DeclNo) (k : FormalKind) (ty : Option SimType) (o : Option WrittenMode) → Quiet b (with_mode b d k ty o)
 mode_quiet b d k ty None = entry_quiet b d _

@@ -17,7 +17,7 @@ use Rattle.sim_scope.specs.declared.types.FormalKind.{FormalKind}
 use Rattle.sim_scope.specs.declared.types.SimType.{SimType}
 use Rattle.sim_scope.specs.declared.types.StandardPrefix.{StandardPrefix}
 use Rattle.sim_scope.specs.declared.types.StandardPrefix.TheVariants as prefix
-use Rattle.sim_scope.specs.Building.{BuildingOf, Declares, Headed, Mark, Opens, block_around, broken, broken_if, changed, closed, closed_at, declared, formal, found_in, headed as headed_of, holding_class, inner, level_in, marked, most_levels, opened, parameter as parameter_of, placed, row_of as new_row, specified as specified_of, unspecified_at}
+use Rattle.sim_scope.specs.Building.{BuildingOf, Declares, Headed, Mark, Opens, block_around, broken, broken_if, changed, closed, closed_at, declared, formal, found_in, guards, headed as headed_of, holding_class, inner, level_in, marked, most_levels, opened, parameter as parameter_of, placed, prefixed_by, row_of as new_row, specified as specified_of, unspecified_at}
 use Rattle.sim_scope.specs.Declare.{headed_marks, result_named}
 use Rattle.sim_scope.specs.Found.{fault}
 use Rattle.sim_scope.specs.Runs.{each, run}
@@ -27,13 +27,14 @@ use Rattle.sim_scope.proofs.Kept.{kept_set, more_here}
 use Rattle.sim_meaning.specs.Entries.{numbers_in}
 use Rattle.sim_sound.specs.Held.{Among}
 use Rattle.sim_meaning.specs.Texts.{BlockText, ClassText, ConnectionText, ProcedureText, Text, PrefixedText}
+use Rattle.sim_agree.proofs.ByNames.{ByNames, OfName, changed_rows, closed_rows, declared_names, guards_rows, inner_rows, moded_names, opened_names, parameter_names, rows_stay, specified_names}
 use Rattle.sim_agree.proofs.Calm.{class_calm, declared_calm, inner_calm, moded_calm, specified_calm, prefix_calm, guards_calm}
-use Rattle.sim_agree.proofs.Groups.{AreReferences, Grouped, Has, NoBreaks, NoHeaded, OfReferences, Open, Quals, block, breaks_rule, closes, connects, declared_in_text, declares, declares_class, headed, here, inner_mark, item, moded, nothing, own_marks, parameter, procedure, qualifies, specified, specifies_virtual, there, unqualified, prefixes, guarded, prefixed_block, standard_block, standard_class, whole_prefix}
+use Rattle.sim_agree.proofs.Groups.{AreReferences, Grouped, Has, NoBreaks, NoHeaded, OfReferences, Open, OwnEntry, Quals, block, breaks_rule, closes, connects, declared_in_text, declares, declares_class, headed, here, inner_mark, item, moded, nothing, own_marks, parameter, procedure, qualifies, specified, specifies_virtual, there, unqualified, prefixes, guarded, prefixed_block, standard_block, standard_class, whole_prefix}
 use Rattle.sim_agree.proofs.Steps.{IsParameter, Nothing, Step}
 use Rattle.sim_agree.proofs.Marks.{Declared, class_step, declared_latest, declared_step, headed_step, inner_step, last_cases, met, moded_step, own_unmatched, parameter_step, procedure_unmatched, quals_step, rule_step, specified_met, prefix_step, guards_step, virtual_unmatched}
-use Rattle.sim_agree.proofs.Fine.{Agree, Fine, KindIs, Stack, With, begun_keeps, same_around, step_fine}
+use Rattle.sim_agree.proofs.Fine.{Agree, Fine, KindIs, Stack, With, begun_keeps, more_text, names_found, same_around, step_fine}
 use Rattle.sim_agree.proofs.FineBlocks.{closed_agrees, fresh}
-use Rattle.sim_agree.proofs.FineRuns.{Owes, block_agrees, class_agrees, declares_agrees, owes_heading, owes_none, parameter_agrees, procedure_agrees, quiet_agrees, run_both, standard_run_agree, step_agrees, prefix_kind, virtual_agrees}
+use Rattle.sim_agree.proofs.FineRuns.{Owes, block_agrees, class_agrees, declares_agrees, owes_heading, owes_none, parameter_agrees, procedure_agrees, quals_rows, quiet_agrees, run_both, standard_run_agree, step_agrees, prefix_kind, virtual_agrees}
 use Rattle.sim_agree.proofs.Owned.{Owned, closed_owned, opened_owned, owned_step}
 use Rattle.sim_agree.proofs.Covered.{Covered, closed_covers, covered_stays, declared_alone, declared_covered, holding_refs, inner_covers, moded_covers, opened_least, opened_same, specified_covered, prefix_covers, guards_covers}
 use Rattle.sim_agree.proofs.Clean.{Clean, Counts, Made, Origin, OwedAt, RowFor, SpecifiedRow, WrittenFor, declared_clean, declared_refs, headed_clean, holding_same, if_clean, inner_quiet, moded_quiet, never_none, out, owed_kept, quals_clean, quals_least, quiet_clean, some_same, specified_at, specified_latest, specified_quiet, prefix_quiet, guards_quiet}
@@ -351,14 +352,35 @@ module _ (p : StandardPrefix) (c : BuildingOf) (top : FreshTop c) (token : ℕ) 
   standard_owned : Owned c ts → Owned (run marked c (whole_prefix p token y)) (ts ++ brought_texts p)
   standard_owned v = subst (λ d. Owned d (ts ++ brought_texts p)) (sym (brought_is p c top token y)) (brought.standard_owned p y spelt c top.number token top.row top.last top.at ts x owed os a.fine top.current in_front v)
 
+  standard_names : ByNames c ts → ByNames (run marked c (whole_prefix p token y)) (ts ++ brought_texts p)
+  standard_names v = subst (λ d. ByNames d (ts ++ brought_texts p)) (sym (brought_is p c top token y)) (brought.standard_names p y spelt c top.number token top.row top.last top.at ts x owed os a.fine top.current in_front v)
+
+-- a class begins
+class_names : (b : BuildingOf) (text first : ℕ) (h : Heading) (ts : List Text) (z : Text) → ByNames b ts → ByNames (opened (changed (declared b h.name (entry.Class (length b.tables.blocks))) holding_class b.current) kind.Class text first) (ts ++ z ∷ [])
+class_names b text first h ts z v =
+    let c0 : BuildingOf = declared b h.name (entry.Class (length b.tables.blocks)) in
+    opened_names (changed c0 holding_class b.current) kind.Class text first ts (ts ++ z ∷ []) (more_text ts (z ∷ []))
+    (rows_stay c0 (changed c0 holding_class b.current) ts (changed_rows c0 holding_class b.current) (declared_names b h.name (entry.Class (length b.tables.blocks)) (λ q. q) ts v))
+
+own_unnamed : (e : Entry) → OwnEntry e → OfName e → ⊥
+own_unnamed (entry.Formal f) own q = own
+own_unnamed (entry.Unspecified w) own q = own
+own_unnamed (entry.Variable ty) own q = q
+own_unnamed (entry.Constant ty) own q = q
+own_unnamed (entry.Array ty n) own q = q
+own_unnamed (entry.Procedure result k) own q = q
+own_unnamed (entry.Class k) own q = q
+own_unnamed (entry.Virtual result own_match) own q = q
+own_unnamed (entry.Attribute name given result) own q = q
+
 -- the marks break no rule by themselves
 standard_unbroken : (p : StandardPrefix) (token : ℕ) (y : Identifier) (ms : List Mark) → NoBreaks ms → NoBreaks (whole_prefix p token y ++ ms)
 standard_unbroken prefix.Simset token y ms h = subst (λ z. NoBreaks (z ++ ms)) (sym (marks_are prefix.Simset token)) h
 standard_unbroken prefix.Simulation token y ms h = subst (λ z. NoBreaks (z ++ ms)) (sym (marks_are prefix.Simulation token)) h
 
-pub run_clean : {os : List Open} {ms : List Mark} {xs : List Text} (b : BuildingOf) (ts : List Text) → Grouped os ms xs → Owes os → Agree b ts os → (run marked b ms).least ≡ None → (b.least ≡ None) × (Clean b ts os → Clean (run marked b ms) (ts ++ xs) []) × NoBreaks ms × (Covered b → Covered (run marked b ms)) × (Owned b ts → Owned (run marked b ms) (ts ++ xs))
+pub run_clean : {os : List Open} {ms : List Mark} {xs : List Text} (b : BuildingOf) (ts : List Text) → Grouped os ms xs → Owes os → Agree b ts os → (run marked b ms).least ≡ None → (b.least ≡ None) × (Clean b ts os → Clean (run marked b ms) (ts ++ xs) []) × NoBreaks ms × (Covered b → Covered (run marked b ms)) × (Owned b ts → Owned (run marked b ms) (ts ++ xs)) × (ByNames b ts → ByNames (run marked b ms) (ts ++ xs))
 unfolding run marked
-run_clean {os = os} b ts (nothing e) w a clean = (clean, (λ f. subst (λ z. Clean b z []) (sym (append-nil ts)) (subst (Clean b ts) e f)), tt, (λ v. v), λ v. subst (Owned b) (sym (append-nil ts)) v)
+run_clean {os = os} b ts (nothing e) w a clean = (clean, (λ f. subst (λ z. Clean b z []) (sym (append-nil ts)) (subst (Clean b ts) e f)), tt, (λ v. v), (λ v. subst (Owned b) (sym (append-nil ts)) v), λ v. subst (ByNames b) (sym (append-nil ts)) v)
 run_clean {os = os} b ts (block {ms = ms} {xs = xs} k text first i ds ss p g) w a clean =
     let x : Text = BlockText i ds ss in
     let c : BuildingOf = opened b k text first in
@@ -368,7 +390,8 @@ run_clean {os = os} b ts (block {ms = ms} {xs = xs} k text first i ds ss p g) w 
       (λ f. subst (λ z. Clean (run marked c ms) z []) (append_assoc ts (x ∷ []) xs) (later.1 (q.1 f))),
       later.2,
       (λ v. later.3 (covered_stays b c (opened_same b k text first) v)),
-      λ v. subst (Owned (run marked c ms)) (append_assoc ts (x ∷ []) xs) (later.4 (opened_owned b k text first ts x a.fine.size tt v)),
+      (λ v. subst (Owned (run marked c ms)) (append_assoc ts (x ∷ []) xs) (later.4 (opened_owned b k text first ts x a.fine.size tt v))),
+      λ v. subst (ByNames (run marked c ms)) (append_assoc ts (x ∷ []) xs) (later.5 (opened_names b k text first ts (ts ++ x ∷ []) (more_text ts (x ∷ [])) v)),
     )
 run_clean {os = os} b ts (prefixed_block {ms = ms} {xs = xs} text first class es ds ss g) w a clean =
     let x : Text = PrefixedText class es ds ss in
@@ -379,7 +402,8 @@ run_clean {os = os} b ts (prefixed_block {ms = ms} {xs = xs} text first class es
       (λ f. subst (λ z. Clean (run marked c ms) z []) (append_assoc ts (x ∷ []) xs) (later.1 (q.1 f))),
       later.2,
       (λ v. later.3 (covered_stays b c (opened_same b kind.Prefixed text first) v)),
-      λ v. subst (Owned (run marked c ms)) (append_assoc ts (x ∷ []) xs) (later.4 (opened_owned b kind.Prefixed text first ts x a.fine.size tt v)),
+      (λ v. subst (Owned (run marked c ms)) (append_assoc ts (x ∷ []) xs) (later.4 (opened_owned b kind.Prefixed text first ts x a.fine.size tt v))),
+      λ v. subst (ByNames (run marked c ms)) (append_assoc ts (x ∷ []) xs) (later.5 (opened_names b kind.Prefixed text first ts (ts ++ x ∷ []) (more_text ts (x ∷ [])) v)),
     )
 run_clean {os = os} b ts (standard_block {ms = ms} {xs = xs} p text first class es ds ss e g) w a clean =
     let x : Text = PrefixedText class es ds ss in
@@ -395,7 +419,8 @@ run_clean {os = os} b ts (standard_block {ms = ms} {xs = xs} p text first class 
       (λ f. subst (λ d. Clean d (ts ++ (x ∷ (brought_texts p ++ xs))) []) (sym parts) (subst (λ z. Clean (run marked k ms) z []) all (later.1 (standard_clean p c top first class x (own_marks ds) (ts ++ x ∷ []) os e e begun (q.1 f))))),
       standard_unbroken p first class ms later.2,
       (λ v. subst Covered (sym parts) (later.3 (standard_covered p c top first class x (own_marks ds) (ts ++ x ∷ []) os e e begun (covered_stays b c (opened_same b kind.Prefixed text first) v)))),
-      λ v. subst (λ d. Owned d (ts ++ (x ∷ (brought_texts p ++ xs)))) (sym parts) (subst (Owned (run marked k ms)) all (later.4 (standard_owned p c top first class x (own_marks ds) (ts ++ x ∷ []) os e e begun (opened_owned b kind.Prefixed text first ts x a.fine.size tt v)))),
+      (λ v. subst (λ d. Owned d (ts ++ (x ∷ (brought_texts p ++ xs)))) (sym parts) (subst (Owned (run marked k ms)) all (later.4 (standard_owned p c top first class x (own_marks ds) (ts ++ x ∷ []) os e e begun (opened_owned b kind.Prefixed text first ts x a.fine.size tt v))))),
+      λ v. subst (λ d. ByNames d (ts ++ (x ∷ (brought_texts p ++ xs)))) (sym parts) (subst (ByNames (run marked k ms)) all (later.5 (standard_names p c top first class x (own_marks ds) (ts ++ x ∷ []) os e e begun (opened_names b kind.Prefixed text first ts (ts ++ x ∷ []) (more_text ts (x ∷ [])) v)))),
     )
 run_clean {os = os} b ts (connects {ms = ms} {xs = xs} text first g) w a clean =
     let x : Text = ConnectionText in
@@ -406,7 +431,8 @@ run_clean {os = os} b ts (connects {ms = ms} {xs = xs} text first g) w a clean =
       (λ f. subst (λ z. Clean (run marked c ms) z []) (append_assoc ts (x ∷ []) xs) (later.1 (q.1 f))),
       later.2,
       (λ v. later.3 (covered_stays b c (opened_same b kind.Connection text first) v)),
-      λ v. subst (Owned (run marked c ms)) (append_assoc ts (x ∷ []) xs) (later.4 (opened_owned b kind.Connection text first ts x a.fine.size tt v)),
+      (λ v. subst (Owned (run marked c ms)) (append_assoc ts (x ∷ []) xs) (later.4 (opened_owned b kind.Connection text first ts x a.fine.size tt v))),
+      λ v. subst (ByNames (run marked c ms)) (append_assoc ts (x ∷ []) xs) (later.5 (opened_names b kind.Connection text first ts (ts ++ x ∷ []) (more_text ts (x ∷ [])) v)),
     )
 run_clean b ts (procedure {os = os} {ms = ms} {xs = xs} text first x owed quals result h body d n q g) w a clean =
     let z : Text = ProcedureText result h body in
@@ -423,8 +449,11 @@ run_clean b ts (procedure {os = os} {ms = ms} {xs = xs} text first x owed quals 
       (λ v. subst Covered (sym parts) (later.3 (covered_stays (run marked c0 quals) c (opened_same (run marked c0 quals) kind.Procedure text first)
           (declared_covered b h.name (entry.Procedure (result_named result) (length b.tables.blocks)) a.fine.stack.0 row.0 a.fine.stack.1 row.1
           (sym (quals_least c0 (AreReferences (result_named result)) quals q) ∙ opened_least (run marked c0 quals) kind.Procedure text first later.0) quals q v)))),
-      λ v. subst (λ k. Owned k (ts ++ (z ∷ xs))) (sym parts) (subst (Owned (run marked c ms)) (append_assoc ts (z ∷ []) xs)
-          (later.4 (procedure_owned b text first quals result h body ts row.0 q a.fine.stack.0 a.fine.stack.1 row.1 a.fine.size later.0 v))),
+      (λ v. subst (λ k. Owned k (ts ++ (z ∷ xs))) (sym parts) (subst (Owned (run marked c ms)) (append_assoc ts (z ∷ []) xs)
+          (later.4 (procedure_owned b text first quals result h body ts row.0 q a.fine.stack.0 a.fine.stack.1 row.1 a.fine.size later.0 v)))),
+      λ v. subst (λ k. ByNames k (ts ++ (z ∷ xs))) (sym parts) (subst (ByNames (run marked c ms)) (append_assoc ts (z ∷ []) xs)
+          (later.5 (opened_names (run marked c0 quals) kind.Procedure text first ts (ts ++ z ∷ []) (more_text ts (z ∷ [])) (rows_stay c0 (run marked c0 quals) ts (quals_rows c0 (AreReferences (result_named result)) quals q)
+          (declared_names b h.name (entry.Procedure (result_named result) (length b.tables.blocks)) (λ z. z) ts v))))),
     )
 run_clean b ts (declares_class {os = os} {ms = ms} {xs = xs} text first x owed prefix h ds ss d n g) w a clean =
     let z : Text = ClassText prefix h ds ss in
@@ -440,8 +469,9 @@ run_clean b ts (declares_class {os = os} {ms = ms} {xs = xs} text first x owed p
       (λ v. later.3 (covered_stays (changed c0 holding_class b.current) c (opened_same (changed c0 holding_class b.current) kind.Class text first) (covered_stays c0 (changed c0 holding_class b.current) (holding_refs c0 b.current)
           (declared_alone b h.name (entry.Class (length b.tables.blocks)) a.fine.stack.0 row.0 a.fine.stack.1 row.1
           (sym (holding_same c0 b.current).0 ∙ opened_least (changed c0 holding_class b.current) kind.Class text first later.0) (λ z. z) v)))),
-      λ v. subst (Owned (run marked c ms)) (append_assoc ts (z ∷ []) xs)
-          (later.4 (class_owned b text first prefix h ds ss ts row.0 a.fine.stack.0 a.fine.stack.1 row.1 a.fine.size later.0 v)),
+      (λ v. subst (Owned (run marked c ms)) (append_assoc ts (z ∷ []) xs)
+          (later.4 (class_owned b text first prefix h ds ss ts row.0 a.fine.stack.0 a.fine.stack.1 row.1 a.fine.size later.0 v))),
+      λ v. subst (ByNames (run marked c ms)) (append_assoc ts (z ∷ []) xs) (later.5 (class_names b text first h ts z v)),
     )
 run_clean b ts (standard_class {os = os} {ms = ms} {xs = xs} p text first x owed y h ds ss e d n g) w a clean =
     let z : Text = ClassText (Some y) h ds ss in
@@ -465,8 +495,10 @@ run_clean b ts (standard_class {os = os} {ms = ms} {xs = xs} p text first x owed
           (covered_stays c1 c (opened_same c1 kind.Class text first) (covered_stays c0 c1 (holding_refs c0 b.current)
           (declared_alone b h.name (entry.Class (length b.tables.blocks)) a.fine.stack.0 row.0 a.fine.stack.1 row.1
           (sym (holding_same c0 b.current).0 ∙ opened_least c1 kind.Class text first c_clean) (λ z. z) v)))))),
-      λ v. subst (λ j. Owned j (ts ++ (z ∷ (brought_texts p ++ xs)))) (sym parts) (subst (Owned (run marked k ms)) all
-          (later.4 (standard_owned p c top first y z inner (ts ++ z ∷ []) (item x owed ∷ os) e e begun (class_owned b text first (Some y) h ds ss ts row.0 a.fine.stack.0 a.fine.stack.1 row.1 a.fine.size c_clean v)))),
+      (λ v. subst (λ j. Owned j (ts ++ (z ∷ (brought_texts p ++ xs)))) (sym parts) (subst (Owned (run marked k ms)) all
+          (later.4 (standard_owned p c top first y z inner (ts ++ z ∷ []) (item x owed ∷ os) e e begun (class_owned b text first (Some y) h ds ss ts row.0 a.fine.stack.0 a.fine.stack.1 row.1 a.fine.size c_clean v))))),
+      λ v. subst (λ j. ByNames j (ts ++ (z ∷ (brought_texts p ++ xs)))) (sym parts) (subst (ByNames (run marked k ms)) all
+          (later.5 (standard_names p c top first y z inner (ts ++ z ∷ []) (item x owed ∷ os) e e begun (class_names b text first h ts z v)))),
     )
 run_clean b ts (declares {os = os} {ms = ms} {xs = xs} x owed quals y e d n own q written g) w a clean =
     let row = row_of b ts _ a.fine a.fine.stack.0 x a.fine.stack.2 in
@@ -478,8 +510,9 @@ run_clean b ts (declares {os = os} {ms = ms} {xs = xs} x owed quals y e d n own 
       (λ f. subst (λ k. Clean k (ts ++ xs) []) (sym parts) (later.1 (p.1 f))),
       quals_unbroken (OfReferences e) quals ms q later.2,
       (λ v. subst Covered (sym parts) (later.3 (declared_covered b y e a.fine.stack.0 row.0 a.fine.stack.1 row.1 (sym (quals_least (declared b y e) (OfReferences e) quals q) ∙ later.0) quals q v))),
-      λ v. subst (λ k. Owned k (ts ++ xs)) (sym parts) (later.4 (owned_step b c (Declared (length b.tables.declarations) y e a.fine.stack.0) ts
-          (quals_step b (declared b y e) (Declared (length b.tables.declarations) y e a.fine.stack.0) (OfReferences e) quals q (declared_step b y e a.fine.stack.0 (own_unmatched e own) a.fine.stack.1)) v)),
+      (λ v. subst (λ k. Owned k (ts ++ xs)) (sym parts) (later.4 (owned_step b c (Declared (length b.tables.declarations) y e a.fine.stack.0) ts
+          (quals_step b (declared b y e) (Declared (length b.tables.declarations) y e a.fine.stack.0) (OfReferences e) quals q (declared_step b y e a.fine.stack.0 (own_unmatched e own) a.fine.stack.1)) v))),
+      λ v. subst (λ k. ByNames k (ts ++ xs)) (sym parts) (later.5 (rows_stay (declared b y e) c ts (quals_rows (declared b y e) (OfReferences e) quals q) (declared_names b y e (own_unnamed e own) ts v))),
     )
 run_clean b ts (specifies_virtual {os = os} {ms = ms} {xs = xs} x owed quals y result d n q g) w a clean =
     let row = row_of b ts _ a.fine a.fine.stack.0 x a.fine.stack.2 in
@@ -492,8 +525,9 @@ run_clean b ts (specifies_virtual {os = os} {ms = ms} {xs = xs} x owed quals y r
       (λ f. subst (λ k. Clean k (ts ++ xs) []) (sym parts) (later.1 (p.1 f))),
       quals_unbroken (AreReferences (result_named result)) quals ms q later.2,
       (λ v. subst Covered (sym parts) (later.3 (declared_covered b y e a.fine.stack.0 row.0 a.fine.stack.1 row.1 (sym (quals_least (declared b y e) (AreReferences (result_named result)) quals q) ∙ later.0) quals q v))),
-      λ v. subst (λ k. Owned k (ts ++ xs)) (sym parts) (later.4 (owned_step b c (Declared (length b.tables.declarations) y e a.fine.stack.0) ts
-          (quals_step b (declared b y e) (Declared (length b.tables.declarations) y e a.fine.stack.0) (AreReferences (result_named result)) quals q (declared_step b y e a.fine.stack.0 (virtual_unmatched (result_named result)) a.fine.stack.1)) v)),
+      (λ v. subst (λ k. Owned k (ts ++ xs)) (sym parts) (later.4 (owned_step b c (Declared (length b.tables.declarations) y e a.fine.stack.0) ts
+          (quals_step b (declared b y e) (Declared (length b.tables.declarations) y e a.fine.stack.0) (AreReferences (result_named result)) quals q (declared_step b y e a.fine.stack.0 (virtual_unmatched (result_named result)) a.fine.stack.1)) v))),
+      λ v. subst (λ k. ByNames k (ts ++ xs)) (sym parts) (later.5 (rows_stay (declared b y e) c ts (quals_rows (declared b y e) (AreReferences (result_named result)) quals q) (declared_names b y e (λ z. z) ts v))),
     )
 run_clean b ts (parameter {os = os} x owed y d has g) w a clean =
     let row = row_of b ts _ a.fine a.fine.stack.0 x a.fine.stack.2 in
@@ -507,15 +541,16 @@ run_clean b ts (parameter {os = os} x owed y d has g) w a clean =
       later.2,
       (λ v. later.3 (covered_stays d (parameter_of b y) ((λ m found at refs. ap (λ z. slice_get z m) (sym same.1) ∙ at), same.2)
           (declared_alone b y (entry.Unspecified None) a.fine.stack.0 row.0 a.fine.stack.1 row.1 (sym same.0 ∙ later.0) (λ z. z) v))),
-      λ v. later.4 (owned_step b (parameter_of b y) (Declared (length b.tables.declarations) y (entry.Unspecified None) a.fine.stack.0) ts (parameter_step b y a.fine.stack.0 a.fine.stack.1) v),
+      (λ v. later.4 (owned_step b (parameter_of b y) (Declared (length b.tables.declarations) y (entry.Unspecified None) a.fine.stack.0) ts (parameter_step b y a.fine.stack.0 a.fine.stack.1) v)),
+      λ v. later.5 (parameter_names b y ts v),
     )
-run_clean {os = os} b ts (moded y g) w a clean =
-    let o = found_in b.tables b.current y.name in
-    let s = moded_step b y.token (found_in b.tables b.current y.name) in
+run_clean b ts (moded {os = tail} x owed y m written g) w a clean =
+    let os : List Open = item x owed ∷ tail in
+    let s = moded_step b y.token m (found_in b.tables b.current y.name) in
     let later = run_clean _ ts g w (quiet_agrees b _ ts os s a) clean in
-    let q = moded_quiet b y.token (found_in b.tables b.current y.name) in (q.1 later.0, (λ f. later.1 (quiet_clean b _ ts os s (moded_calm b y.token (found_in b.tables b.current y.name)) q.0 a.fine f)), later.2, (λ v. later.3 (moded_covers b y.token (found_in b.tables b.current y.name) v)), λ v. later.4 (owned_step b _ Nothing ts s v))
-run_clean {os = os} b ts (specified {ms = ms} {xs = xs} quals y k ty p q g) w a clean =
-    let o = found_in b.tables b.current y.name in
+    let q = moded_quiet b y.token m (found_in b.tables b.current y.name) in (q.1 later.0, (λ f. later.1 (quiet_clean b _ ts os s (moded_calm b y.token m (found_in b.tables b.current y.name)) q.0 a.fine f)), later.2, (λ v. later.3 (moded_covers b y.token m (found_in b.tables b.current y.name) v)), (λ v. later.4 (owned_step b _ Nothing ts s v)), λ v. later.5 (moded_names b ts x a.fine.stack.0 y (names_found b ts os a.fine) a.fine.stack.1 a.fine.stack.2 (a.fine.kinds a.fine.stack.0) v m written))
+run_clean b ts (specified {os = tail} {ms = ms} {xs = xs} x owed quals y k ty written p q g) w a clean =
+    let os : List Open = item x owed ∷ tail in
     let m : BuildingOf = met b (found_in b.tables b.current y.name) in
     let c0 : BuildingOf = specified_of m y.token k ty (found_in b.tables b.current y.name) in
     let c : BuildingOf = run marked c0 quals in
@@ -532,28 +567,29 @@ run_clean {os = os} b ts (specified {ms = ms} {xs = xs} quals y k ty p q g) w a 
           (quiet_clean b c0 ts os s (specified_calm b y.token k ty (found_in b.tables b.current y.name)) quiet.0 a.fine f)))),
       quals_unbroken (AreReferences ty) quals ms q later.2,
       (λ v. subst Covered (sym parts) (later.3 (specified_covered m y.token k ty (found_in b.tables b.current y.name) there_.0 there_.1 (specified_latest m y.token k ty (found_in b.tables b.current y.name) ∙ there_.1) there_.2 quals q v))),
-      λ v. subst (λ k. Owned k (ts ++ xs)) (sym parts) (later.4 (owned_step b c Nothing ts (quals_step b c0 Nothing (AreReferences ty) quals q s) v)),
+      (λ v. subst (λ k. Owned k (ts ++ xs)) (sym parts) (later.4 (owned_step b c Nothing ts (quals_step b c0 Nothing (AreReferences ty) quals q s) v))),
+      λ v. subst (λ k. ByNames k (ts ++ xs)) (sym parts) (later.5 (rows_stay c0 c ts (quals_rows c0 (AreReferences ty) quals q) (specified_names m ts x a.fine.stack.0 y (names_found b ts os a.fine) a.fine.stack.1 a.fine.stack.2 (a.fine.kinds a.fine.stack.0) v k written ty))),
     )
 run_clean b ts (headed {os = os} x owed y g) w a clean =
     let s = headed_step b y.token (unspecified_at b.tables (found_in b.tables b.current y.name)) in
     let later = run_clean _ ts g ((λ z f p. w.0 z f (there p)), w.1) (step_agrees b _ Nothing x (Headed y ∷ owed) owed ts os s (λ d row q. absurd q) a) clean in
     let o = unspecified_at b.tables (found_in b.tables b.current y.name) in
-    let q = headed_step_clean b x owed y ts os a.fine later.0 in (q.0, (λ f. later.1 (q.1 f)), later.2, (λ v. later.3 (subst (λ z. Covered (headed_of b y.token z)) (sym (headed_clean b y.token o later.0).0) v)), λ v. later.4 (owned_step b _ Nothing ts s v))
+    let q = headed_step_clean b x owed y ts os a.fine later.0 in (q.0, (λ f. later.1 (q.1 f)), later.2, (λ v. later.3 (subst (λ z. Covered (headed_of b y.token z)) (sym (headed_clean b y.token o later.0).0) v)), (λ v. later.4 (owned_step b _ Nothing ts s v)), λ v. later.5 (subst (λ z. ByNames (headed_of b y.token z) ts) (sym (headed_clean b y.token o later.0).0) v))
 run_clean b ts (prefixes {os = os} x owed y t p g) w a clean =
     let s = prefix_step b y a.fine.stack.0 a.fine.stack.1 p (prefix_kind b x owed ts os t a.fine) in
     let later = run_clean _ ts g w (quiet_agrees b _ ts (item x owed ∷ os) s a) clean in
-    let q = prefix_quiet b y b.current in (q.1 later.0, (λ f. later.1 (quiet_clean b _ ts (item x owed ∷ os) s (prefix_calm b y b.current) q.0 a.fine f)), later.2, (λ v. later.3 (prefix_covers b y b.current v)), λ v. later.4 (owned_step b _ Nothing ts s v))
+    let q = prefix_quiet b y b.current in (q.1 later.0, (λ f. later.1 (quiet_clean b _ ts (item x owed ∷ os) s (prefix_calm b y b.current) q.0 a.fine f)), later.2, (λ v. later.3 (prefix_covers b y b.current v)), (λ v. later.4 (owned_step b _ Nothing ts s v)), λ v. later.5 (rows_stay b (changed b (prefixed_by y) b.current) ts (changed_rows b (prefixed_by y) b.current) v))
 run_clean {os = os} b ts (inner_mark token g) w a clean =
     let s = inner_step b token b.current refl in
     let later = run_clean _ ts g w (quiet_agrees b _ ts os s a) clean in
-    let q = inner_quiet b token b.current in (q.1 later.0, (λ f. later.1 (quiet_clean b _ ts os s (inner_calm b token b.current) q.0 a.fine f)), later.2, (λ v. later.3 (inner_covers b token b.current v)), λ v. later.4 (owned_step b _ Nothing ts s v))
+    let q = inner_quiet b token b.current in (q.1 later.0, (λ f. later.1 (quiet_clean b _ ts os s (inner_calm b token b.current) q.0 a.fine f)), later.2, (λ v. later.3 (inner_covers b token b.current v)), (λ v. later.4 (owned_step b _ Nothing ts s v)), λ v. later.5 (rows_stay b (inner b token b.current) ts (inner_rows b token b.current) v))
 run_clean {os = os} b ts (guarded hides keeps y g) w a clean =
     let s = guards_step b hides keeps y b.current refl in
     let later = run_clean _ ts g w (quiet_agrees b _ ts os s a) clean in
-    let q = guards_quiet b hides keeps y b.current in (q.1 later.0, (λ f. later.1 (quiet_clean b _ ts os s (guards_calm b hides keeps y b.current) q.0 a.fine f)), later.2, (λ v. later.3 (guards_covers b hides keeps y b.current v)), λ v. later.4 (owned_step b _ Nothing ts s v))
+    let q = guards_quiet b hides keeps y b.current in (q.1 later.0, (λ f. later.1 (quiet_clean b _ ts os s (guards_calm b hides keeps y b.current) q.0 a.fine f)), later.2, (λ v. later.3 (guards_covers b hides keeps y b.current v)), (λ v. later.4 (owned_step b _ Nothing ts s v)), λ v. later.5 (rows_stay b (guards b hides keeps y b.current) ts (guards_rows b hides keeps y b.current) v))
 run_clean {os = os} b ts (breaks_rule token rule g) w a clean =
     let later = run_clean (broken b token rule) ts g w (quiet_agrees b _ ts os (rule_step b token rule) a) clean in absurd (never_none b.least (fault token rule) later.0)
 run_clean b ts (closes {os = os} x end g) w a clean =
     let row = row_of b ts _ a.fine a.fine.stack.0 x a.fine.stack.2 in
     let later = run_clean (closed b end b.current) ts g w.1 (closed_agrees b end ts x os a) clean in
-    let q = closed_clean b end ts x os row.0 a.fine row.1 later.0 in (q.0, (λ f. later.1 (q.1 f)), later.2, (λ v. later.3 (closed_covers b end b.current v)), λ v. later.4 (closed_owned b end b.current ts v))
+    let q = closed_clean b end ts x os row.0 a.fine row.1 later.0 in (q.0, (λ f. later.1 (q.1 f)), later.2, (λ v. later.3 (closed_covers b end b.current v)), (λ v. later.4 (closed_owned b end b.current ts v)), λ v. later.5 (rows_stay b (closed b end b.current) ts (closed_rows b end b.current) v))

@@ -15,10 +15,10 @@ use Rattle.sim_scope.specs.declared.types.BlockKind.{BlockKind}
 use Rattle.sim_scope.specs.declared.types.Entry.{Entry}
 use Rattle.sim_scope.specs.declared.types.Entry.TheVariants as entry
 use Rattle.sim_scope.specs.declared.types.FormalKind.{FormalKind}
-use Rattle.sim_scope.specs.declared.types.Mode.TheVariants as mode
+use Rattle.sim_scope.specs.declared.types.Mode.{Mode}
 use Rattle.sim_scope.specs.declared.types.SimType.{SimType}
 use Rattle.sim_scope.specs.declared.types.WrittenMode.{WrittenMode}
-use Rattle.sim_scope.specs.Building.{BuildingOf, Mark, block_around, broken_if, changed, closed, closed_at, declared, declared_again, declared_at, declared_inside, declared_new, declared_twice, entered, holding_class, in_class, inner, inner_at, inner_in, is_match, is_procedure, level_in, marked, matched, matching, mode_allowed, moded as moded_of, moded_as, most_levels, opened, qualified, row_matching, row_of as new_row, specified as specified_of, specified_as, token_in, unspecified_in, with_mode, changed_row, prefixed_by, guards, guards_at}
+use Rattle.sim_scope.specs.Building.{BuildingOf, Mark, block_around, broken_if, changed, closed, closed_at, declared, declared_again, declared_at, declared_inside, declared_new, declared_twice, entered, holding_class, in_class, inner, inner_at, inner_in, is_match, is_procedure, level_in, marked, matched, matching, mode_allowed, moded as moded_of, moded_as, most_levels, opened, qualified, row_matching, row_of as new_row, specified as specified_of, specified_as, token_in, unspecified_in, with_mode, changed_row, prefixed_by, guards, guards_at, is_by_name, broken, with_entry}
 use Rattle.sim_scope.specs.Runs.{run}
 use Rattle.sim_scope.specs.Scopes.{declared_in, entry_of}
 use Rattle.sim_scope.specs.Tables.{BlockOf}
@@ -93,17 +93,21 @@ entered_same b d e (Some old) at free = ((λ m row is refs. go m row (nat_eq d.0
         absurd (free (subst (λ (w : Declaration). OfReferences w.entry) (sym one) refs))
     go m row false z is refs = sym (set_other b.tables.declarations d.0 m new z) ∙ is
 
-moded_same : (b : BuildingOf) (token : TokenNo) (o : Option DeclNo) → SameRefs b (moded_of b token mode.ByValue o)
-moded_same b token None = ((λ d row at refs. at), refl)
-moded_same b token (Some d) = go (unspecified_in (entry_of b.tables d))
+moded_same : (b : BuildingOf) (token : TokenNo) (m : Mode) (o : Option DeclNo) → SameRefs b (moded_of b token m o)
+moded_same b token m None = ((λ d row at refs. at), refl)
+moded_same b token m (Some d) = go (unspecified_in (entry_of b.tables d))
   where
-    go : (o : Option (Option WrittenMode)) → SameRefs b (moded_as b token mode.ByValue d o)
+    entered : (c : Bool) → SameRefs b (if c then broken b token.0 r.ModeNotAllowed else with_entry b d (entry.Unspecified (Some (record { token = token; mode = m }))))
+    entered true = ((λ d row at refs. at), refl)
+    entered false = entered_same b d (entry.Unspecified (Some (record { token = token; mode = m }))) (slice_get b.tables.declarations d.0) refl (λ q. q)
+
+    go : (o : Option (Option WrittenMode)) → SameRefs b (moded_as b token m d o)
     go None = ((λ d row at refs. at), refl)
     go (Some (Some w)) = ((λ d row at refs. at), refl)
-    go (Some None) = entered_same b d (entry.Unspecified (Some (record { token = token; mode = mode.ByValue }))) (slice_get b.tables.declarations d.0) refl (λ q. q)
+    go (Some None) = entered (is_by_name m && in_class b)
 
-pub moded_covers : (b : BuildingOf) (token : TokenNo) (o : Option DeclNo) → Covered b → Covered (moded_of b token mode.ByValue o)
-moded_covers b token o v = covered_stays b (moded_of b token mode.ByValue o) (moded_same b token o) v
+pub moded_covers : (b : BuildingOf) (token : TokenNo) (m : Mode) (o : Option DeclNo) → Covered b → Covered (moded_of b token m o)
+moded_covers b token m o v = covered_stays b (moded_of b token m o) (moded_same b token m o) v
 
 prefix_found : (b : BuildingOf) (x : Identifier) (n : ℕ) (o : Option BlockOf) → SameRefs b (changed_row b (prefixed_by x) n o)
 prefix_found b x n None = itself b

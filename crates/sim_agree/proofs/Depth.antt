@@ -573,7 +573,7 @@ run_deep b from (declares {ms = ms} quals x e may q g) a d =
     (calm_deep (declared b x e) c from (quals_calm (declared b x e) (OfReferences e) quals q) (calm_deep b (declared b x e) from (declared_calm b x e) d))))
 run_deep b from (parameter x g) a d =
     run_deep (parameter_of b x) (x.token.0 + 1) g a.1 (later_deep (parameter_of b x) from (x.token.0 + 1) (let le : from ≤ x.token.0 = a.0 in omega arith) (still_deep b (parameter_of b x) from (parameter_still b x) d))
-run_deep b from (moded x g) a d = run_deep _ from g a (calm_deep b _ from (moded_calm b x.token (found_in b.tables b.current x.name)) d)
+run_deep b from (moded x m g) a d = run_deep _ from g a (calm_deep b _ from (moded_calm b x.token m (found_in b.tables b.current x.name)) d)
 run_deep b from (specified {ms = ms} quals x k ty p q g) a d =
     let c : BuildingOf = specified_of (met b (found_in b.tables b.current x.name)) x.token k ty (found_in b.tables b.current x.name) in
     subst (λ z. (to : ℕ) × Deep z to) (sym (run_both c quals ms))

@@ -465,7 +465,7 @@ changed_in bs ts x d old row c (formal_row y p l) = formal_row y (go c.entry) (c
   where
     go : Becomes old.entry row.entry → Parametric row.entry
     go (inl e) = subst Parametric (sym e) p
-    go (inr (inl q)) = q.2 (subst Parametric q.1 p)
+    go (inr (inl q)) = q.2
     go (inr (inr q)) = absurd (subst Parametric q.2 p)
 changed_in bs ts x d old row c (virtual_row y p l) = virtual_row y (go c.entry) (c.listed ∙ l)
   where

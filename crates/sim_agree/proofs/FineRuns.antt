@@ -365,11 +365,11 @@ run_agrees b ts (specifies_virtual {os = os} {ms = ms} {xs = xs} x owed quals y 
     subst (λ c. Agree c (ts ++ xs) []) (sym (run_both (declared b y e) quals ms))
     (run_agrees (run marked (declared b y e) quals) ts g w (virtual_agrees b x owed quals y (result_named result) ts os d q a))
 run_agrees b ts (parameter_mark {os = os} x owed y d has g) w a = run_agrees (parameter b y) ts g w (parameter_agrees b x owed y ts os d a)
-run_agrees {os = os} b ts (moded y g) w a = run_agrees _ ts g w (quiet_agrees b _ ts os (moded_step b y.token (found_in b.tables b.current y.name)) a)
-run_agrees {os = os} b ts (specified {ms = ms} {xs = xs} quals y k ty p q g) w a =
+run_agrees b ts (moded {os = os} x owed y m written g) w a = run_agrees _ ts g w (quiet_agrees b _ ts (item x owed ∷ os) (moded_step b y.token m (found_in b.tables b.current y.name)) a)
+run_agrees b ts (specified {os = os} {ms = ms} {xs = xs} x owed quals y k ty written p q g) w a =
     let c : BuildingOf = specified_of (met b (found_in b.tables b.current y.name)) y.token k ty (found_in b.tables b.current y.name) in
     subst (λ c. Agree c (ts ++ xs) []) (sym (run_both c quals ms))
-    (run_agrees (run marked c quals) ts g w (quiet_agrees b (run marked c quals) ts os (quals_step b c Nothing (AreReferences ty) quals q (specified_met b y.token k ty (found_in b.tables b.current y.name) p)) a))
+    (run_agrees (run marked c quals) ts g w (quiet_agrees b (run marked c quals) ts (item x owed ∷ os) (quals_step b c Nothing (AreReferences ty) quals q (specified_met b y.token k ty (found_in b.tables b.current y.name) p)) a))
 run_agrees b ts (headed {os = os} x owed y g) w a =
     run_agrees _ ts g ((λ z f p. w.0 z f (there p)), w.1) (step_agrees b _ Nothing x (Headed y ∷ owed) owed ts os (headed_step b y.token (unspecified_at b.tables (found_in b.tables b.current y.name))) (λ d row q. absurd q) a)
 run_agrees b ts (prefixes {os = os} x owed y q p g) w a =

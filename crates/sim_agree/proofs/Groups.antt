@@ -1,5 +1,9 @@
 -- The marks of a plain program, with the texts that they open: the walk over the syntax, once for all that is said of its tables.
 use Rattle.std.proofs.Common.{◌≡◌, ◌⊎◌, inl, inr, ℕ, Bool, true, false, List, [], ◌∷◌, ◌++◌, length, Option, Some, None, refl, sym, ap, ◌∙◌, subst, append-nil, append_assoc}
+use Rattle.std.specs.Prelude.{◌&&◌, ◌||◌}
+use Rattle.std.specs.List.{list_any}
+use Rattle.std.proofs.lemmas.Bool.{false≢true}
+use Rattle.std.proofs.lemmas.Slice.Eq.{bytes_eq-Decides}
 use Rattle.sim_tree.specs.declared.expr.Identifier.{Identifier}
 use Rattle.sim_tree.specs.declared.stmt.Mode.{Mode as Word}
 use Rattle.sim_tree.specs.declared.stmt.Mode.TheVariants as word
@@ -16,6 +20,7 @@ use Rattle.sim_scope.specs.declared.types.Entry.{Entry}
 use Rattle.sim_scope.specs.declared.types.Entry.TheVariants as entry
 use Rattle.sim_scope.specs.declared.types.FormalKind.{FormalKind}
 use Rattle.sim_scope.specs.declared.types.FormalKind.TheVariants as shape
+use Rattle.sim_scope.specs.declared.types.Mode.{Mode}
 use Rattle.sim_scope.specs.declared.types.Mode.TheVariants as mode
 use Rattle.sim_scope.specs.declared.types.Position.{Position}
 use Rattle.sim_scope.specs.declared.types.Position.TheVariants.{ClassBody, ClassStatement, Inside}
@@ -30,7 +35,8 @@ use Rattle.sim_scope.specs.declared.types.StandardPrefix.TheVariants as standard
 use Rattle.sim_scope.specs.Standard.{standard_prefix}
 use Rattle.sim_scope.specs.Walk.{arms_events, begin_of, block_events, declaration_events, declarations_events, program_events, statement_events, statements_events, whole_events}
 use Rattle.sim_meaning.specs.Texts.{BlockText, ClassText, ConnectionText, ProcedureText, Text, arms_texts, block_texts, declaration_texts, declarations_texts, prefix_texts, program_texts, statement_texts, statements_texts, PrefixedText, prefixed_texts, standard_texts}
-use Rattle.sim_agree.specs.Plain.{Each, Plain, PlainArms, PlainBlock, PlainDeclarations, PlainHeading, PlainMode, PlainSpecification, PlainStatement, PlainStatements, PlainWord, PlainStart}
+use Rattle.sim_static.specs.UnbuiltForms.{is_by_name, is_name, is_same, names_by_name}
+use Rattle.sim_agree.specs.Plain.{Each, Plain, PlainArms, PlainBlock, PlainDeclarations, PlainHeading, PlainSpecification, PlainStatement, PlainStatements, PlainStart}
 use Rattle.sim_agree.proofs.StandardPrefixes.{Spells, brought_texts, classes_of, no_texts, texts_of_standard}
 
 -- what a block or a class declares itself, but for its parameters, procedures and classes
@@ -105,6 +111,21 @@ abbrev pub PlainFormal : FormalKind → Option SimType → Type 0
 PlainFormal shape.Simple (Some ty) = Unit {0}
 PlainFormal shape.Array (Some ty) = Unit {0}
 PlainFormal _ _ = ⊥
+
+-- what the heading of a text says of modes
+abbrev pub modes_of : Text → List ModePart
+modes_of (ProcedureText result h a) = h.modes
+modes_of (ClassText prefix h ds ss) = h.modes
+modes_of _ = []
+
+-- What is passed by name is so by the text's heading; what is specified as an array is not.
+abbrev pub ModeWritten : Text → Identifier → Mode → Type 0
+ModeWritten x y mode.ByName = is_by_name (modes_of x) y ≡ true
+ModeWritten x y _ = Unit {0}
+
+abbrev pub KindWritten : Text → Identifier → FormalKind → Type 0
+KindWritten x y shape.Array = is_by_name (modes_of x) y ≡ false
+KindWritten x y _ = Unit {0}
 
 abbrev pub PlainKind : BlockKind → Type 0
 PlainKind kind.Program = Unit {0}
@@ -201,9 +222,10 @@ pub data Grouped : List Open → List Mark → List Text → Type 0 where
       → Grouped (item x owed ∷ os) ms xs → Grouped (item x owed ∷ os) (Declares y (entry.Virtual (result_named result) None) ∷ (quals ++ ms)) xs
   parameter : {os : List Open} {ms : List Mark} {xs : List Text} (x : Text) (owed : List Mark) (y : Identifier) → Taking x → Has (Headed y) owed
       → Grouped (item x owed ∷ os) ms xs → Grouped (item x owed ∷ os) (Parameter y ∷ ms) xs
-  moded : {os : List Open} {ms : List Mark} {xs : List Text} (y : Identifier) → Grouped os ms xs → Grouped os (Moded y mode.ByValue ∷ ms) xs
-  specified : {os : List Open} {ms : List Mark} {xs : List Text} (quals : List Mark) (y : Identifier) (k : FormalKind) (ty : Option SimType) → PlainFormal k ty → Quals (AreReferences ty) quals
-      → Grouped os ms xs → Grouped os (Specified y k ty ∷ (quals ++ ms)) xs
+  moded : {os : List Open} {ms : List Mark} {xs : List Text} (x : Text) (owed : List Mark) (y : Identifier) (m : Mode) → ModeWritten x y m
+      → Grouped (item x owed ∷ os) ms xs → Grouped (item x owed ∷ os) (Moded y m ∷ ms) xs
+  specified : {os : List Open} {ms : List Mark} {xs : List Text} (x : Text) (owed quals : List Mark) (y : Identifier) (k : FormalKind) (ty : Option SimType) → KindWritten x y k → PlainFormal k ty → Quals (AreReferences ty) quals
+      → Grouped (item x owed ∷ os) ms xs → Grouped (item x owed ∷ os) (Specified y k ty ∷ (quals ++ ms)) xs
   headed : {os : List Open} {ms : List Mark} {xs : List Text} (x : Text) (owed : List Mark) (y : Identifier)
       → Grouped (item x owed ∷ os) ms xs → Grouped (item x (Headed y ∷ owed) ∷ os) (Headed y ∷ ms) xs
   prefixes : {os : List Open} {ms : List Mark} {xs : List Text} (x : Text) (owed : List Mark) (y : Identifier) → Prefixing x → standard_prefix y.name ≡ None
@@ -334,6 +356,25 @@ module _ (x : Text) (declares_some : Declaring x) (os : List Open) where
 
 -- ---- headings
 
+or_true : (c : Bool) → (c || true) ≡ true
+or_true true = refl
+or_true false = refl
+
+or_false : (a b : Bool) → (a || b) ≡ false → (a ≡ false) × (b ≡ false)
+or_false false b e = (refl, e)
+or_false true b e = absurd (false≢true (sym e))
+
+same_itself : (y : Identifier) → is_same y y ≡ true
+same_itself y = (bytes_eq-Decides y.name y.name).1 refl
+
+-- the first of the names of a mode part, and the others
+name_first : (m : Word) (y : Identifier) (ys : List Identifier) → is_name m ≡ true → names_by_name y m (y ∷ ys) ≡ true
+name_first m y ys is = ap (λ c. c && (is_same y y || list_any (is_same y) ys)) is ∙ ap (λ c. c || list_any (is_same y) ys) (same_itself y)
+
+name_later : (m : Word) (z y : Identifier) (ys : List Identifier) → names_by_name z m ys ≡ true → names_by_name z m (y ∷ ys) ≡ true
+name_later word.Name z y ys e = ap (λ c. is_same z y || c) e ∙ or_true (is_same z y)
+name_later word.Value z y ys e = e
+
 module _ (x : Text) (takes : Taking x) (rest : List Mark) (os : List Open) where
   abbrev Of : List Mark → List Open
   Of owed = item x owed ∷ os
@@ -354,8 +395,8 @@ module _ (x : Text) (takes : Taking x) (rest : List Mark) (os : List Open) where
   parameter_one : (owed : List Mark) (y : Identifier) → Has (Headed y) owed → Adds (Of owed) (Parameter y ∷ []) [] (Of owed)
   parameter_one owed y q = record { before = λ ms ts g. parameter x owed y takes q g }
 
-  moded_one : (owed : List Mark) (y : Identifier) → Adds (Of owed) (Moded y mode.ByValue ∷ []) [] (Of owed)
-  moded_one owed y = record { before = λ ms ts g. moded y g }
+  moded_one : (owed : List Mark) (y : Identifier) (m : Mode) → ModeWritten x y m → Adds (Of owed) (Moded y m ∷ []) [] (Of owed)
+  moded_one owed y m written = record { before = λ ms ts g. moded x owed y m written g }
 
   headed_one : (owed : List Mark) (y : Identifier) → Adds (Of (Headed y ∷ owed)) (Headed y ∷ []) [] (Of owed)
   headed_one owed y = record { before = λ ms ts g. headed x owed y g }
@@ -365,35 +406,43 @@ module _ (x : Text) (takes : Taking x) (rest : List Mark) (os : List Open) where
   parameters_add [] owed q = none
   parameters_add (y ∷ ys) owed q = both (parameter_one owed y q.0) (parameters_add ys owed q.1)
 
-  moded_add : (m : Word) → PlainWord m → (ys : List Identifier) (owed : List Mark) → Adds (Of owed) (each (moded_marks m) ys) [] (Of owed)
-  unfolding moded_marks mode_named
-  moded_add word.Value p [] owed = none
-  moded_add word.Value p (y ∷ ys) owed = both (moded_one owed y) (moded_add word.Value p ys owed)
-  moded_add word.Name p ys owed = absurd p
+  written : (m : Word) (y : Identifier) → (is_name m ≡ true → is_by_name (modes_of x) y ≡ true) → ModeWritten x y (mode_named m)
+  unfolding mode_named
+  written word.Name y by_name = by_name refl
+  written word.Value y by_name = tt
 
-  modes_add : (parts : List ModePart) → Each PlainMode parts → (owed : List Mark) → Adds (Of owed) (each mode_part_marks parts) [] (Of owed)
-  modes_add [] p owed = none
-  modes_add (m ∷ parts) p owed = both (moded_add m.mode p.0 m.names owed) (modes_add parts p.1 owed)
+  moded_add : (m : Word) (ys : List Identifier) (owed : List Mark) → ((y : Identifier) → names_by_name y m ys ≡ true → is_by_name (modes_of x) y ≡ true) → Adds (Of owed) (each (moded_marks m) ys) [] (Of owed)
+  unfolding moded_marks
+  moded_add m [] owed by_name = none
+  moded_add m (y ∷ ys) owed by_name = both (moded_one owed y (mode_named m) (written m y (λ is. by_name y (name_first m y ys is)))) (moded_add m ys owed (λ z e. by_name z (name_later m z y ys e)))
 
-  specified_typed : (type : TypeName) (owed : List Mark) (y : Identifier) (k : FormalKind) → PlainFormal k (Some (type_named type)) → Adds (Of owed) (Specified y k (Some (type_named type)) ∷ qualified_marks type) [] (Of owed)
-  specified_typed type owed y k p = record { before = λ ms ts g. specified (qualified_marks type) y k (Some (type_named type)) p (quals_of_type type) g }
+  modes_add : (parts : List ModePart) (owed : List Mark) → ((y : Identifier) → is_by_name parts y ≡ true → is_by_name (modes_of x) y ≡ true) → Adds (Of owed) (each mode_part_marks parts) [] (Of owed)
+  modes_add [] owed by_name = none
+  modes_add (m ∷ parts) owed by_name =
+      both (moded_add m.mode m.names owed (λ y e. by_name y (ap (λ c. c || is_by_name parts y) e)))
+      (modes_add parts owed (λ y e. by_name y (ap (λ c. names_by_name y m.mode m.names || c) e ∙ or_true (names_by_name y m.mode m.names))))
+
+  specified_typed : (type : TypeName) (owed : List Mark) (y : Identifier) (k : FormalKind) → KindWritten x y k → PlainFormal k (Some (type_named type)) → Adds (Of owed) (Specified y k (Some (type_named type)) ∷ qualified_marks type) [] (Of owed)
+  specified_typed type owed y k w p = record { before = λ ms ts g. specified x owed (qualified_marks type) y k (Some (type_named type)) w p (quals_of_type type) g }
 
   simple_add : (type : TypeName) (ys : List Identifier) (owed : List Mark) → Adds (Of owed) (each (specified_marks (syntax.Simple type)) ys) [] (Of owed)
   unfolding specified_marks
   simple_add type [] owed = none
-  simple_add type (y ∷ ys) owed = both (specified_typed type owed y shape.Simple tt) (simple_add type ys owed)
+  simple_add type (y ∷ ys) owed = both (specified_typed type owed y shape.Simple tt tt) (simple_add type ys owed)
 
-  arrays_add : (type : TypeName) (i : ℕ) (ys : List Identifier) (owed : List Mark) → Adds (Of owed) (each (specified_marks (syntax.Array type i)) ys) [] (Of owed)
+  arrays_add : (type : TypeName) (i : ℕ) (ys : List Identifier) (owed : List Mark) → list_any (is_by_name (modes_of x)) ys ≡ false → Adds (Of owed) (each (specified_marks (syntax.Array type i)) ys) [] (Of owed)
   unfolding specified_marks
-  arrays_add type i [] owed = none
-  arrays_add type i (y ∷ ys) owed = both (specified_typed type owed y shape.Array tt) (arrays_add type i ys owed)
+  arrays_add type i [] owed free = none
+  arrays_add type i (y ∷ ys) owed free =
+      let q = or_false (is_by_name (modes_of x) y) (list_any (is_by_name (modes_of x)) ys) free in
+      both (specified_typed type owed y shape.Array q.0 tt) (arrays_add type i ys owed q.1)
 
-  specified_add : (k : Specifier) (ys : List Identifier) (owed : List Mark) → PlainSpecification (record { kind = k; names = ys }) → Adds (Of owed) (each (specified_marks k) ys) [] (Of owed)
+  specified_add : (k : Specifier) (ys : List Identifier) (owed : List Mark) → PlainSpecification (modes_of x) (record { kind = k; names = ys }) → Adds (Of owed) (each (specified_marks k) ys) [] (Of owed)
   specified_add (syntax.Simple type) ys owed p = simple_add type ys owed
-  specified_add (syntax.Array type i) ys owed p = arrays_add type i ys owed
-  specified_add (syntax.Procedure type i) ys owed p = absurd p
+  specified_add (syntax.Array type i) ys owed p = arrays_add type i ys owed p
+  specified_add (syntax.Procedure type i) ys owed p = absurd (false≢true (sym p))
 
-  specifications_add : (ys : List Specification) → Each PlainSpecification ys → (owed : List Mark) → Adds (Of owed) (each specification_marks ys) [] (Of owed)
+  specifications_add : (ys : List Specification) → Each (PlainSpecification (modes_of x)) ys → (owed : List Mark) → Adds (Of owed) (each specification_marks ys) [] (Of owed)
   specifications_add [] p owed = none
   specifications_add (y ∷ ys) p owed = both (specified_add y.kind y.names owed p.0) (specifications_add ys p.1 owed)
 
@@ -402,10 +451,12 @@ module _ (x : Text) (takes : Taking x) (rest : List Mark) (os : List Open) where
   headed_add [] = none
   headed_add (y ∷ ys) = both (headed_one (each headed_marks ys ++ rest) y) (headed_add ys)
 
-  heading_adds : (h : Heading) → PlainHeading h → Adds (Of (each headed_marks h.formals ++ rest)) (heading_marks h) [] (Of rest)
-  heading_adds h p =
+  heading_adds : (h : Heading) → h.modes ≡ modes_of x → PlainHeading h → Adds (Of (each headed_marks h.formals ++ rest)) (heading_marks h) [] (Of rest)
+  heading_adds h same p =
       let owed : List Mark = each headed_marks h.formals ++ rest in
-      both (parameters_add h.formals owed (all_headed h.formals)) (both (modes_add h.modes p.0 owed) (both (specifications_add h.specifications p.1 owed) (headed_add h.formals)))
+      both (parameters_add h.formals owed (all_headed h.formals))
+      (both (modes_add h.modes owed (λ y e. ap (λ ms. is_by_name ms y) (sym same) ∙ e))
+      (both (specifications_add h.specifications (subst (λ ms. Each (PlainSpecification ms) h.specifications) same p) owed) (headed_add h.formals)))
 
 -- ---- statements and declarations
 
@@ -551,7 +602,7 @@ procedure_adds x d os owed n result j h a e p body =
     let y : Text = ProcedureText result h a in
     let ps : List Open = item x owed ∷ os in
     as_texts (y ∷ (statement_texts a ++ [])) (y ∷ statement_texts a) (ap (λ z. y ∷ z) (append-nil (statement_texts a)))
-    (both (both (begins_procedure x d owed n os result j h a) (heading_adds y tt [] ps h p)) (both body (ends y e ps)))
+    (both (both (begins_procedure x d owed n os result j h a) (heading_adds y tt [] ps h refl p)) (both body (ends y e ps)))
 
 class_adds : (x : Text) → Declaring x → (os : List Open) (owed : List Mark) → NoHeaded owed → (prefix : Option Identifier) (j : ℕ) (h : Heading) (i : Interface) (a : Statement) (e : ℕ) → PlainHeading h
     → Adds (item (ClassText prefix h (body_declarations a) (body_statements a)) (own_marks (body_declarations a)) ∷ item x owed ∷ os) (statement_events declaring ClassBody a) (declarations_texts (body_declarations a) ++ statements_texts (body_statements a))
@@ -566,7 +617,7 @@ class_adds x d os owed n prefix j h i a e p body =
     as_texts (y ∷ ((prefix_texts prefix ++ []) ++ (inside ++ []))) (declaration_texts (DeclareClass prefix j h i a e))
     (ap (λ z. y ∷ (z ++ (inside ++ []))) (append-nil (prefix_texts prefix)) ∙ ap (λ z. y ∷ (prefix_texts prefix ++ z)) (append-nil inside) ∙ sym (class_texts prefix j h i a e))
     (both (both (begins_class x d owed n os prefix j h (body_declarations a) (body_statements a))
-    (both (heading_adds y tt own ps h p) (interface_adds y tt own (no_headed_own (body_declarations a)) ps i))) (both body (ends y e ps)))
+    (both (heading_adds y tt own ps h refl p) (interface_adds y tt own (no_headed_own (body_declarations a)) ps i))) (both body (ends y e ps)))
 
 -- a statement stands in the body of a class, or elsewhere
 abbrev place : (in_class : Bool) → Position

@@ -29,15 +29,15 @@ use Rattle.sim_scope.specs.Tables.{BlockOf}
 use Rattle.sim_meaning.specs.Closing as closing
 use Rattle.sim_meaning.specs.Closing.{class_parameters}
 use Rattle.sim_meaning.specs.Entries.{formals_from, formals_of, numbers_in, numbers_of}
-use Rattle.sim_meaning.specs.Texts.{ProcedureText, Text, text}
-use Rattle.sim_sound.specs.Held.{Among, ArrayOf, Holds, IsFormal, first, formal_holds, held_by, later}
+use Rattle.sim_meaning.specs.Texts.{ProcedureText, Text, kind_of_type, text}
+use Rattle.sim_sound.specs.Held.{Among, ArrayOf, ByName, Holds, IsFormal, first, formal_holds, held_by, later}
 use Rattle.sim_sound.specs.Typed.{ClassThere, Distinct, FormalsAre, NoFormal, NoFormals, ProcedureThere}
 use Rattle.sim_agree.specs.Plain.{Plain}
 use Rattle.sim_agree.specs.TablesOf.{TablesOf}
 use Rattle.sim_agree.proofs.Clean.{Counts}
 use Rattle.sim_agree.proofs.Fine.{Alike, IsStandard, Rising, RowIn, attribute_row, class_row, formal_row, own_row, owner_in, procedure_row, simulation_row, virtual_row}
 use Rattle.sim_agree.proofs.Groups.{Declaring, OwnEntry, PlainFormal, Prefixing, Taking, Interfacing}
-use Rattle.sim_agree.proofs.Steps.{IsParameter, NoName, Parametric}
+use Rattle.sim_agree.proofs.Steps.{IsParameter, Parametric}
 use Rattle.sim_agree.proofs.Tables as t
 use Rattle.sim_agree.proofs.Tables.{Bs, Ts}
 
@@ -114,8 +114,9 @@ taken (n ∷ ns) (suc m) e = let f : length (n ∷ ns) ≡ suc (length ns) = ome
 
 module _ (s : Source) (of : TablesOf s) (plain : Plain s.program) (order : InOrder s.program) where
   -- each plain parameter has something to hold
-  formal_has : (m : Mode) (k : FormalKind) (ty : Option SimType) → NoName m → PlainFormal k ty → (h : Holds) × (formal_holds s m k ty ≡ Some h)
-  formal_has mode.ByName k ty n q = absurd n
+  formal_has : (m : Mode) (k : FormalKind) (ty : Option SimType) → (m ≡ mode.ByName → k ≡ shape.Array → ⊥) → PlainFormal k ty → (h : Holds) × (formal_holds s m k ty ≡ Some h)
+  formal_has mode.ByName shape.Simple (Some ty) n q = (ByName (kind_of_type ty), refl)
+  formal_has mode.ByName shape.Array (Some ty) n q = absurd (n refl refl)
   formal_has mode.ByValue shape.Simple (Some ty) n q = (held_by s ty, refl)
   formal_has mode.ByReference shape.Simple (Some ty) n q = (held_by s ty, refl)
   formal_has mode.ByValue shape.Array (Some ty) n q = (ArrayOf (held_by s ty), refl)
@@ -135,7 +136,7 @@ module _ (s : Source) (of : TablesOf s) (plain : Plain s.program) (order : InOrd
   of_entry d row at p = go row.entry refl p
     where
       go : (e : Entry) → row.entry ≡ e → Parametric e → IsSpecified d
-      go (entry.Formal f) e q = let h = formal_has f.mode f.kind f.ty q.0 q.1 in record { formal = f; entry = t.row_entry s of plain order d row at ∙ ap Some e; holds = h.0; is = h.1 }
+      go (entry.Formal f) e q = let h = formal_has f.mode f.kind f.ty (λ by_name. (t.by_name_row s of plain order d.0 row f at e by_name).1) q in record { formal = f; entry = t.row_entry s of plain order d row at ∙ ap Some e; holds = h.0; is = h.1 }
       go (entry.Unspecified w) e q = absurd (t.specified_row s of plain order d.0 row at w e)
       go (entry.Variable ty) e q = absurd q
       go (entry.Constant ty) e q = absurd q

@@ -18,11 +18,11 @@ use Rattle.sim_scope.specs.declared.types.BlockKind.TheVariants as kind
 use Rattle.sim_scope.specs.declared.types.Entry.{Entry}
 use Rattle.sim_scope.specs.declared.types.Entry.TheVariants as entry
 use Rattle.sim_scope.specs.declared.types.FormalKind.{FormalKind}
-use Rattle.sim_scope.specs.declared.types.Mode.TheVariants as mode
+use Rattle.sim_scope.specs.declared.types.Mode.{Mode}
 use Rattle.sim_scope.specs.declared.types.SimType.{SimType}
 use Rattle.sim_scope.specs.declared.types.SimType.TheVariants as t
 use Rattle.sim_scope.specs.declared.types.WrittenMode.{WrittenMode}
-use Rattle.sim_scope.specs.Building.{BuildingOf, Mark, block_around, broken, broken_if, changed, changed_row, closed, closed_at, counted, counted_in, declared, declared_again, declared_at, declared_inside, declared_new, declared_twice, entered, headed, holding_class, in_class, inner, inner_at, inner_in, is_match, is_procedure, level_in, marked, matched, matching, mode_allowed, moded, moded_as, opened, parameter, qualified, row_matching, row_of, specified, specified_as, token_in, unspecified_in, with_entry, with_mode, with_name, found_in, unspecified_at, prefixed_by, guards, guards_at, protecting}
+use Rattle.sim_scope.specs.Building.{BuildingOf, Mark, block_around, broken, broken_if, changed, changed_row, closed, closed_at, counted, counted_in, declared, declared_again, declared_at, declared_inside, declared_new, declared_twice, entered, headed, holding_class, in_class, inner, inner_at, inner_in, is_match, is_procedure, level_in, marked, matched, matching, mode_allowed, moded, moded_as, opened, parameter, qualified, row_matching, row_of, specified, specified_as, token_in, unspecified_in, with_entry, with_mode, with_name, found_in, unspecified_at, prefixed_by, guards, guards_at, protecting, is_by_name}
 use Rattle.sim_scope.specs.Declare.{declared_by, empty, result_named}
 use Rattle.sim_scope.specs.Levels.{holds_class, holds_class_in, is_standard}
 use Rattle.sim_scope.specs.Runs.{run}
@@ -243,14 +243,18 @@ entry_grows b d e other = entered_grows b d e other (slice_get b.tables.declarat
 rule_grows : (b : BuildingOf) (token : ℕ) (rule : Rule) → Grows Nowhere b (broken b token rule)
 rule_grows b token rule = record { flags = λ k e. e; rows = same_rows Nowhere b }
 
-moded_row_grows : (b : BuildingOf) (token : TokenNo) (d : DeclNo) (o : Option (Option WrittenMode)) → Grows Nowhere b (moded_as b token mode.ByValue d o)
-moded_row_grows b token d None = rule_grows b token.0 r.ModeNotAllowed
-moded_row_grows b token d (Some (Some w)) = rule_grows b token.0 r.ModeNotAllowed
-moded_row_grows b token d (Some None) = entry_grows b d _ (λ q. absurd (let f : entry.Unspecified (Some (record { token = token; mode = mode.ByValue })) ≡ entry.Class q.0 = q.1 in cc))
+moded_row_grows : (b : BuildingOf) (token : TokenNo) (m : Mode) (d : DeclNo) (o : Option (Option WrittenMode)) → Grows Nowhere b (moded_as b token m d o)
+moded_row_grows b token m d None = rule_grows b token.0 r.ModeNotAllowed
+moded_row_grows b token m d (Some (Some w)) = rule_grows b token.0 r.ModeNotAllowed
+moded_row_grows b token m d (Some None) = go (is_by_name m && in_class b)
+  where
+    go : (c : Bool) → Grows Nowhere b (if c then broken b token.0 r.ModeNotAllowed else with_entry b d (entry.Unspecified (Some (record { token = token; mode = m }))))
+    go true = rule_grows b token.0 r.ModeNotAllowed
+    go false = entry_grows b d _ (λ q. absurd (let f : entry.Unspecified (Some (record { token = token; mode = m })) ≡ entry.Class q.0 = q.1 in cc))
 
-moded_grows : (b : BuildingOf) (token : TokenNo) (o : Option DeclNo) → Grows Nowhere b (moded b token mode.ByValue o)
-moded_grows b token None = rule_grows b token.0 r.ModeNotAllowed
-moded_grows b token (Some d) = moded_row_grows b token d (unspecified_in (entry_of b.tables d))
+moded_grows : (b : BuildingOf) (token : TokenNo) (m : Mode) (o : Option DeclNo) → Grows Nowhere b (moded b token m o)
+moded_grows b token m None = rule_grows b token.0 r.ModeNotAllowed
+moded_grows b token m (Some d) = moded_row_grows b token m d (unspecified_in (entry_of b.tables d))
 
 mode_grows : (b : BuildingOf) (d : DeclNo) (k : FormalKind) (ty : Option SimType) (o : Option WrittenMode) → Grows Nowhere b (with_mode b d k ty o)
 mode_grows b d k ty None = entry_grows b d _ (λ q. absurd (cc))
@@ -412,8 +416,8 @@ run_held b (specifies_virtual x owed quals y result dx nh q g) h =
     (run_held (run marked (declared b y (entry.Virtual (result_named result) None)) quals) g
     (quals_held (declared b y (entry.Virtual (result_named result) None)) _ quals q (other_held b y (entry.Virtual (result_named result) None) (λ z. absurd (let f : entry.Virtual (result_named result) None ≡ entry.Class z.0 = z.1 in cc)) b.current h)))
 run_held b (parameter_mark x owed y tx has g) h = run_held (parameter b y) g (counted_held (declared b y (entry.Unspecified None)) (declared b y (entry.Unspecified None)).current (other_held b y (entry.Unspecified None) (λ z. absurd (let f : entry.Unspecified None ≡ entry.Class z.0 = z.1 in cc)) b.current h))
-run_held b (moded_mark y g) h = run_held (moded b y.token mode.ByValue (found_in b.tables b.current y.name)) g (held_same b (moded b y.token mode.ByValue (found_in b.tables b.current y.name)) (moded_grows b y.token (found_in b.tables b.current y.name)) h)
-run_held b (specified_mark quals y k ty pf q g) h =
+run_held b (moded_mark x owed y m written g) h = run_held (moded b y.token m (found_in b.tables b.current y.name)) g (held_same b (moded b y.token m (found_in b.tables b.current y.name)) (moded_grows b y.token m (found_in b.tables b.current y.name)) h)
+run_held b (specified_mark x owed quals y k ty written pf q g) h =
     let o : Option DeclNo = found_in b.tables b.current y.name in
     subst ClassesHeld (sym (run_both (specified (record b { latest = found_in b.tables b.current y.name }) y.token k ty (found_in b.tables b.current y.name)) quals _))
     (run_held (run marked (specified (record b { latest = found_in b.tables b.current y.name }) y.token k ty (found_in b.tables b.current y.name)) quals) g

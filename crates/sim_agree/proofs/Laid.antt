@@ -1,8 +1,8 @@
 -- The marks of a plain program beside the tokens of its text, with what each text uses.
 use Rattle.std.proofs.Common.{◌≡◌, ℕ, Bool, true, false, List, [], ◌∷◌, ◌++◌, length, map, Option, Some, None, refl, sym, ap, ◌∙◌, subst, append-nil, append_assoc}
+use Rattle.std.proofs.lemmas.Bool.{false≢true}
 use Rattle.sim_tree.specs.declared.expr.Identifier.{Identifier}
 use Rattle.sim_tree.specs.declared.stmt.Mode.{Mode as Word}
-use Rattle.sim_tree.specs.declared.stmt.Mode.TheVariants as word
 use Rattle.sim_tree.specs.declared.stmt.TypeName.{TypeName}
 use Rattle.sim_tree.specs.declared.stmt.TypeName.TheVariants as type_name
 use Rattle.sim_tree.specs.declared.stmt.Variable.{Variable}
@@ -16,7 +16,7 @@ use Rattle.sim_scope.specs.declared.types.Entry.{Entry}
 use Rattle.sim_scope.specs.declared.types.Entry.TheVariants as entry
 use Rattle.sim_scope.specs.declared.types.FormalKind.{FormalKind}
 use Rattle.sim_scope.specs.declared.types.FormalKind.TheVariants as shape
-use Rattle.sim_scope.specs.declared.types.Mode.TheVariants as mode
+use Rattle.sim_scope.specs.declared.types.Mode.{Mode}
 use Rattle.sim_scope.specs.declared.types.Position.{Position}
 use Rattle.sim_scope.specs.declared.types.Position.TheVariants.{ClassBody, ClassStatement, Inside}
 use Rattle.sim_scope.specs.declared.types.SimType.{SimType}
@@ -30,7 +30,7 @@ use Rattle.sim_scope.specs.Walk.{arms_events, begin_of, block_events, declaratio
 use Rattle.sim_meaning.specs.Texts.{BlockText, ClassText, ConnectionText, ProcedureText, Text, arms_texts, block_texts, declaration_texts, declarations_texts, program_texts, statement_texts, statements_texts, prefix_texts, PrefixedText, prefixed_texts, standard_texts}
 use Rattle.sim_tree.specs.Order.{Behind, Spot, Token, in_bounds, in_each, in_element, in_expression, in_name, in_result, in_schedule, in_segment, in_side, in_type, in_variable, tokens, in_prefix}
 use Rattle.sim_agree.specs.Order.{in_arms, in_block, in_declaration, in_declarations, in_statement, in_statements, in_virtual}
-use Rattle.sim_agree.specs.Plain.{Each, Plain, PlainArms, PlainBlock, PlainDeclarations, PlainHeading, PlainMode, PlainSpecification, PlainStatement, PlainStatements, PlainWord, PlainStart}
+use Rattle.sim_agree.specs.Plain.{Each, Plain, PlainArms, PlainBlock, PlainDeclarations, PlainHeading, PlainSpecification, PlainStatement, PlainStatements, PlainStart}
 use Rattle.sim_agree.proofs.Groups.{AreReferences, Declarable, OfReferences, PlainFormal, Quals, quals_of_result, quals_of_type, plain_prefix, standard_marks_are, whole_prefix}
 use Rattle.sim_agree.proofs.StandardPrefixes.{Spells, brought_texts, no_texts, texts_of_standard}
 
@@ -291,7 +291,7 @@ pub data Laid : List Frame → List Mark → List Spot → List Held → Type 0 
   leaves : {os : List Frame} {ms : List Mark} {l : List Spot} {hs : List Held} (i : ℕ) → Laid os ms l hs → Laid os ms (Behind i ∷ l) hs
   declares : {o : Frame} {os : List Frame} {ms : List Mark} {l : List Spot} {hs : List Held} (quals : List Mark) (x : Identifier) (e : Entry) → Declarable e → Quals (OfReferences e) quals → Laid (o ∷ os) ms l hs → Laid (o ∷ os) (Declares x e ∷ (quals ++ ms)) (Token x.token.0 ∷ l) hs
   parameter : {o : Frame} {os : List Frame} {ms : List Mark} {l : List Spot} {hs : List Held} (x : Identifier) → Laid (o ∷ os) ms l hs → Laid (o ∷ os) (Parameter x ∷ ms) (Token x.token.0 ∷ l) hs
-  moded : {os : List Frame} {ms : List Mark} {l : List Spot} {hs : List Held} (x : Identifier) → Laid os ms l hs → Laid os (Moded x mode.ByValue ∷ ms) l hs
+  moded : {os : List Frame} {ms : List Mark} {l : List Spot} {hs : List Held} (x : Identifier) (m : Mode) → Laid os ms l hs → Laid os (Moded x m ∷ ms) l hs
   specified : {os : List Frame} {ms : List Mark} {l : List Spot} {hs : List Held} (quals : List Mark) (x : Identifier) (k : FormalKind) (ty : Option SimType) → PlainFormal k ty → Quals (AreReferences ty) quals → Laid os ms l hs → Laid os (Specified x k ty ∷ (quals ++ ms)) l hs
   headed : {os : List Frame} {ms : List Mark} {l : List Spot} {hs : List Held} (x : Identifier) → Laid os ms l hs → Laid os (Headed x ∷ ms) l hs
   inner_mark : {os : List Frame} {ms : List Mark} {l : List Spot} {hs : List Held} (token : ℕ) → Laid os ms l hs → Laid os (Inner token ∷ ms) l hs
@@ -442,8 +442,8 @@ module _ (o : Frame) (os : List Frame) where
   parameter_one : (x : Identifier) → Lays (o ∷ os) (Parameter x ∷ []) (in_name x) [] (o ∷ os)
   parameter_one x = record { before = λ ms l hs h. parameter x h }
 
-  moded_one : (x : Identifier) → Lays (o ∷ os) (Moded x mode.ByValue ∷ []) (λ l. l) [] (o ∷ os)
-  moded_one x = record { before = λ ms l hs h. moded x h }
+  moded_one : (x : Identifier) (m : Mode) → Lays (o ∷ os) (Moded x m ∷ []) (λ l. l) [] (o ∷ os)
+  moded_one x m = record { before = λ ms l hs h. moded x m h }
 
   headed_one : (x : Identifier) → Lays (o ∷ os) (Headed x ∷ []) (λ l. l) [] (o ∷ os)
   headed_one x = record { before = λ ms l hs h. headed x h }
@@ -453,15 +453,14 @@ module _ (o : Frame) (os : List Frame) where
   parameters_lay [] = none
   parameters_lay (x ∷ xs) = both (in_name x) (in_each in_name xs) (parameter_one x) (parameters_lay xs)
 
-  moded_lay : (m : Word) → PlainWord m → (xs : List Identifier) → Lays (o ∷ os) (each (moded_marks m) xs) (λ l. l) [] (o ∷ os)
-  unfolding moded_marks mode_named
-  moded_lay word.Value p [] = none
-  moded_lay word.Value p (x ∷ xs) = both (λ l. l) (λ l. l) (moded_one x) (moded_lay word.Value p xs)
-  moded_lay word.Name p xs = absurd p
+  moded_lay : (m : Word) (xs : List Identifier) → Lays (o ∷ os) (each (moded_marks m) xs) (λ l. l) [] (o ∷ os)
+  unfolding moded_marks
+  moded_lay m [] = none
+  moded_lay m (x ∷ xs) = both (λ l. l) (λ l. l) (moded_one x (mode_named m)) (moded_lay m xs)
 
-  modes_lay : (xs : List ModePart) → Each PlainMode xs → Lays (o ∷ os) (each mode_part_marks xs) (λ l. l) [] (o ∷ os)
-  modes_lay [] p = none
-  modes_lay (x ∷ xs) p = both (λ l. l) (λ l. l) (moded_lay x.mode p.0 x.names) (modes_lay xs p.1)
+  modes_lay : (xs : List ModePart) → Lays (o ∷ os) (each mode_part_marks xs) (λ l. l) [] (o ∷ os)
+  modes_lay [] = none
+  modes_lay (x ∷ xs) = both (λ l. l) (λ l. l) (moded_lay x.mode x.names) (modes_lay xs)
 
   specified_typed : (type : TypeName) (x : Identifier) (k : FormalKind) → PlainFormal k (Some (type_named type)) → Lays (o ∷ os) (Specified x k (Some (type_named type)) ∷ qualified_marks type) (λ l. l) [] (o ∷ os)
   specified_typed type x k p = record { before = λ ms l hs h. specified (qualified_marks type) x k (Some (type_named type)) p (quals_of_type type) h }
@@ -476,14 +475,14 @@ module _ (o : Frame) (os : List Frame) where
   arrays_lay type i [] = none
   arrays_lay type i (x ∷ xs) = both (λ l. l) (λ l. l) (specified_typed type x shape.Array tt) (arrays_lay type i xs)
 
-  specified_lay : (k : Specifier) (xs : List Identifier) → PlainSpecification (record { kind = k; names = xs }) → Lays (o ∷ os) (each (specified_marks k) xs) (λ l. l) [] (o ∷ os)
-  specified_lay (syntax.Simple type) xs p = simple_lay type xs
-  specified_lay (syntax.Array type i) xs p = arrays_lay type i xs
-  specified_lay (syntax.Procedure type i) xs p = absurd p
+  specified_lay : (modes : List ModePart) (k : Specifier) (xs : List Identifier) → PlainSpecification modes (record { kind = k; names = xs }) → Lays (o ∷ os) (each (specified_marks k) xs) (λ l. l) [] (o ∷ os)
+  specified_lay modes (syntax.Simple type) xs p = simple_lay type xs
+  specified_lay modes (syntax.Array type i) xs p = arrays_lay type i xs
+  specified_lay modes (syntax.Procedure type i) xs p = absurd (false≢true (sym p))
 
-  specifications_lay : (xs : List Specification) → Each PlainSpecification xs → Lays (o ∷ os) (each specification_marks xs) (λ l. l) [] (o ∷ os)
-  specifications_lay [] p = none
-  specifications_lay (x ∷ xs) p = both (λ l. l) (λ l. l) (specified_lay x.kind x.names p.0) (specifications_lay xs p.1)
+  specifications_lay : (modes : List ModePart) (xs : List Specification) → Each (PlainSpecification modes) xs → Lays (o ∷ os) (each specification_marks xs) (λ l. l) [] (o ∷ os)
+  specifications_lay modes [] p = none
+  specifications_lay modes (x ∷ xs) p = both (λ l. l) (λ l. l) (specified_lay modes x.kind x.names p.0) (specifications_lay modes xs p.1)
 
   headed_lay : (xs : List Identifier) → Lays (o ∷ os) (each headed_marks xs) (λ l. l) [] (o ∷ os)
   unfolding headed_marks
@@ -492,7 +491,7 @@ module _ (o : Frame) (os : List Frame) where
 
   heading_lays : (h : Heading) → PlainHeading h → Lays (o ∷ os) (heading_marks h) (in_each in_name h.formals) [] (o ∷ os)
   heading_lays h p =
-      both (in_each in_name h.formals) (λ l. l) (parameters_lay h.formals) (both (λ l. l) (λ l. l) (modes_lay h.modes p.0) (both (λ l. l) (λ l. l) (specifications_lay h.specifications p.1) (headed_lay h.formals)))
+      both (in_each in_name h.formals) (λ l. l) (parameters_lay h.formals) (both (λ l. l) (λ l. l) (modes_lay h.modes) (both (λ l. l) (λ l. l) (specifications_lay h.modes h.specifications p) (headed_lay h.formals)))
 
 -- ---- statements and declarations
 

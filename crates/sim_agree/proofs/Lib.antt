@@ -18,6 +18,7 @@ pub mod Owned
 pub mod OwnedRuns
 pub mod BroughtClean
 pub mod CleanSteps
+pub mod ByNames
 pub mod CleanRuns
 pub mod Openings
 pub mod Completing

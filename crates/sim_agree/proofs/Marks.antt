@@ -15,12 +15,11 @@ use Rattle.sim_scope.specs.declared.scopes.Declaration.{Declaration}
 use Rattle.sim_scope.specs.declared.types.Entry.{Entry}
 use Rattle.sim_scope.specs.declared.types.Entry.TheVariants as entry
 use Rattle.sim_scope.specs.declared.types.FormalKind.{FormalKind}
-use Rattle.sim_scope.specs.declared.types.FormalKind.TheVariants as shape
-use Rattle.sim_scope.specs.declared.types.Mode.TheVariants as mode
+use Rattle.sim_scope.specs.declared.types.Mode.{Mode}
 use Rattle.sim_scope.specs.declared.types.SimType.{SimType}
 use Rattle.sim_scope.specs.declared.types.StandardPrefix.{StandardPrefix}
 use Rattle.sim_scope.specs.declared.types.WrittenMode.{WrittenMode}
-use Rattle.sim_scope.specs.Building.{BuildingOf, Mark, added, broken, broken_if, changed, changed_row, counted, counted_in, declared, declared_again, declared_at, declared_inside, declared_new, declared_twice, default_mode, entered, formal, headed, holding_class, in_class, inner, inner_at, inner_in, is_match, is_procedure, is_simple, marked, matched, matching, mode_allowed, moded, moded_as, parameter, prefixed_by, qualified, row_matching, row_of, specified, specified_as, token_in, unspecified_in, with_entry, with_mode, guards, guards_at, protecting}
+use Rattle.sim_scope.specs.Building.{BuildingOf, Mark, added, broken, broken_if, changed, changed_row, counted, counted_in, declared, declared_again, declared_at, declared_inside, declared_new, declared_twice, default_mode, entered, formal, headed, holding_class, in_class, inner, inner_at, inner_in, is_by_name, is_match, is_procedure, marked, matched, matching, mode_allowed, moded, moded_as, parameter, prefixed_by, qualified, row_matching, row_of, specified, specified_as, token_in, unspecified_in, with_entry, with_mode, guards, guards_at, protecting}
 use Rattle.sim_scope.specs.Runs.{run}
 use Rattle.sim_scope.specs.Scopes.{declared_in, entry_in, entry_of, is_procedure_entry, numbered}
 use Rattle.sim_scope.specs.Standard.{standard_prefix}
@@ -30,7 +29,7 @@ use Rattle.sim_meaning.specs.Entries.{numbers_in}
 use Rattle.sim_sound.specs.Held.{Among}
 use Rattle.sim_agree.proofs.Groups.{Declarable, OwnEntry, PlainFormal, Quals, qualifies, unqualified}
 use Rattle.sim_agree.proofs.Unprefixed.{Extras, Known, MatchOf, NamesFound, NoExtras, extras_in, is_wrong, no_extras, is_prefixable, brings_of, spelt_as, spelt_before}
-use Rattle.sim_agree.proofs.Steps.{Changed, Even, Finds, IsParameter, IsRow, Listed, NoName, Nothing, Parametric, RowIs, Step, Unmatched, Was, WrittenPlain, broken_step, fixed, get_more, new_step, same_step, some_same, unchanged}
+use Rattle.sim_agree.proofs.Steps.{Changed, Even, Finds, IsParameter, IsRow, Listed, Nothing, Parametric, RowIs, Step, Unmatched, Was, broken_step, fixed, get_more, new_step, same_step, some_same, unchanged}
 
 -- ---- a match of a virtual
 
@@ -315,7 +314,7 @@ parameter_step b x n cur =
 
 -- ---- what becomes known of a parameter
 
-entry_step : (b : BuildingOf) (d : DeclNo) (w : Option WrittenMode) (e : Entry) (o : Option Declaration) → slice_get b.tables.declarations d.0 ≡ o → entry_in o ≡ Some (entry.Unspecified w) → (WrittenPlain w → Parametric e) → IsParameter e → Step b (entered b d e o) Nothing
+entry_step : (b : BuildingOf) (d : DeclNo) (w : Option WrittenMode) (e : Entry) (o : Option Declaration) → slice_get b.tables.declarations d.0 ≡ o → entry_in o ≡ Some (entry.Unspecified w) → Parametric e → IsParameter e → Step b (entered b d e o) Nothing
 entry_step b d w e None at is fine param = absurd (cc)
 entry_step b d w e (Some row) at is fine param = record {
   current = refl;
@@ -374,7 +373,7 @@ entry_step b d w e (Some row) at is fine param = record {
     stays f old true is p = (new, here f is, subst (λ z. Changed z new) (some_same row old (sym (old_here f is) ∙ p)) change)
     stays f old false is p = (old, set_other ds d.0 f new is ∙ p, unchanged old)
 
-is_unspecified : (o : Option Entry) (w : Option WrittenMode) → unspecified_in o ≡ Some w → o ≡ Some (entry.Unspecified w)
+pub is_unspecified : (o : Option Entry) (w : Option WrittenMode) → unspecified_in o ≡ Some w → o ≡ Some (entry.Unspecified w)
 is_unspecified (Some (entry.Unspecified v)) w e = ap (λ z. Some (entry.Unspecified z)) (some_same v w e)
 is_unspecified (Some (entry.Attribute name parameter result)) w e = absurd (cc)
 is_unspecified None w e = absurd (cc)
@@ -386,32 +385,26 @@ is_unspecified (Some (entry.Class n)) w e = absurd (cc)
 is_unspecified (Some (entry.Virtual ty n)) w e = absurd (cc)
 is_unspecified (Some (entry.Formal f)) w e = absurd (cc)
 
-with_entry_step : (b : BuildingOf) (d : DeclNo) (w : Option WrittenMode) (e : Entry) → unspecified_in (entry_of b.tables d) ≡ Some w → (WrittenPlain w → Parametric e) → IsParameter e → Step b (with_entry b d e) Nothing
+with_entry_step : (b : BuildingOf) (d : DeclNo) (w : Option WrittenMode) (e : Entry) → unspecified_in (entry_of b.tables d) ≡ Some w → Parametric e → IsParameter e → Step b (with_entry b d e) Nothing
 unfolding entry_of
 with_entry_step b d w e is fine param = entry_step b d w e (slice_get b.tables.declarations d.0) refl (is_unspecified (entry_in (slice_get b.tables.declarations d.0)) w is) fine param
 
-moded_row : (b : BuildingOf) (token : TokenNo) (d : DeclNo) (o : Option (Option WrittenMode)) → unspecified_in (entry_of b.tables d) ≡ o → Step b (moded_as b token mode.ByValue d o) Nothing
-moded_row b token d None is = same_step b _ _ refl refl
-moded_row b token d (Some (Some w)) is = same_step b _ _ refl refl
-moded_row b token d (Some None) is = with_entry_step b d None (entry.Unspecified (Some (record { token = token; mode = mode.ByValue }))) is (λ q. refl) tt
-
-pub moded_step : (b : BuildingOf) (token : TokenNo) (o : Option DeclNo) → Step b (moded b token mode.ByValue o) Nothing
-moded_step b token None = same_step b _ _ refl refl
-moded_step b token (Some d) = moded_row b token d (unspecified_in (entry_of b.tables d)) refl
-
-no_default_name : (k : FormalKind) (ty : Option SimType) → NoName (default_mode k ty)
-unfolding default_mode
-no_default_name shape.Simple ty = go (is_simple ty)
+moded_row : (b : BuildingOf) (token : TokenNo) (m : Mode) (d : DeclNo) (o : Option (Option WrittenMode)) → unspecified_in (entry_of b.tables d) ≡ o → Step b (moded_as b token m d o) Nothing
+moded_row b token m d None is = same_step b _ _ refl refl
+moded_row b token m d (Some (Some w)) is = same_step b _ _ refl refl
+moded_row b token m d (Some None) is = go (is_by_name m && in_class b)
   where
-    go : (c : Bool) → NoName (if c then mode.ByValue else mode.ByReference)
-    go true = tt
-    go false = tt
-no_default_name shape.Array ty = tt
-no_default_name shape.Procedure ty = tt
+    go : (c : Bool) → Step b (if c then broken b token.0 r.ModeNotAllowed else with_entry b d (entry.Unspecified (Some (record { token = token; mode = m })))) Nothing
+    go true = same_step b _ _ refl refl
+    go false = with_entry_step b d None (entry.Unspecified (Some (record { token = token; mode = m }))) is tt tt
+
+pub moded_step : (b : BuildingOf) (token : TokenNo) (m : Mode) (o : Option DeclNo) → Step b (moded b token m o) Nothing
+moded_step b token m None = same_step b _ _ refl refl
+moded_step b token m (Some d) = moded_row b token m d (unspecified_in (entry_of b.tables d)) refl
 
 specified_mode : (b : BuildingOf) (d : DeclNo) (k : FormalKind) (ty : Option SimType) (w : Option WrittenMode) → unspecified_in (entry_of b.tables d) ≡ Some w → PlainFormal k ty → Step b (with_mode b d k ty w) Nothing
-specified_mode b d k ty None is p = with_entry_step b d None (formal (default_mode k ty) k ty) is (λ q. (no_default_name k ty, p)) tt
-specified_mode b d k ty (Some w) is p = broken_step (not (mode_allowed w.mode k ty)) b _ w.token.0 r.ModeNotAllowed Nothing (with_entry_step b d (Some w) (formal w.mode k ty) is (λ q. (subst NoName (sym q) tt, p)) tt)
+specified_mode b d k ty None is p = with_entry_step b d None (formal (default_mode k ty) k ty) is p tt
+specified_mode b d k ty (Some w) is p = broken_step (not (mode_allowed w.mode k ty)) b _ w.token.0 r.ModeNotAllowed Nothing (with_entry_step b d (Some w) (formal w.mode k ty) is p tt)
 
 specified_row : (b : BuildingOf) (token : TokenNo) (k : FormalKind) (ty : Option SimType) (d : DeclNo) (o : Option (Option WrittenMode)) → unspecified_in (entry_of b.tables d) ≡ o → PlainFormal k ty → Step b (specified_as b token k ty d o) Nothing
 specified_row b token k ty d None is p = same_step b _ _ refl refl

@@ -1,5 +1,5 @@
 -- What the declarations of an allowed plain program may be: where each reference has a qualification, its type is that of a class.
-use Rattle.std.proofs.Common.{◌≡◌, ◌+◌, ◌⊎◌, inl, inr, ℕ, false, List, Option, Some, None, sym, ap, ◌∙◌, subst}
+use Rattle.std.proofs.Common.{◌≡◌, ◌+◌, ◌⊎◌, inl, inr, ℕ, false, List, Option, Some, None, refl, sym, ap, ◌∙◌, subst}
 use Rattle.std.specs.Prelude.{slice_get}
 use Rattle.sim_base.specs.declared.numbering.DeclNo.{DeclNo}
 use Rattle.sim_agree.specs.Order.{InOrder}
@@ -39,7 +39,7 @@ use Rattle.sim_agree.proofs.StandardPrefixes.{IsBrought}
 use Rattle.sim_agree.proofs.Groups.{AreReferences, IsReference, OfReferences, PlainFormal}
 use Rattle.sim_agree.proofs.Headings as h
 use Rattle.sim_agree.proofs.Qualified as q
-use Rattle.sim_agree.proofs.Steps.{IsParameter, NoName, Parametric}
+use Rattle.sim_agree.proofs.Steps.{IsParameter, Parametric}
 use Rattle.sim_agree.proofs.Tables as t
 use Rattle.sim_agree.proofs.Tables.{Bs, Ts}
 
@@ -128,8 +128,9 @@ types_to s class c (entry.Virtual None own) r = absurd r
 types_to s class c (entry.Unspecified w) r = absurd r
 types_to s class c (entry.Attribute name given result) r = absurd r
 
-formal_proper : (s : Source) (m : Mode) (k : FormalKind) (ty : Option SimType) → NoName m → PlainFormal k ty → ProperResult s ty → ProperFormal s m k ty
-formal_proper s mode.ByName k ty n p r = absurd n
+formal_proper : (s : Source) (m : Mode) (k : FormalKind) (ty : Option SimType) → (m ≡ mode.ByName → k ≡ shape.Array → ⊥) → PlainFormal k ty → ProperResult s ty → ProperFormal s m k ty
+formal_proper s mode.ByName shape.Simple (Some ty) n p r = r
+formal_proper s mode.ByName shape.Array (Some ty) n p r = absurd (n refl refl)
 formal_proper s mode.ByValue shape.Simple (Some ty) n p r = r
 formal_proper s mode.ByValue shape.Array (Some ty) n p r = r
 formal_proper s mode.ByReference shape.Simple (Some ty) n p r = r
@@ -180,7 +181,8 @@ module _ (s : Source) (of : TablesOf s) (plain : Plain s.program) (order : InOrd
   shaped d row at (entry.Virtual result own) is en r = r
   shaped d row at (entry.Formal f) is en r =
       let x = t.text_of_row s of plain order d row at in
-      let p = subst Parametric is (h.param_in s of plain order x.0 d row x.2 (subst IsParameter (sym is) tt)) in formal_proper s f.mode f.kind f.ty p.0 p.1 r
+      let p = subst Parametric is (h.param_in s of plain order x.0 d row x.2 (subst IsParameter (sym is) tt)) in
+      formal_proper s f.mode f.kind f.ty (λ by_name. (t.by_name_row s of plain order d row f at is by_name).1) p r
   shaped d row at (entry.Unspecified w) is en r = absurd (t.specified_row s of plain order d row at w is)
   shaped d row at (entry.Attribute name given result) is en r =
       subst (ProperEntry s) is (attribute_proper row (rows.attribute_is s of plain order d row at name given result is))

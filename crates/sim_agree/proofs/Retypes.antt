@@ -3,6 +3,7 @@ use Rattle.std.proofs.Common.{◌≡◌, ◌⊎◌, inl, inr, ℕ, Option, Some,
 use Rattle.sim_base.specs.declared.numbering.DeclNo.{DeclNo}
 use Rattle.sim_scope.specs.declared.types.Entry.{Entry}
 use Rattle.sim_scope.specs.declared.types.Entry.TheVariants as entry
+use Rattle.sim_scope.specs.declared.types.Formal.{Formal}
 use Rattle.sim_scope.specs.declared.types.FormalKind.{FormalKind}
 use Rattle.sim_scope.specs.declared.types.FormalKind.TheVariants as shape
 use Rattle.sim_scope.specs.declared.types.SimType.{SimType}
@@ -100,7 +101,7 @@ alike_to _ _ class r a = absurd a
 
 parametric_to : (old : Entry) (class : DeclNo) → Parametric old → Parametric (entry_to class old)
 unfolding entry_to
-parametric_to (entry.Formal f) class p = (p.0, of_kind f.kind f.ty p.1)
+parametric_to (entry.Formal f) class p = of_kind f.kind f.ty p
   where
     of_kind : (k : FormalKind) (ty : Option SimType) → PlainFormal k ty → PlainFormal k (type_to class ty)
     of_kind shape.Simple (Some ty) q = tt
@@ -195,6 +196,25 @@ module _ (old new : Entry) (e : (new ≡ old) ⊎ (OfReferences old × ((class :
       go : (new ≡ old) ⊎ (OfReferences old × ((class : DeclNo) × (new ≡ entry_to class old))) → old ≡ entry.Unspecified w
       go (inl q) = sym q ∙ is
       go (inr q) = absurd (back old q.1.0 q.0 (sym q.1.1 ∙ is))
+
+  pub formal_was : (f : Formal) → new ≡ entry.Formal f → (g : Formal) × (old ≡ entry.Formal g) × (g.mode ≡ f.mode) × (g.kind ≡ f.kind)
+  unfolding entry_to
+  formal_was f is = go e
+    where
+      back : (old : Entry) (class : DeclNo) → entry_to class old ≡ entry.Formal f → (g : Formal) × (old ≡ entry.Formal g) × (g.mode ≡ f.mode) × (g.kind ≡ f.kind)
+      back (entry.Formal g) class q = (g, refl, (let h : g.mode ≡ f.mode = cc in h), (let h : g.kind ≡ f.kind = cc in h))
+      back (entry.Variable ty) class q = absurd (cc)
+      back (entry.Constant ty) class q = absurd (cc)
+      back (entry.Array ty n) class q = absurd (cc)
+      back (entry.Procedure given n) class q = absurd (cc)
+      back (entry.Class n) class q = absurd (cc)
+      back (entry.Unspecified w) class q = absurd (cc)
+      back (entry.Virtual given n) class q = absurd (cc)
+      back (entry.Attribute name parameter given) class q = absurd (cc)
+
+      go : (new ≡ old) ⊎ (OfReferences old × ((class : DeclNo) × (new ≡ entry_to class old))) → (g : Formal) × (old ≡ entry.Formal g) × (g.mode ≡ f.mode) × (g.kind ≡ f.kind)
+      go (inl q) = (f, sym q ∙ is, refl, refl)
+      go (inr q) = back old q.1.0 (sym q.1.1 ∙ is)
 
   pub virtual_new : is_virtual new ≡ is_virtual old
   unfolding entry_to

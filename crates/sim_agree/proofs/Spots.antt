@@ -706,7 +706,7 @@ run_laid b ts from (parameter {o = o} {os = os} x g) a f =
     run_laid (parameter_of b x) ts (x.token.0 + 1) g a.1
     (later_laid (parameter_of b x) ts (o ∷ os) from (x.token.0 + 1) (x.token.0 + 1) (let le : from ≤ x.token.0 = a.0 in omega arith) (let z : x.token.0 + 1 ≤ x.token.0 + 1 = omega arith in z)
     (named_laid b (parameter_of b x) x (entry.Unspecified None) n ts o os from (parameter_step b x n f.stack.1) a.0 f))
-run_laid {os = os} b ts from (moded x g) a f = run_laid _ ts from g a (quiet_laid b _ ts os from (moded_step b x.token (found_in b.tables b.current x.name)) f)
+run_laid {os = os} b ts from (moded x m g) a f = run_laid _ ts from g a (quiet_laid b _ ts os from (moded_step b x.token m (found_in b.tables b.current x.name)) f)
 run_laid {os = os} b ts from (specified {ms = ms} {hs = xs} quals x k ty p q g) a f =
     let c : BuildingOf = specified_of (met b (found_in b.tables b.current x.name)) x.token k ty (found_in b.tables b.current x.name) in
     subst (λ z. Final z (ts ++ xs)) (sym (run_both c quals ms))

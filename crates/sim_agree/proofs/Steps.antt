@@ -14,8 +14,6 @@ use Rattle.sim_scope.specs.declared.scopes.Declaration.{Declaration}
 use Rattle.sim_scope.specs.declared.types.BlockKind.{BlockKind}
 use Rattle.sim_scope.specs.declared.types.Entry.{Entry}
 use Rattle.sim_scope.specs.declared.types.Entry.TheVariants as entry
-use Rattle.sim_scope.specs.declared.types.Mode.{Mode}
-use Rattle.sim_scope.specs.declared.types.Mode.TheVariants as mode
 use Rattle.sim_scope.specs.declared.types.SimType.{SimType}
 use Rattle.sim_scope.specs.declared.types.StandardPrefix.{StandardPrefix}
 use Rattle.sim_scope.specs.declared.types.WrittenMode.{WrittenMode}
@@ -72,18 +70,10 @@ abbrev pub fixed : Option BlockOf → Fixed
 fixed None = None
 fixed (Some row) = Some (record { kind = row.kind; encloser = row.encloser; level = row.level; owner = row.owner; first = row.first; base = row.base })
 
--- a parameter that no mode part names, or one by value; and one that is specified as something plain
-abbrev pub WrittenPlain : Option WrittenMode → Type 0
-WrittenPlain None = Unit {0}
-WrittenPlain (Some w) = w.mode ≡ mode.ByValue
-
-abbrev pub NoName : Mode → Type 0
-NoName mode.ByName = ⊥
-NoName _ = Unit {0}
-
+-- a parameter that is not specified yet, and one that is specified as something plain
 abbrev pub Parametric : Entry → Type 0
-Parametric (entry.Unspecified w) = WrittenPlain w
-Parametric (entry.Formal f) = NoName f.mode × PlainFormal f.kind f.ty
+Parametric (entry.Unspecified w) = Unit {0}
+Parametric (entry.Formal f) = PlainFormal f.kind f.ty
 Parametric _ = ⊥
 
 -- ---- the declaration of an identifier in a block
@@ -171,7 +161,7 @@ IsParameter _ = ⊥
 
 -- what may become of an entry: a parameter is specified, and the match of a virtual becomes known
 abbrev pub IsSpecified : (old new : Entry) → Type 0
-IsSpecified old new = (w : Option WrittenMode) × (old ≡ entry.Unspecified w) × (WrittenPlain w → Parametric new) × IsParameter new
+IsSpecified old new = (w : Option WrittenMode) × (old ≡ entry.Unspecified w) × Parametric new × IsParameter new
 
 abbrev pub IsMatched : (old new : Entry) → Type 0
 IsMatched old new = (result : Option SimType) × (d : DeclNo) × (old ≡ entry.Virtual result None) × (new ≡ entry.Virtual result (Some d))

@@ -11,6 +11,9 @@ use Rattle.sim_scope.specs.declared.types.BlockKind.{BlockKind}
 use Rattle.sim_scope.specs.declared.types.BlockKind.TheVariants as kind
 use Rattle.sim_scope.specs.declared.types.Entry.{Entry}
 use Rattle.sim_scope.specs.declared.types.Entry.TheVariants as entry
+use Rattle.sim_scope.specs.declared.types.Formal.{Formal}
+use Rattle.sim_scope.specs.declared.types.FormalKind.TheVariants as shape
+use Rattle.sim_scope.specs.declared.types.Mode.TheVariants as mode
 use Rattle.sim_scope.specs.declared.types.WrittenMode.{WrittenMode}
 use Rattle.sim_scope.specs.declared.types.StandardClass.{StandardClass}
 use Rattle.sim_scope.specs.declared.types.StandardPrefix.{StandardPrefix}
@@ -31,6 +34,7 @@ use Rattle.sim_sound.specs.Held.{Among}
 use Rattle.sim_agree.specs.Plain.{Plain}
 use Rattle.prefix_bind.specs.Prefixes.{prefixed}
 use Rattle.sim_agree.specs.TablesOf.{TablesOf}
+use Rattle.sim_agree.proofs.ByNames.{ByNames, InHeading, OfName, OfProcedure as of_procedure}
 use Rattle.sim_agree.proofs.Clean.{Clean, Counts}
 use Rattle.sim_agree.proofs.Covered.{Covered}
 use Rattle.sim_agree.proofs.Owned.{Owned}
@@ -47,7 +51,7 @@ use Rattle.sim_agree.proofs.StandardBlocks.{no_base, no_standard, showing, stand
 use Rattle.sim_agree.proofs.Unprefixed.{Brings, Known, Named, NamesFound, Showing, brings_of, StandsIn, is_prefixable, nothing_bare}
 use Rattle.sim_agree.proofs.ClassRows.{class_entry, class_of_kind, class_stands, levels_of_kind, no_connection}
 use Rattle.sim_meaning.specs.Levels.{has_levels, is_class}
-use Rattle.sim_agree.proofs.Retypes.{alike_new, bare_around, bare_deeper, bare_first, bare_kind, bare_level, bare_numbers, bare_owner, class_new, kind_bare, param_now, param_was, parametric_new, procedure_new, unspecified_was, virtual_new, virtual_was}
+use Rattle.sim_agree.proofs.Retypes.{alike_new, bare_around, bare_deeper, bare_first, bare_kind, bare_level, bare_numbers, bare_owner, class_new, formal_was, kind_bare, param_now, param_was, parametric_new, procedure_new, unspecified_was, virtual_new, virtual_was}
 
 -- ---- the whole program, as it is declared
 
@@ -132,6 +136,14 @@ nothing_covered d row at refs = absurd (cc)
 pub program_covered : (p : Program) → Plain p → (declared_by p).least ≡ None → Covered (declared_by p)
 unfolding declared_by
 program_covered p q clean = (run_clean empty [] (program_grouped p q) tt nothing_agrees clean).3 nothing_covered
+
+nothing_by_name : ByNames empty []
+nothing_by_name d row at q = absurd (cc)
+
+-- what is passed by name is a parameter of a procedure, and no array
+pub program_by_name : (p : Program) → Plain p → (declared_by p).least ≡ None → ByNames (declared_by p) (program_texts p.prefix p.block)
+unfolding declared_by
+program_by_name p q clean = (run_clean empty [] (program_grouped p q) tt nothing_agrees clean).5 nothing_by_name
 
 pub program_final : (p : Program) → Plain p → InOrder p → Final (declared_by p) (program_held p.prefix p.block)
 unfolding declared_by
@@ -684,6 +696,28 @@ module _ (s : Source) (of : TablesOf s) (plain : Plain s.program) (order : InOrd
         front = λ n d r p t lt. (let o = C.rows.was d.0 r t in param_now o.0.entry r.entry o.2.entry (c.front n d o.0 (ap (λ z. slice_get z n) (sym numbers) ∙ p) o.1 (omega (arith, formals, lt))));
         back = λ n d r p t param. (let o = C.rows.was d.0 r t in let lt : n < w.0.formals = c.back n d o.0 (ap (λ z. slice_get z n) (sym numbers) ∙ p) o.1 (param_was o.0.entry r.entry o.2.entry param) in omega (arith, formals));
       }
+
+  pub by_name_row : (d : ℕ) (row : Declaration) (f : Formal) → slice_get s.tables.declarations d ≡ Some row → row.entry ≡ entry.Formal f → f.mode ≡ mode.ByName → (has_levels (slice_get Ts row.block) ≡ false) × (f.kind ≡ shape.Array → ⊥)
+  by_name_row d row f at is by_name =
+      let o = C.rows.was d row at in
+      let g = formal_was o.0.entry row.entry o.2.entry f is in
+      let p = program_by_name s.program plain of.unbroken d o.0 o.1 (subst OfName (sym g.1) (g.2 ∙ by_name)) in
+      (ap (λ n. has_levels (slice_get Ts n)) o.2.block ∙ ap has_levels p.at ∙ without_levels p.text p.procedure, λ array. subst (InHeading p.text o.0.name) g.1 p.heading (g.3 ∙ array))
+    where
+      without_levels : (x : Text) → of_procedure x → has_levels (Some x) ≡ false
+      without_levels (ProcedureText result h a) q = refl
+      without_levels (BlockText i ds ss) q = absurd q
+      without_levels (ClassText prefix h ds ss) q = absurd q
+      without_levels ConnectionText q = absurd q
+      without_levels (PrefixedText class es ds ss) q = absurd q
+      without_levels (StandardText which) q = absurd q
+
+  -- a parameter by name stands in the text of a procedure
+  pub by_name_outside : (d : DeclNo) (f : Formal) → entry_of s.tables d ≡ Some (entry.Formal f) → f.mode ≡ mode.ByName → has_levels (text s (block_of s d)) ≡ false
+  unfolding text
+  by_name_outside d f e by_name =
+      let r = entry_row d (entry.Formal f) e in
+      ap (λ n. has_levels (slice_get Ts n)) (block_is d r.0 r.1) ∙ (by_name_row d.0 r.0 f r.1 r.2 by_name).0
 
   -- each parameter is specified
   pub specified_row : (d : ℕ) (row : Declaration) → slice_get s.tables.declarations d ≡ Some row → (w : Option WrittenMode) → row.entry ≡ entry.Unspecified w → ⊥

@@ -44,6 +44,7 @@ tables_agree s of plain order =
       tokens = n.token_declared s of plain order;
       different = h.different s of plain order;
       parameters = h.parameters_formal s of plain order;
+      by_name = t.by_name_outside s of plain order;
       virtuals = m.virtuals s of plain order;
       procedures = h.procedures s of plain order;
       classes = h.classes s of plain order;

@@ -1,4 +1,4 @@
--- What is known of the tables of an allowed program without parameters by name and formal procedures.
+-- What is known of the tables of an allowed program without arrays by name and formal procedures.
 use Rattle.std.specs.Prelude.{◌≡◌, ◌<◌, ◌⊎◌, ℕ, Bool, true, false, List, [], length, Option, Some, None, slice_get}
 use Rattle.sim_base.specs.declared.numbering.DeclNo.{DeclNo}
 use Rattle.sim_scope.specs.declared.scopes.Denotation.TheVariants as denotation
@@ -80,7 +80,7 @@ ProperResult s None = Unit {0}
 ProperResult s (Some type) = ProperType s type
 
 abbrev pub ProperFormal : Source → Mode → FormalKind → Option SimType → Type 0
-ProperFormal s mode.ByName k type = ⊥
+ProperFormal s mode.ByName shape.Array type = ⊥
 ProperFormal s m shape.Procedure type = ⊥
 ProperFormal s m k None = ⊥
 ProperFormal s m k (Some type) = ProperType s type

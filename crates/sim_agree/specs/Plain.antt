@@ -1,12 +1,11 @@
--- Programs that have no form that is not built: no parameter is called by name or is a procedure, and no object is generated of a class that is
--- spelt `process`.
+-- Programs that have no form that is not built: no array is passed by name, no parameter is a procedure, and no object is generated of a class
+-- that is spelt `process`.
 use Rattle.std.specs.Prelude.{◌≡◌, false, List, [], ◌∷◌, Option, Some, None}
 use Rattle.sim_tree.specs.declared.expr.Identifier.{Identifier}
-use Rattle.sim_tree.specs.declared.stmt.Mode.{Mode as Word}
-use Rattle.sim_tree.specs.declared.stmt.Mode.TheVariants as word
+use Rattle.sim_static.specs.UnbuiltForms.{is_unbuilt}
 use Rattle.sim_static.specs.UnbuiltNames.{is_unbuilt_name}
 use Rattle.sim_tree.specs.Syntax as s
-use Rattle.sim_tree.specs.Syntax.{Expression, Expressions, Statement, Statements, Arms, Block, Declarations, Declaration, RightSide, Element, Schedule, BoundPair, Arrayed, Heading, Moded, Specification, Specified, Prefix, Program}
+use Rattle.sim_tree.specs.Syntax.{Expression, Expressions, Statement, Statements, Arms, Block, Declarations, Declaration, RightSide, Element, Schedule, BoundPair, Arrayed, Heading, Moded, Specification, Prefix, Program}
 
 -- a class of which an object is generated
 abbrev pub PlainClass : Identifier → Type 0
@@ -57,25 +56,12 @@ PlainBounds b = PlainExpression b.lower × PlainExpression b.upper
 abbrev pub PlainSegment : Arrayed → Type 0
 PlainSegment a = Each PlainBounds a.bounds
 
--- no mode part with `name`
-abbrev pub PlainWord : Word → Type 0
-PlainWord word.Value = Unit {0}
-PlainWord word.Name = ⊥
-
-abbrev pub PlainMode : Moded → Type 0
-PlainMode m = PlainWord m.mode
-
--- no `procedure` among the specifications
-abbrev pub PlainSpecified : Specified → Type 0
-PlainSpecified (s.Simple t) = Unit {0}
-PlainSpecified (s.Array t i) = Unit {0}
-PlainSpecified (s.Procedure result i) = ⊥
-
-abbrev pub PlainSpecification : Specification → Type 0
-PlainSpecification x = PlainSpecified x.kind
+-- no procedure is specified, and no array that is passed by name
+abbrev pub PlainSpecification : List Moded → Specification → Type 0
+PlainSpecification modes x = is_unbuilt modes x ≡ false
 
 abbrev pub PlainHeading : Heading → Type 0
-PlainHeading h = Each PlainMode h.modes × Each PlainSpecification h.specifications
+PlainHeading h = Each (PlainSpecification h.modes) h.specifications
 
 abbrev mutual
   pub PlainStatement : Statement → Type 0

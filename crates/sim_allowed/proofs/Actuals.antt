@@ -1,5 +1,5 @@
 -- What actual parameters and subscripts are.
-use Rattle.std.proofs.Common.{◌≡◌, ℕ, zero, suc, ◌+◌, Bool, true, false, List, [], ◌∷◌, length, Option, Some, None, refl, sym, ap, ◌∙◌, subst, arith, if◌then◌else◌}
+use Rattle.std.proofs.Common.{◌≡◌, inl, inr, ℕ, zero, suc, ◌+◌, Bool, true, false, List, [], ◌∷◌, length, Option, Some, None, refl, sym, ap, ◌∙◌, subst, arith, if◌then◌else◌}
 use Rattle.std.specs.Prelude.{◌&&◌, slice_get}
 use Rattle.sim_base.specs.declared.numbering.DeclNo.{DeclNo}
 use Rattle.sim_base.specs.declared.rule.Rule.{Rule}
@@ -31,19 +31,20 @@ use Rattle.sim_scope.specs.Expressions.{actuals, judge}
 use Rattle.sim_scope.specs.Found.{fault, lesser, lesser_of, precedes}
 use Rattle.sim_scope.specs.Judged.{Judged, gives, next, telling}
 use Rattle.sim_scope.specs.Operators.{misfit_of}
-use Rattle.sim_scope.specs.Outcomes.{is_stream, type_in, valued}
+use Rattle.sim_scope.specs.Outcomes.{breaks, called, is_stream, type_in, value_of, valued}
 use Rattle.sim_scope.specs.Scopes.{entry_of}
-use Rattle.sim_scope.specs.Source.{Source}
+use Rattle.sim_scope.specs.Source.{Source, type_at}
 use Rattle.sim_scope.specs.Standard.{signature}
 use Rattle.sim_tree.specs.Syntax.{Expression, Expressions, NoMore, Then, first_of}
 use Rattle.sim_values.specs.declared.kind.Kind.TheVariants as kind
+use Rattle.sim_meaning.specs.Closing.{is_placed, typed_token}
 use Rattle.sim_meaning.specs.Levels.{qualification}
 use Rattle.sim_meaning.specs.Texts.{kind_of_type}
 use Rattle.sim_sound.specs.Held.{ArrayOf, Place, Simply, held_by, reference_to}
-use Rattle.sim_sound.specs.Expressions.{ActualFits, ActualsFit, AreIntegers, AreOf, ExprIs, passed}
-use Rattle.sim_agree.specs.Facts.{ProperFormal, Tabled}
-use Rattle.sim_allowed.proofs.Calls.{valued_means}
-use Rattle.sim_allowed.proofs.Classes.{simply}
+use Rattle.sim_sound.specs.Expressions.{ActualFits, ActualIs as PassedByName, ActualPassed, ActualsFit, AreIntegers, AreOf, ExprIs, PlaceIs, VariablePassed, passed}
+use Rattle.sim_agree.specs.Facts.{ProperFormal, ProperType, Tabled}
+use Rattle.sim_allowed.proofs.Calls.{Valued, valued_means}
+use Rattle.sim_allowed.proofs.Classes.{class_held, class_qualifies, simply}
 use Rattle.sim_allowed.proofs.Headings.{AllProper}
 use Rattle.sim_allowed.proofs.Meant.{Means, ValueIs}
 use Rattle.sim_allowed.proofs.Names.{kinds_of, parameter_kinds}
@@ -52,9 +53,9 @@ use Rattle.sim_allowed.proofs.Said.{AllSay, next_says}
 
 -- ---- one actual
 
--- how an actual fits a formal parameter, whatever its mode is
+-- How an actual fits a formal parameter, whatever its mode is: a value may be passed by name too.
 abbrev pub FitsFormal : Source → Place → Expression → FormalKind → Option SimType → Type 0
-FitsFormal s from e shape.Simple (Some ty) = ExprIs s from e (passed (held_by s ty))
+FitsFormal s from e shape.Simple (Some ty) = ExprIs s from e (passed (held_by s ty)) × PassedByName s from e (kind_of_type ty)
 FitsFormal s from e shape.Array (Some ty) = ExprIs s from e (ArrayOf (held_by s ty))
 FitsFormal s from e _ _ = Unit {0}
 
@@ -70,6 +71,9 @@ pub record ActualIs (s : Source) (from : Place) (e : Expression) (p : Parameter)
 
 no_fault : (f : Fault) → Some f ≡ None → ⊥
 no_fault f e = cc
+
+no_value : (ty : SimType) → is.Refused ≡ is.Value ty → ⊥
+no_value ty e = cc
 
 same_typed : (wanted : Option SimType) (first : ℕ) (b : SimType) → (same_or_misfit first wanted b).typed ≡ true
 same_typed wanted first b = go (type_matches wanted b)
@@ -116,12 +120,12 @@ module _ (s : Source) (known : Tabled s) (from : Place) (e : Expression) (first 
   misfit_is rule P = (refl, λ e. absurd (no_fault (fault first rule) e))
 
   -- a value
-  value_is : (p : Parameter) (b : SimType) → ValueIs s from e b → ActualIs s from e p (value_fits s.tables first p (Some b))
-  value_is parameter.Unknown b v = is_actual parameter.Unknown fitting (refl, λ e. tt)
-  value_is parameter.Unspecified b v = is_actual parameter.Unspecified fitting (refl, λ e. tt)
-  value_is parameter.Subscript b v =
+  value_is : (p : Parameter) (b : SimType) → ValueIs s from e b → PassedByName s from e (kind_of_type b) → ActualIs s from e p (value_fits s.tables first p (Some b))
+  value_is parameter.Unknown b v named = is_actual parameter.Unknown fitting (refl, λ e. tt)
+  value_is parameter.Unspecified b v named = is_actual parameter.Unspecified fitting (refl, λ e. tt)
+  value_is parameter.Subscript b v named =
       is_actual parameter.Subscript (same_or_misfit first (Some t.Integer) b) (same_typed (Some t.Integer) first b, λ h. wanted_integer s from e b (simply s from e b v) (matched (Some t.Integer) first b h))
-  value_is (parameter.Formal f) b v = is_actual (parameter.Formal f) (value_fits s.tables first (parameter.Formal f) (Some b)) (go f.kind f.ty)
+  value_is (parameter.Formal f) b v named = is_actual (parameter.Formal f) (value_fits s.tables first (parameter.Formal f) (Some b)) (go f.kind f.ty)
     where
       held : (o : Option Rule) → (fitting_unless first o).typed ≡ true
       held None = refl
@@ -135,7 +139,8 @@ module _ (s : Source) (known : Tabled s) (from : Place) (e : Expression) (first 
       simple None = (refl, λ h. tt)
       simple (Some a) = (
         held (misfit_of s.tables a b),
-        λ h. subst (λ z. ExprIs s from e z) (ap Simply (no_misfit s.tables a b (none (misfit_of s.tables a b) h)) ∙ sym (passed_kind s a)) (simply s from e b v),
+        λ h. (let same = no_misfit s.tables a b (none (misfit_of s.tables a b) h) in
+            (subst (λ z. ExprIs s from e z) (ap Simply same ∙ sym (passed_kind s a)) (simply s from e b v), subst (λ z. PassedByName s from e z) same named)),
       )
 
       go : (k : FormalKind) (wanted : Option SimType) → Is (elim k as (λ z. Actual) [ shape.Simple ↦ conforming s.tables first wanted b | _ ↦ misfitting first r.WrongType ]) (FitsFormal s from e k wanted)
@@ -143,11 +148,53 @@ module _ (s : Source) (known : Tabled s) (from : Place) (e : Expression) (first 
       go shape.Array wanted = misfit_is r.WrongType (FitsFormal s from e shape.Array wanted)
       go shape.Procedure wanted = misfit_is r.WrongType (FitsFormal s from e shape.Procedure wanted)
 
+  -- by name a variable is passed as where it lies, anything else as a value
+  unplaced_passed : is_placed s e ≡ false → (b : SimType) → ValueIs s from e b → PassedByName s from e (kind_of_type b)
+  unplaced_passed free b v = subst (λ z. ActualPassed z (qualification s (type_at s (typed_token e))) (ExprIs s from e) (PlaceIs s from e) (kind_of_type b)) (sym free) (simply s from e b v)
+
+  placed_passed : (b : SimType) → ProperType s b → PlaceIs s from e (held_by s b) → VariablePassed (qualification s (Some b)) (PlaceIs s from e) (kind_of_type b)
+  unfolding qualification
+  placed_passed t.Integer p lies = ((λ q. cc), lies)
+  placed_passed t.Boolean p lies = ((λ q. cc), lies)
+  placed_passed t.Character p lies = ((λ q. cc), lies)
+  placed_passed t.Text p lies = ((λ q. cc), lies)
+  placed_passed (t.Ref d) p lies = subst (λ z. VariablePassed z (PlaceIs s from e) kind.Reference) (sym (class_qualifies s d p)) (refl, subst (λ z. PlaceIs s from e z) (class_held s d p) lies)
+  placed_passed t.NoneType p lies = absurd p
+
+  variable_passed : (b : SimType) → ValueIs s from e b → ProperType s b → PlaceIs s from e (held_by s b) → PassedByName s from e (kind_of_type b)
+  variable_passed b v proper place = go (is_placed s e)
+    where
+      go : (c : Bool) → ActualPassed c (qualification s (type_at s (typed_token e))) (ExprIs s from e) (PlaceIs s from e) (kind_of_type b)
+      go false = simply s from e b v
+      go true = subst (λ z. VariablePassed (qualification s z) (PlaceIs s from e) (kind_of_type b)) (sym v.typed) (placed_passed b proper place)
+
+  passed_means : (o : Outcome) → Means true s from e o → (v : Valued s from e (valued s.tables first o).value) → PassedByName s from e (kind_of_type v.ty)
+  unfolding valued next called value_of gives breaks telling
+  passed_means (is.Variable ty) m v =
+      let same : ty ≡ v.ty = value_type ty v.ty v.is in
+      variable_passed v.ty v.value (subst (ProperType s) same m.1) (subst (λ z. PlaceIs s from e (held_by s z)) same m.2)
+    where
+      value_type : (a b : SimType) → is.Value a ≡ is.Value b → a ≡ b
+      value_type a b e = cc
+  passed_means (is.Value ty) m v = unplaced_passed m.2 v.ty v.value
+  passed_means (is.Called ty) m v = unplaced_passed m.3 v.ty v.value
+  passed_means (is.Constant ty) m v = unplaced_passed m.1 v.ty v.value
+  passed_means (is.Procedure d token own) (inl p) v = unplaced_passed p.unplaced v.ty v.value
+  passed_means (is.Procedure d token own) (inr (inl p)) v = unplaced_passed p.unplaced v.ty v.value
+  passed_means (is.Procedure d token own) (inr (inr p)) v = unplaced_passed p.unplaced v.ty v.value
+  passed_means (is.Standard name token) m v = unplaced_passed m.unplaced v.ty v.value
+  passed_means is.NoValue m v = absurd (no_value v.ty v.is)
+  passed_means is.NoValueInParentheses m v = absurd (no_value v.ty v.is)
+  passed_means (is.Array ty) m v = absurd (no_value v.ty v.is)
+  passed_means is.Class m v = absurd (no_value v.ty v.is)
+  passed_means is.Refused m v = absurd m
+  passed_means (is.Barred b) m v = absurd m
+
   value_actual : (p : Parameter) (o : Outcome) → Means true s from e o → AllSay s (as_value s.tables first p o).events → ActualIs s from e p (as_value s.tables first p o).value
   unfolding as_value next gives
   value_actual p o m said =
       let v = valued_means s known from e first o m (next_says s (valued s.tables first o) (λ v. gives (value_fits s.tables first p (type_in v))) said).0 in
-      subst (λ z. ActualIs s from e p (value_fits s.tables first p (type_in z))) (sym v.is) (value_is p v.ty v.value)
+      subst (λ z. ActualIs s from e p (value_fits s.tables first p (type_in z))) (sym v.is) (value_is p v.ty v.value (passed_means o m v))
 
   -- an array alone
   array_is : (p : Parameter) (b : SimType) → Means true s from e (is.Array b) → AllSay s (array_actual s.tables first p (is.Array b) b).events → ActualIs s from e p (array_actual s.tables first p (is.Array b) b).value
@@ -317,17 +364,20 @@ pub all_integers : (s : Source) (from : Place) (d : Option Denotation) → ((i :
 all_integers s from d subscripts n NoMore fit = tt
 all_integers s from d subscripts n (Then e es) fit = (subst (λ p. FitsAs s from e p) (subscripts n) fit.0, all_integers s from d subscripts (n + 1) es fit.1)
 
-actual_fits : (s : Source) (from : Place) (e : Expression) (m : Mode) (k : FormalKind) (ty : Option SimType) → ProperFormal s m k ty → FitsFormal s from e k ty → ActualFits s m k ty (ExprIs s from e)
-actual_fits s from e mode.ByName k ty p a = absurd p
+actual_fits : (s : Source) (from : Place) (e : Expression) (m : Mode) (k : FormalKind) (ty : Option SimType) → ProperFormal s m k ty → FitsFormal s from e k ty → ActualFits s m k ty (ExprIs s from e) (λ kind. PassedByName s from e kind)
+actual_fits s from e mode.ByName shape.Simple (Some ty) p a = a.1
+actual_fits s from e mode.ByName shape.Simple None p a = absurd p
+actual_fits s from e mode.ByName shape.Array ty p a = absurd p
+actual_fits s from e mode.ByName shape.Procedure ty p a = absurd p
 actual_fits s from e mode.ByValue shape.Procedure ty p a = absurd p
 actual_fits s from e mode.ByReference shape.Procedure ty p a = absurd p
 actual_fits s from e mode.ByValue shape.Simple None p a = absurd p
 actual_fits s from e mode.ByValue shape.Array None p a = absurd p
 actual_fits s from e mode.ByReference shape.Simple None p a = absurd p
 actual_fits s from e mode.ByReference shape.Array None p a = absurd p
-actual_fits s from e mode.ByValue shape.Simple (Some ty) p a = a
+actual_fits s from e mode.ByValue shape.Simple (Some ty) p a = a.0
 actual_fits s from e mode.ByValue shape.Array (Some ty) p a = a
-actual_fits s from e mode.ByReference shape.Simple (Some ty) p a = a
+actual_fits s from e mode.ByReference shape.Simple (Some ty) p a = a.0
 actual_fits s from e mode.ByReference shape.Array (Some ty) p a = a
 
 pub all_formals : (s : Source) (from : Place) (d : Option Denotation) (n : ℕ) (es : Expressions) (fs : List Formal) → ((i : ℕ) → parameter_at s.tables d (n + i) ≡ formal_or_none (slice_get fs i)) → AllProper s fs
@@ -364,9 +414,9 @@ all_operands s from name es same fit = go (signature name).first (signature name
     go None second NoMore same fit = tt
     go None second (Then e es) same fit = absurd (omega (arith, same))
     go (Some a) None NoMore same fit = absurd (omega (arith, same))
-    go (Some a) None (Then e NoMore) same fit = (subst (λ z. ExprIs s from e z) (passed_kind s a) fit.0, tt)
+    go (Some a) None (Then e NoMore) same fit = (subst (λ z. ExprIs s from e z) (passed_kind s a) fit.0.0, tt)
     go (Some a) None (Then e (Then f es)) same fit = absurd (omega (arith, same))
     go (Some a) (Some b) NoMore same fit = absurd (omega (arith, same))
     go (Some a) (Some b) (Then e NoMore) same fit = absurd (omega (arith, same))
-    go (Some a) (Some b) (Then e (Then f NoMore)) same fit = (subst (λ z. ExprIs s from e z) (passed_kind s a) fit.0, (subst (λ z. ExprIs s from f z) (passed_kind s b) fit.1.0, tt))
+    go (Some a) (Some b) (Then e (Then f NoMore)) same fit = (subst (λ z. ExprIs s from e z) (passed_kind s a) fit.0.0, (subst (λ z. ExprIs s from f z) (passed_kind s b) fit.1.0.0, tt))
     go (Some a) (Some b) (Then e (Then f (Then g es))) same fit = absurd (omega (arith, same))

@@ -13,6 +13,11 @@ use Rattle.sim_scope.specs.declared.types.BlockKind.{BlockKind}
 use Rattle.sim_scope.specs.declared.types.BlockKind.TheVariants as block_kind
 use Rattle.sim_scope.specs.declared.types.Entry.{Entry}
 use Rattle.sim_scope.specs.declared.types.Entry.TheVariants as entry
+use Rattle.sim_scope.specs.declared.types.Formal.{Formal}
+use Rattle.sim_scope.specs.declared.types.FormalKind.{FormalKind}
+use Rattle.sim_scope.specs.declared.types.FormalKind.TheVariants as shape
+use Rattle.sim_scope.specs.declared.types.Mode.{Mode}
+use Rattle.sim_scope.specs.declared.types.Mode.TheVariants as mode
 use Rattle.sim_scope.specs.declared.types.SimType.{SimType}
 use Rattle.sim_scope.specs.declared.types.SimType.TheVariants as t
 use Rattle.sim_scope.specs.declared.types.StandardClass.{StandardClass}
@@ -27,6 +32,7 @@ use Rattle.sim_scope.specs.Tables.{BlockOf}
 use Rattle.sim_scope.specs.Walk.{program_events}
 use Rattle.sim_tree.specs.declared.expr.Identifier.{Identifier}
 use Rattle.sim_tree.specs.Syntax.{Declarations, Heading, Statements, Expressions}
+use Rattle.sim_values.specs.declared.kind.Kind.{Kind}
 use Rattle.sim_values.specs.declared.standard.Owner.{Owner}
 use Rattle.sim_values.specs.declared.standard.Owner.TheVariants as owner
 use Rattle.sim_values.specs.declared.standard.Standard.{Standard}
@@ -34,10 +40,10 @@ use Rattle.sim_values.specs.Standard.{row_of}
 use Rattle.sim_meaning.specs.Attributes.{first_in, is_connection}
 use Rattle.sim_meaning.specs.Closing.{class_parameters}
 use Rattle.sim_meaning.specs.Entries.{numbers_of}
-use Rattle.sim_meaning.specs.Levels.{is_class, qualification}
+use Rattle.sim_meaning.specs.Levels.{has_levels, is_class, qualification}
 use Rattle.sim_meaning.specs.Texts.{BlockText, ClassText, ConnectionText, ProcedureText, StandardText, Text, text, PrefixedText}
 use Rattle.sim_meaning.specs.Virtuals.{match_in_text}
-use Rattle.sim_sound.specs.Held.{Among, ArrayOf, Holds, entry_holds, first, held_by, later, reference_to}
+use Rattle.sim_sound.specs.Held.{Among, ArrayOf, ByName, Holds, entry_holds, first, formal_holds, held_by, later, reference_to}
 use Rattle.sim_sound.specs.Typed.{ConnectionTyped, FormalsAre, IsAttribute, NoFormal, NoFormals, SetClasses, SetProcedureThere, owner_place, MatchThere}
 use Rattle.sim_agree.specs.Facts.{Tabled}
 use Rattle.sim_agree.specs.Plain.{Plain}
@@ -181,6 +187,49 @@ cells_listed s g d row h at holds = go row.listed refl
         unlisted (inl q) = class_no_cell s row.entry q.0 h q.1 holds
         unlisted (inr (inl q)) = attribute_no_cell s row.entry h q holds
         unlisted (inr (inr q)) = procedure_no_cell s row.entry h q holds
+
+-- what holds an actual parameter is a parameter by name, and that of no class
+no_actual : (s : Source) (type : SimType) (kind : Kind) → held_by s type ≡ ByName kind → ⊥
+no_actual s t.Integer kind e = cc
+no_actual s t.Boolean kind e = cc
+no_actual s t.Character kind e = cc
+no_actual s t.Text kind e = cc
+no_actual s t.NoneType kind e = cc
+no_actual s (t.Ref d) kind e = go (qualification s (Some (t.Ref d))) e
+  where
+    go : (o : Option ℕ) → reference_to o ≡ ByName kind → ⊥
+    go None f = cc
+    go (Some c) f = cc
+
+actual_mode : (s : Source) (m : Mode) (k : FormalKind) (type : Option SimType) (kind : Kind) → formal_holds s m k type ≡ Some (ByName kind) → m ≡ mode.ByName
+actual_mode s mode.ByName k type kind e = refl
+actual_mode s mode.ByValue shape.Simple (Some type) kind e = absurd (no_actual s type kind (some_same (held_by s type) (ByName kind) e))
+actual_mode s mode.ByReference shape.Simple (Some type) kind e = absurd (no_actual s type kind (some_same (held_by s type) (ByName kind) e))
+actual_mode s mode.ByValue shape.Array (Some type) kind e = absurd (cc)
+actual_mode s mode.ByReference shape.Array (Some type) kind e = absurd (cc)
+actual_mode s mode.ByValue shape.Simple None kind e = absurd (cc)
+actual_mode s mode.ByReference shape.Simple None kind e = absurd (cc)
+actual_mode s mode.ByValue shape.Array None kind e = absurd (cc)
+actual_mode s mode.ByReference shape.Array None kind e = absurd (cc)
+actual_mode s mode.ByValue shape.Procedure type kind e = absurd (cc)
+actual_mode s mode.ByReference shape.Procedure type kind e = absurd (cc)
+
+actual_entry : (s : Source) (o : Option Entry) (kind : Kind) → entry_holds s true o ≡ Some (ByName kind) → (f : Formal) × (o ≡ Some (entry.Formal f)) × (f.mode ≡ mode.ByName)
+actual_entry s (Some (entry.Formal f)) kind e = (f, refl, actual_mode s f.mode f.kind f.ty kind e)
+actual_entry s (Some (entry.Variable type)) kind e = absurd (no_actual s type kind (some_same (held_by s type) (ByName kind) e))
+actual_entry s (Some (entry.Constant type)) kind e = absurd (cc)
+actual_entry s (Some (entry.Array element dimensions)) kind e = absurd (cc)
+actual_entry s (Some (entry.Procedure result k)) kind e = absurd (cc)
+actual_entry s (Some (entry.Class k)) kind e = absurd (cc)
+actual_entry s (Some (entry.Virtual result own)) kind e = absurd (cc)
+actual_entry s (Some (entry.Unspecified w)) kind e = absurd (cc)
+actual_entry s (Some (entry.Attribute name given result)) kind e = absurd (cc)
+actual_entry s None kind e = absurd (cc)
+
+not_by_name : (s : Source) → TablesAgree s → (k : ℕ) → has_levels (text s k) ≡ true → (d : DeclNo) (kind : Kind) → Among d (numbers_of s k) → entry_holds s true (entry_of s.tables d) ≡ Some (ByName kind) → ⊥
+not_by_name s g k levels d kind among holds =
+    let f = actual_entry s (entry_of s.tables d) kind holds in
+    false≢true (sym (g.by_name d f.0 f.1 f.2) ∙ ap (λ n. has_levels (text s n)) (g.owned k d among) ∙ levels)
 
 -- the standard class in which an attribute is declared
 attribute_class : (s : Source) (d : DeclNo) (name : Standard) (parameter result : Option SimType) → SetProcedureThere s d name parameter result → is_class (text s (block_of s d)) ≡ true
@@ -338,6 +387,7 @@ module _ (s : Source) (a : AllowedIs s) (plain : Plain s.program) where
         formals = b.formals;
         parameters = b.parameters;
         different = g.different k;
+        not_by_name = not_by_name s g k (ap has_levels is);
         distinct = b.arrays.distinct;
         made = b.arrays.made;
         own = b.arrays.own;
@@ -350,6 +400,7 @@ module _ (s : Source) (a : AllowedIs s) (plain : Plain s.program) where
         formals = b.formals;
         parameters = b.parameters;
         different = g.different k;
+        not_by_name = not_by_name s g k (ap has_levels is);
         distinct = b.arrays.distinct;
         made = b.arrays.made;
         own = b.arrays.own;
@@ -362,6 +413,7 @@ module _ (s : Source) (a : AllowedIs s) (plain : Plain s.program) where
         formals = b.formals;
         parameters = b.parameters;
         different = g.different k;
+        not_by_name = not_by_name s g k (ap has_levels is);
         distinct = b.arrays.distinct;
         made = b.arrays.made;
         own = b.arrays.own;

@@ -41,8 +41,8 @@ use Rattle.sim_meaning.specs.Texts.{kind_of_type}
 use Rattle.sim_meaning.specs.Virtuals.{text_of_procedure}
 use Rattle.virtual_match.specs.Matching.{results_fit}
 use Rattle.sim_sound.specs.Held.{Holds, In, Refers, Simply, held_by}
-use Rattle.sim_sound.specs.Expressions.{AreIntegers, ExprIs, KnownAt}
-use Rattle.sim_sound.specs.Statements.{LeftIs, LeftNamed, LeftOf, LeftsAre, OwnText, PlaceIs, PlaceNamed, ReferenceAt, ResultIs, TextLeft, PlaceDeclared}
+use Rattle.sim_sound.specs.Expressions.{AreIntegers, ExprIs, KnownAt, ObjectHas, PlaceDeclared, PlaceDot, PlaceIs, PlaceNamed}
+use Rattle.sim_sound.specs.Statements.{LeftDot, LeftIs, LeftNamed, LeftOf, LeftsAre, NoText, OwnText, ReferenceAt, ResultIs, TextLeft}
 use Rattle.sim_agree.specs.Facts.{ProperType, Tabled, ProperResult}
 use Rattle.sim_allowed.proofs.Actuals.{Known, both_true, neither}
 use Rattle.sim_allowed.proofs.Calls.{called_means}
@@ -63,10 +63,15 @@ pub record TargetIs (s : Source) (k : ℕ) (sign : Assignment) (e : Expression) 
   pub left : LeftOf (is_text_type (Some ty)) sign s k e (kind_of_type ty)
 
 -- a place is a left side
-left_denoted : (s : Source) (t : ℕ) (c : Option ℕ) (o : Option Denotation) (es : Expressions) (h : Holds) → PlaceNamed s t c o es (AreIntegers s (In t) es) h → LeftNamed s t c o es (AreIntegers s (In t) es) h
+left_denoted : (s : Source) (t : ℕ) (c : Option ℕ) (o : Option Denotation) (es : Expressions) (h : Holds) → PlaceNamed s (In t) c o es (AreIntegers s (In t) es) h → LeftNamed s t c o es (AreIntegers s (In t) es) h
 left_denoted s t c None es h a = absurd a
 left_denoted s t c (Some (denotation.Standard name)) es h a = absurd a
 left_denoted s t c (Some (denotation.Declared d)) es h a = left_there s (KnownAt s (In t) c d) (AreIntegers s (In t) es) (OwnText s t c) es (entry_of s.tables d) h a
+
+left_behind : (s : Source) (t : ℕ) (b : Expression) (o : Option Denotation) (es : Expressions) (h : Holds) → PlaceDot s o (λ c. ExprIs s (In t) b (Refers c)) es (AreIntegers s (In t) es) h → LeftDot s o (λ c. ExprIs s (In t) b (Refers c)) es (AreIntegers s (In t) es) h
+left_behind s t b None es h a = absurd a
+left_behind s t b (Some (denotation.Standard name)) es h a = absurd a
+left_behind s t b (Some (denotation.Declared d)) es h a = left_there s (ObjectHas s (λ c. ExprIs s (In t) b (Refers c)) d) (AreIntegers s (In t) es) NoText es (entry_of s.tables d) h a
 
 -- where something lies is no virtual
 no_virtual_place : (s : Source) (Known Indices : Type 0) (es : Expressions) (o : Option Entry) (h : Holds) → PlaceDeclared s Known es Indices o h → entry_is is_virtual o ≡ false
@@ -82,16 +87,16 @@ no_virtual_place s K I es (Some (entry.Formal f)) h a = refl
 no_virtual_place s K I es (Some (entry.Unspecified w)) h a = refl
 no_virtual_place s K I es (Some (entry.Attribute name w result)) h a = refl
 
-place_no_match : (s : Source) (t : ℕ) (x : Identifier) (es : Expressions) (o : Option Denotation) (h : Holds) → denoted s x.token.0 ≡ o → PlaceNamed s t (connection_at s x.token.0) o es (AreIntegers s (In t) es) h → own_match s (syntax.Named x es) ≡ None
+place_no_match : (s : Source) (t : ℕ) (x : Identifier) (es : Expressions) (o : Option Denotation) (h : Holds) → denoted s x.token.0 ≡ o → PlaceNamed s (In t) (connection_at s x.token.0) o es (AreIntegers s (In t) es) h → own_match s (syntax.Named x es) ≡ None
 place_no_match s t x es None h says a = absurd a
 place_no_match s t x es (Some (denotation.Standard name)) h says a = absurd a
 place_no_match s t x es (Some (denotation.Declared d)) h says a = no_match s x d es says (no_virtual_place s (KnownAt s (In t) (connection_at s x.token.0) d) (AreIntegers s (In t) es) es (entry_of s.tables d) h a)
 
-pub place_is_left : (s : Source) (t : ℕ) (e : Expression) (h : Holds) → PlaceIs s t e h → LeftIs s t e h
+pub place_is_left : (s : Source) (t : ℕ) (e : Expression) (h : Holds) → PlaceIs s (In t) e h → LeftIs s t e h
 place_is_left s t (syntax.Named x es) h a =
     left_or s t (connection_at s x.token.0) (text_of_procedure s (own_match s (syntax.Named x es))) h (LeftNamed s t (connection_at s x.token.0) (denoted s x.token.0) es (AreIntegers s (In t) es) h)
     (ap (text_of_procedure s) (place_no_match s t x es (denoted s x.token.0) h refl a)) (left_denoted s t (connection_at s x.token.0) (denoted s x.token.0) es h a)
-place_is_left s t (syntax.Dot i b x es) h a = a
+place_is_left s t (syntax.Dot i b x es) h a = left_behind s t b (denoted s x.token.0) es h a
 place_is_left s t (syntax.If i a b c) h f = absurd f
 place_is_left s t (syntax.Binary o i a b) h f = absurd f
 place_is_left s t (syntax.Not i a) h f = absurd f
@@ -116,11 +121,11 @@ pub left_typed : (s : Source) (e : Expression) (ty : SimType) → own_match s e 
 left_typed s e ty none typed = ap (λ m. type_of_left s m (type_at s (typed_token e))) none ∙ typed
 
 left_of : (s : Source) (k : ℕ) (sign : Assignment) (e : Expression) (ty : SimType) → Assignable s k e ty → takes sign ty ≡ true → LeftOf (is_text_type (Some ty)) sign s k e (kind_of_type ty)
-left_of s k assignment.Value e t.Integer l h = l.left
-left_of s k assignment.Value e t.Boolean l h = l.left
-left_of s k assignment.Value e t.Character l h = l.left
+left_of s k assignment.Value e t.Integer l h = ((λ q. cc), l.left)
+left_of s k assignment.Value e t.Boolean l h = ((λ q. cc), l.left)
+left_of s k assignment.Value e t.Character l h = ((λ q. cc), l.left)
 left_of s k assignment.Value e t.Text l h = (refl, l.text refl)
-left_of s k assignment.Reference e t.Text l h = l.left
+left_of s k assignment.Reference e t.Text l h = ((λ q. cc), l.left)
 left_of s k assignment.Reference e (t.Ref d) l h =
     let c = l.proper in (refl, record { class = c.block; qualified = ap (qualification s) l.typed ∙ class_qualifies s d c; at = l.reference d refl c.block (class_held s d c) })
 left_of s k assignment.Reference e t.Integer l h = absurd (false≢true h)
@@ -171,14 +176,14 @@ module _ (s : Source) (known : Tabled s) (k : ℕ) (e : Expression) (sign : Assi
       copied assignment.Reference b v taken copy = absurd (false≢true copy)
 
   -- what is assigned to, where no procedure is
-  variable_left : (ty : SimType) → ValueIs s (In k) e ty → ProperType s ty → PlaceIs s k e (held_by s ty) → NoOwn s e → AllSay s (targets sign first true ty).events → TargetIs s k sign e (targets sign first true ty).value
+  variable_left : (ty : SimType) → ValueIs s (In k) e ty → ProperType s ty → PlaceIs s (In k) e (held_by s ty) → NoOwn s e → AllSay s (targets sign first true ty).events → TargetIs s k sign e (targets sign first true ty).value
   variable_left ty v proper place own said =
       target_of true ty v.texts (λ taken is. left_of s k sign e ty (record {
         proper = proper;
         typed = left_typed s e ty own.1 v.typed;
         left = place_is_left s k e (held_by s ty) place;
         text = λ is. subst (λ z. TextLeft s k e z) (sym own.0) (subst (λ z. ExprIs s (In k) e (Simply (kind_of_type z))) is (simply s (In k) e ty v));
-        reference = λ d is class held. subst (λ z. ReferenceAt s k e z class) (sym own.0) (subst (λ z. PlaceIs s k e z) (ap (held_by s) is ∙ held) place);
+        reference = λ d is class held. subst (λ z. ReferenceAt s k e z class) (sym own.0) (subst (λ z. PlaceIs s (In k) e z) (ap (held_by s) is ∙ held) place);
       }) taken) said
 
   -- no declared constant

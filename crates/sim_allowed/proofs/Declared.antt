@@ -30,14 +30,14 @@ use Rattle.sim_tree.specs.declared.expr.Identifier.{Identifier}
 use Rattle.sim_tree.specs.Syntax.{Expression, Expressions, NoMore, Then}
 use Rattle.sim_values.specs.declared.standard.Standard.{Standard}
 use Rattle.sim_meaning.specs.Attributes.{attribute_formals}
-use Rattle.sim_meaning.specs.Closing.{has_type, is_text, is_text_type, stream_of, typed_token}
+use Rattle.sim_meaning.specs.Closing.{has_type, is_placed, is_text, is_text_type, is_variable_entry, stream_of, typed_token}
 use Rattle.sim_meaning.specs.Entries.{formals_of as meant_formals}
 use Rattle.sim_meaning.specs.Levels.{qualification}
 use Rattle.sim_meaning.specs.Statements.{denoted_leaves, entry_leaves}
 use Rattle.sim_meaning.specs.Texts.{kind_of_type}
-use Rattle.sim_sound.specs.Held.{ArrayOf, Fits, FitsIn, Holds, Place, Simply, formal_holds, given_by, held_by, reference_to}
-use Rattle.sim_sound.specs.Expressions.{ActualsFit, AreIntegers, DeclaredGives, ExprIs, HeldNames}
-use Rattle.sim_sound.specs.Statements.{LeftHeld, PlaceDeclared, is_given}
+use Rattle.sim_sound.specs.Held.{ArrayOf, Fits, FitsIn, Holds, Place, Simply, formal_names, given_by, held_by, reference_to}
+use Rattle.sim_sound.specs.Expressions.{ActualsFit, AreIntegers, DeclaredGives, ExprIs, HeldNames, LeftHeld, PlaceDeclared}
+use Rattle.sim_sound.specs.Statements.{is_given}
 use Rattle.sim_agree.specs.Facts.{ProperEntry, ProperFormal, ProperResult, ProperType, Tabled}
 use Rattle.sim_allowed.proofs.Actuals.{AllFit, FitsAs, all_formals, all_integers, size}
 use Rattle.sim_allowed.proofs.Calls.{call_means}
@@ -100,6 +100,7 @@ pub record UseIs (s : Source) (from : Place) (e : Expression) (naming : ℕ) (d 
   pub calls : (result : Option SimType) → GivenFor s (CallGiven s from e) result → CallsFor s from e result
   pub place : (type : SimType) → PlaceDeclared s Known es (AreIntegers s from es) (entry_of s.tables d) (held_by s type) → Varies s from e type
   pub unowned : NoResult (entry_of s.tables d) es → NoOwn s e
+  pub unplaced : is_variable_entry (entry_of s.tables d) es ≡ false → is_placed s e ≡ false
 
 typed_is : (token : ℕ) (result : Option SimType) (o : Outcome) → (typed_if token result o).value ≡ o
 unfolding telling gives
@@ -126,7 +127,9 @@ never_procedure s mode.ByValue w p = p
 never_procedure s mode.ByReference w p = p
 
 pub never_untyped : (s : Source) (m : Mode) (k : FormalKind) → ProperFormal s m k None → ⊥
-never_untyped s mode.ByName k p = p
+never_untyped s mode.ByName shape.Simple p = p
+never_untyped s mode.ByName shape.Array p = p
+never_untyped s mode.ByName shape.Procedure p = p
 never_untyped s mode.ByValue shape.Simple p = p
 never_untyped s mode.ByValue shape.Array p = p
 never_untyped s mode.ByValue shape.Procedure p = p
@@ -135,7 +138,9 @@ never_untyped s mode.ByReference shape.Array p = p
 never_untyped s mode.ByReference shape.Procedure p = p
 
 pub formal_type : (s : Source) (m : Mode) (k : FormalKind) (type : SimType) → ProperFormal s m k (Some type) → ProperType s type
-formal_type s mode.ByName k type p = absurd p
+formal_type s mode.ByName shape.Simple type p = p
+formal_type s mode.ByName shape.Array type p = absurd p
+formal_type s mode.ByName shape.Procedure type p = absurd p
 formal_type s mode.ByValue shape.Simple type p = p
 formal_type s mode.ByValue shape.Array type p = p
 formal_type s mode.ByValue shape.Procedure type p = absurd p
@@ -143,12 +148,12 @@ formal_type s mode.ByReference shape.Simple type p = p
 formal_type s mode.ByReference shape.Array type p = p
 formal_type s mode.ByReference shape.Procedure type p = absurd p
 
-pub simple_held : (s : Source) (m : Mode) (type : SimType) → ProperFormal s m shape.Simple (Some type) → formal_holds s m shape.Simple (Some type) ≡ Some (held_by s type)
-simple_held s mode.ByName type p = absurd p
+pub simple_held : (s : Source) (m : Mode) (type : SimType) → ProperFormal s m shape.Simple (Some type) → formal_names s m shape.Simple (Some type) ≡ Some (held_by s type)
+simple_held s mode.ByName type p = refl
 simple_held s mode.ByValue type p = refl
 simple_held s mode.ByReference type p = refl
 
-array_held : (s : Source) (m : Mode) (type : SimType) → ProperFormal s m shape.Array (Some type) → formal_holds s m shape.Array (Some type) ≡ Some (ArrayOf (held_by s type))
+array_held : (s : Source) (m : Mode) (type : SimType) → ProperFormal s m shape.Array (Some type) → formal_names s m shape.Array (Some type) ≡ Some (ArrayOf (held_by s type))
 array_held s mode.ByName type p = absurd p
 array_held s mode.ByValue type p = refl
 array_held s mode.ByReference type p = refl
@@ -165,6 +170,10 @@ module _ (s : Source) (known : Tabled s) (from : Place) (e : Expression) (naming
   -- what the entry of the declaration gives
   gives_at : (x : Entry) → entry_of s.tables d ≡ Some x → (h : Holds) → UseGives s Known d NoMore (AreIntegers s from NoMore) (λ fs. ActualsFit s from NoMore fs) (Some x) (Some h) → ExprIs s from e h
   gives_at x there h a = it.value h (subst (λ z. UseGives s Known d NoMore (AreIntegers s from NoMore) (λ fs. ActualsFit s from NoMore fs) z (Some h)) (sym there) a)
+
+  -- what is no variable
+  unplaced_at : (x : Entry) → entry_of s.tables d ≡ Some x → is_variable_entry (Some x) NoMore ≡ false → is_placed s e ≡ false
+  unplaced_at x there none = it.unplaced (ap (λ z. is_variable_entry z NoMore) there ∙ none)
 
   varies_alone : (x : Entry) → entry_of s.tables d ≡ Some x → (type : SimType) → ProperType s type
       → ((h : Holds) → Fits s (held_by s type) h → UseGives s Known d NoMore (AreIntegers s from NoMore) (λ fs. ActualsFit s from NoMore fs) (Some x) (Some h))
@@ -187,12 +196,12 @@ module _ (s : Source) (known : Tabled s) (from : Place) (e : Expression) (naming
       go : (type : SimType) → f.ty ≡ Some type → (k : FormalKind) → f.kind ≡ k → ProperFormal s f.mode k (Some type) → AllSay s (formal_judged o k type).events → Means true s from e (formal_judged o k type).value
       go type types shape.Procedure kinds p said = absurd (never_procedure s f.mode (Some type) p)
       go type types shape.Simple kinds p said =
-          let h : formal_holds s f.mode f.kind f.ty ≡ Some (held_by s type) = ap (λ z. formal_holds s f.mode z f.ty) kinds ∙ ap (λ z. formal_holds s f.mode shape.Simple z) types ∙ simple_held s f.mode type p in
+          let h : formal_names s f.mode f.kind f.ty ≡ Some (held_by s type) = ap (λ z. formal_names s f.mode z f.ty) kinds ∙ ap (λ z. formal_names s f.mode shape.Simple z) types ∙ simple_held s f.mode type p in
           varies_alone (entry.Formal f) there type (formal_type s f.mode shape.Simple type p)
           (λ g fits. subst (λ z. HeldNames s Known NoMore (AreIntegers s from NoMore) z g) (sym h) (variable_names s Known (AreIntegers s from NoMore) type g fits sees))
           (subst (λ z. LeftHeld Known NoMore (AreIntegers s from NoMore) z (held_by s type)) (sym h) (variable_left s Known (AreIntegers s from NoMore) type sees)) tt said
       go type types shape.Array kinds p said =
-          let h : formal_holds s f.mode f.kind f.ty ≡ Some (ArrayOf (held_by s type)) = ap (λ z. formal_holds s f.mode z f.ty) kinds ∙ ap (λ z. formal_holds s f.mode shape.Array z) types ∙ array_held s f.mode type p in
+          let h : formal_names s f.mode f.kind f.ty ≡ Some (ArrayOf (held_by s type)) = ap (λ z. formal_names s f.mode z f.ty) kinds ∙ ap (λ z. formal_names s f.mode shape.Array z) types ∙ array_held s f.mode type p in
           (formal_type s f.mode shape.Array type p, gives_at (entry.Formal f) there (ArrayOf (held_by s type)) (subst (λ z. HeldNames s Known NoMore (AreIntegers s from NoMore) z (ArrayOf (held_by s type))) (sym h) (refl, sees)))
 
       typed : (w : Option SimType) → f.ty ≡ w → ProperFormal s f.mode f.kind w → AllSay s (formal_alone naming f w o).events → Means true s from e (formal_alone naming f w o).value
@@ -236,17 +245,17 @@ module _ (s : Source) (known : Tabled s) (from : Place) (e : Expression) (naming
       varies_alone (entry.Variable type) there type p (λ h f. variable_names s Known (AreIntegers s from NoMore) type h f sees) (variable_left s Known (AreIntegers s from NoMore) type sees) tt said
   alone_means x (entry.Constant type) there p own match said =
       let c = known.constants d type there in
-      value_there type (plain_proper s type p) said.0 (plain_value s from e type p (gives_at (entry.Constant type) there (Simply (kind_of_type type)) (c.value, c.is, ap Simply c.of_type, sees)))
+      (value_there type (plain_proper s type p) said.0 (plain_value s from e type p (gives_at (entry.Constant type) there (Simply (kind_of_type type)) (c.value, c.is, ap Simply c.of_type, sees))), unplaced_at (entry.Constant type) there refl)
   alone_means x (entry.Array element dimensions) there p own match said = (p, gives_at (entry.Array element dimensions) there (ArrayOf (held_by s element)) (refl, sees))
   alone_means x (entry.Procedure result k) there p own match said =
       let o = procedure_alone d x (own_undotted s.tables x (is_undotted naming x) (Some d)) in
       subst (λ z. Means true s from e z) (sym (typed_is naming result o))
-      (inl (record { result = result; block = k; declared = there; typed = type_there result o p said; calls = λ fit. it.calls result (given result k p there fit); inside = own result k there }))
+      (inl (record { result = result; block = k; declared = there; typed = type_there result o p said; calls = λ fit. it.calls result (given result k p there fit); inside = own result k there; unplaced = unplaced_at (entry.Procedure result k) there refl }))
   alone_means x (entry.Class k) there p own match said = tt
   alone_means x (entry.Virtual result known) there p own match said =
       let o = procedure_alone d x (own_undotted s.tables x (is_undotted naming x) (match_seen s.tables x)) in
       subst (λ z. Means true s from e z) (sym (typed_is naming result o))
-      (inr (inr (record { result = result; known = known; declared = there; typed = type_there result o p said; calls = it.calls result (virtual_given result known p there); inside = match result known there })))
+      (inr (inr (record { result = result; known = known; declared = there; typed = type_there result o p said; calls = it.calls result (virtual_given result known p there); inside = match result known there; unplaced = unplaced_at (entry.Virtual result known) there refl })))
   alone_means x (entry.Formal f) there p own match said = formal_means f there p (procedure_alone d x None) said
   alone_means x (entry.Unspecified w) there p own match said = absurd p
   alone_means x (entry.Attribute name w result) there p own match said =
@@ -261,6 +270,7 @@ module _ (s : Source) (known : Tabled s) (from : Place) (e : Expression) (naming
         calls = λ none. it.calls result (set_given name w result p.2 there none);
         no_own = refl;
         unowned = it.unowned (subst (λ z. NoResult z NoMore) (sym there) tt);
+        unplaced = unplaced_at (entry.Attribute name w result) there refl;
       })))
 
 -- ---- with operands
@@ -282,6 +292,9 @@ module _ (s : Source) (known : Tabled s) (from : Place) (e : Expression) (naming
   with_type type p said v =
       let typed = ap (type_at s) it.at ∙ said in
       record { proper = proper_value s type p; texts = ap is_text_type typed; stream = it.stream; typed = typed; value = v }
+
+  call_unplaced : (x : Entry) → entry_of s.tables d ≡ Some x → is_variable_entry (Some x) Them ≡ false → is_placed s e ≡ false
+  call_unplaced x there none = it.unplaced (ap (λ z. is_variable_entry z Them) there ∙ none)
 
   -- an element
   element_means : (x : Entry) → entry_of s.tables d ≡ Some x → (element : SimType) → ProperType s element → ((i : ℕ) → parameter_of s.tables d i (Some x) ≡ parameter.Subscript)
@@ -316,7 +329,7 @@ module _ (s : Source) (known : Tabled s) (from : Place) (e : Expression) (naming
       let fit = all_formals s from (Some (denotation.Declared d)) 0 Them (meant_formals s k) (λ i. (let zero_more : 0 + i ≡ i = omega arith in ap (parameter_at s.tables (Some (denotation.Declared d))) zero_more ∙ declared_parameters s d (entry.Procedure result k) there i ∙ ap formal_or_none (head.places i)))
       head.proper (sym count ∙ sym same ∙ head.count) (fits is) in
       subst (λ z. Means true s from e z) (sym (typed_is naming result (call_of result)))
-      (call_means s from e result (result_there result (call_of result) p said) (it.calls result (call_given result k p there fit)) true (it.unowned (subst (λ z. NoResult z Them) (sym there) tt)))
+      (call_means s from e result (result_there result (call_of result) p said) (it.calls result (call_given result k p there fit)) true (it.unowned (subst (λ z. NoResult z Them) (sym there) tt)) (call_unplaced (entry.Procedure result k) there refl))
 
   -- a virtual, whose actual parameters are held against its match when it is called
   virtual_call : (result : Option SimType) (own : Option DeclNo) → ProperResult s result → entry_of s.tables d ≡ Some (entry.Virtual result own) → GivenFor s (CallGiven s from e) result
@@ -329,7 +342,7 @@ module _ (s : Source) (known : Tabled s) (from : Place) (e : Expression) (naming
   virtual_with result own there p (Some f) said = absurd said.0
   virtual_with result own there p None said =
       subst (λ z. Means true s from e z) (sym (typed_is naming result (call_of result)))
-      (call_means s from e result (result_there result (call_of result) p said) (it.calls result (virtual_call result own p there)) true (it.unowned (subst (λ z. NoResult z Them) (sym there) tt)))
+      (call_means s from e result (result_there result (call_of result) p said) (it.calls result (virtual_call result own p there)) true (it.unowned (subst (λ z. NoResult z Them) (sym there) tt)) (call_unplaced (entry.Virtual result own) there refl))
 
   -- an attribute, with the actual parameter of its formal parameter
   set_fits : (name : Standard) (w result : Option SimType) → entry_of s.tables d ≡ Some (entry.Attribute name w result) → attribute_count w ≡ size Them → AllFit s from (Some (denotation.Declared d)) 0 Them → ActualsFit s from Them (attribute_formals w)
@@ -340,7 +353,7 @@ module _ (s : Source) (known : Tabled s) (from : Place) (e : Expression) (naming
       one = subst (λ p. FitsAs s from first p) (declared_parameters s d (entry.Attribute name (Some type) result) there 0) fit.0
 
       go : (more : Expressions) → size more ≡ 0 → ActualsFit s from (Then first more) (attribute_formals (Some type))
-      go NoMore none = (one, tt)
+      go NoMore none = (one.0, tt)
       go (Then other more) none = absurd (omega (arith, none))
 
   set_call_given : (name : Standard) (w result : Option SimType) → ProperResult s result → entry_of s.tables d ≡ Some (entry.Attribute name w result) → ActualsFit s from Them (attribute_formals w) → GivenFor s (CallGiven s from e) result
@@ -356,7 +369,7 @@ module _ (s : Source) (known : Tabled s) (from : Place) (e : Expression) (naming
   set_with name w result there p same None is said =
       let fit = set_fits name w result there (same ∙ count) (fits is) in
       subst (λ z. Means true s from e z) (sym (typed_is naming result (call_of result)))
-      (call_means s from e result (result_there result (call_of result) p.2 said) (it.calls result (set_call_given name w result p.2 there fit)) true (it.unowned (subst (λ z. NoResult z Them) (sym there) tt)))
+      (call_means s from e result (result_there result (call_of result) p.2 said) (it.calls result (set_call_given name w result p.2 there fit)) true (it.unowned (subst (λ z. NoResult z Them) (sym there) tt)) (call_unplaced (entry.Attribute name w result) there refl))
 
   abbrev element_judged : Option SimType → Judged Outcome
   element_judged result = (elim result as (λ z. Judged Outcome) [ None ↦ gives is.Refused | Some element ↦ element_of naming a.misfit element ])
@@ -371,7 +384,7 @@ module _ (s : Source) (known : Tabled s) (from : Place) (e : Expression) (naming
       array : f.kind ≡ shape.Array → (w : Option SimType) → f.ty ≡ w → ProperFormal s f.mode shape.Array w → AllSay s (element_judged w).events → Means true s from e (element_judged w).value
       array kinds None types p said = absurd (never_untyped s f.mode shape.Array p)
       array kinds (Some type) types p said =
-          let h : formal_holds s f.mode f.kind f.ty ≡ Some (ArrayOf (held_by s type)) = ap (λ z. formal_holds s f.mode z f.ty) kinds ∙ ap (λ z. formal_holds s f.mode shape.Array z) types ∙ array_held s f.mode type p in
+          let h : formal_names s f.mode f.kind f.ty ≡ Some (ArrayOf (held_by s type)) = ap (λ z. formal_names s f.mode z f.ty) kinds ∙ ap (λ z. formal_names s f.mode shape.Array z) types ∙ array_held s f.mode type p in
           element_means (entry.Formal f) there type (formal_type s f.mode shape.Array type p) (λ i. ap of_formal_procedure kinds)
           (λ indices g fit. subst (λ z. HeldNames s Known Them (AreIntegers s from Them) z g) (sym h) (fit, sees, indices))
           (λ indices. subst (λ z. LeftHeld Known Them (AreIntegers s from Them) z (held_by s type)) (sym h) (refl, sees, indices)) tt a.misfit refl said

@@ -20,7 +20,7 @@ use Rattle.sim_tree.specs.Syntax as syntax
 use Rattle.sim_values.specs.declared.kind.Kind.TheVariants as kind
 use Rattle.sim_values.specs.Plain.{Plain, kind_of}
 use Rattle.sim_meaning.specs.Attributes.{connection_at, connection_in}
-use Rattle.sim_meaning.specs.Closing.{is_text, is_text_type, result_meant, stream_of, own_match}
+use Rattle.sim_meaning.specs.Closing.{is_placed, is_text, is_text_type, own_match, result_meant, stream_of}
 use Rattle.sim_meaning.specs.Constants.{TextConstant, expression_constants, expressions_constants, text_constant}
 use Rattle.sim_sound.specs.Held.{Place, Simply}
 use Rattle.sim_sound.specs.Expressions.{KnownAt}
@@ -56,19 +56,19 @@ both_there s (x ∷ xs) ys a = let r = both_there s xs ys a.1 in ((a.0, r.0), r.
 -- ---- constants
 
 literal_means : (s : Source) (from : Place) (i : ℕ) (l : Literal) → AllThere s (expression_constants (syntax.Constant l i)) → AllSay s (has i (literal_type l)).events → Means true s from (syntax.Constant l i) (has i (literal_type l)).value
-unfolding has telling is_text own_match result_meant stream_of
+unfolding has telling is_text is_placed own_match result_meant stream_of
 literal_means s from i (syntax.IntegerValue z) there said =
-    (record { proper = tt; texts = ap is_text_type said.0; stream = refl; typed = said.0; value = plain_value s from (syntax.Constant (syntax.IntegerValue z) i) t.Integer tt refl }, (refl, refl))
+    (record { proper = tt; texts = ap is_text_type said.0; stream = refl; typed = said.0; value = plain_value s from (syntax.Constant (syntax.IntegerValue z) i) t.Integer tt refl }, (refl, refl), refl)
 literal_means s from i (syntax.CharacterValue c) there said =
-    (record { proper = tt; texts = ap is_text_type said.0; stream = refl; typed = said.0; value = plain_value s from (syntax.Constant (syntax.CharacterValue c) i) t.Character tt refl }, (refl, refl))
+    (record { proper = tt; texts = ap is_text_type said.0; stream = refl; typed = said.0; value = plain_value s from (syntax.Constant (syntax.CharacterValue c) i) t.Character tt refl }, (refl, refl), refl)
 literal_means s from i (syntax.TextValue bytes) there said =
     let c = there.0 in
-    (record { proper = tt; texts = ap is_text_type said.0; stream = refl; typed = said.0; value = plain_value s from (syntax.Constant (syntax.TextValue bytes) i) t.Text tt (c.0, c.1, ap Simply c.2) }, (refl, refl))
+    (record { proper = tt; texts = ap is_text_type said.0; stream = refl; typed = said.0; value = plain_value s from (syntax.Constant (syntax.TextValue bytes) i) t.Text tt (c.0, c.1, ap Simply c.2) }, (refl, refl), refl)
 literal_means s from i (syntax.BooleanValue b) there said =
-    (record { proper = tt; texts = ap is_text_type said.0; stream = refl; typed = said.0; value = plain_value s from (syntax.Constant (syntax.BooleanValue b) i) t.Boolean tt refl }, (refl, refl))
-literal_means s from i syntax.NoObject there said = (record { proper = tt; texts = ap is_text_type said.0; stream = refl; typed = said.0; value = λ h f. f }, (refl, refl))
+    (record { proper = tt; texts = ap is_text_type said.0; stream = refl; typed = said.0; value = plain_value s from (syntax.Constant (syntax.BooleanValue b) i) t.Boolean tt refl }, (refl, refl), refl)
+literal_means s from i syntax.NoObject there said = (record { proper = tt; texts = ap is_text_type said.0; stream = refl; typed = said.0; value = λ h f. f }, (refl, refl), refl)
 literal_means s from i syntax.NoText there said =
-    (record { proper = tt; texts = ap is_text_type said.0; stream = refl; typed = said.0; value = plain_value s from (syntax.Constant syntax.NoText i) t.Text tt refl }, (refl, refl))
+    (record { proper = tt; texts = ap is_text_type said.0; stream = refl; typed = said.0; value = plain_value s from (syntax.Constant syntax.NoText i) t.Text tt refl }, (refl, refl), refl)
 
 bound_said : (s : Source) (x : Extent) (name : Identifier) (es : Expressions) → AllSay s (judge s.tables x (syntax.Named name es)).events → AllSay s (bound s.tables x name).events
 unfolding judge

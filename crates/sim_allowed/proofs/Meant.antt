@@ -15,13 +15,13 @@ use Rattle.sim_tree.specs.declared.expr.Identifier.{Identifier}
 use Rattle.sim_tree.specs.Syntax.{Expression, Expressions, NoMore}
 use Rattle.sim_tree.specs.Syntax as syntax
 use Rattle.sim_meaning.specs.Attributes.{connection_at, own_attribute, transfer_at}
-use Rattle.sim_meaning.specs.Closing.{is_text, is_text_type, result_meant, stream_of, typed_token, left_type, own_match}
+use Rattle.sim_meaning.specs.Closing.{is_placed, is_text, is_text_type, result_meant, stream_of, typed_token, left_type, own_match}
 use Rattle.sim_meaning.specs.Entries.{formals_of}
 use Rattle.sim_meaning.specs.Names.{stream_named}
 use Rattle.sim_meaning.specs.Statements.{leaves}
 use Rattle.sim_sound.specs.Held.{ArrayOf, Fits, Holds, In, InBound, Place, Refers, Simply, held_by}
-use Rattle.sim_sound.specs.Expressions.{ActualsFit, AreIntegers, AreOf, DotGives, ExprIs, IdentifierGives, IsReference}
-use Rattle.sim_sound.specs.Statements.{LeftIs, OrTransferIs, PlaceIs, ResultIs, TransferIs, is_given}
+use Rattle.sim_sound.specs.Expressions.{ActualsFit, AreIntegers, AreOf, DotGives, ExprIs, IdentifierGives, IsReference, PlaceIs}
+use Rattle.sim_sound.specs.Statements.{LeftIs, OrTransferIs, ResultIs, TransferIs, is_given}
 use Rattle.sim_agree.specs.Facts.{ProperType, MatchFits}
 use Rattle.sim_values.specs.declared.kind.Kind.TheVariants as kind
 use Rattle.sim_values.specs.declared.standard.Standard.{Standard}
@@ -78,8 +78,7 @@ CallsFor s from e (Some type) = (h : Holds) → Takes s type h → CallGiven s f
 
 -- a variable, which may be a left side
 abbrev pub Varies : Source → Place → Expression → SimType → Type 0
-Varies s (InBound t) e type = Unit {0}
-Varies s (In t) e type = PlaceIs s t e (held_by s type)
+Varies s from e type = PlaceIs s from e (held_by s type)
 
 -- it is the result of no procedure in whose text it stands
 abbrev pub NoOwn : Source → Expression → Type 0
@@ -88,6 +87,11 @@ NoOwn s e = (result_meant s e ≡ None) × (own_match s e ≡ None)
 abbrev pub Unowned : (alone : Bool) → Source → Expression → Type 0
 Unowned true s e = NoOwn s e
 Unowned false s e = Unit {0}
+
+-- it is no variable that is declared, and no element of such an array
+abbrev pub Unplaced : (alone : Bool) → Source → Expression → Type 0
+Unplaced true s e = is_placed s e ≡ false
+Unplaced false s e = Unit {0}
 
 -- what is known of a type that an expression may have
 abbrev pub TypeThere : Source → Expression → Option SimType → Type 0
@@ -122,6 +126,7 @@ pub record ProcedureIs (s : Source) (from : Place) (e : Expression) (d : DeclNo)
   pub calls : ActualsFit s from NoMore (formals_of s block) → CallsFor s from e result
   -- as a left side it is the result inside the text of the procedure
   pub inside : OwnResult s from e own d result block
+  pub unplaced : is_placed s e ≡ false
 
 -- the identifier of a procedure of SIMSET alone
 pub record SetIs (s : Source) (from : Place) (e : Expression) (d : DeclNo) (own : Option DeclNo) : Type 0 where
@@ -135,6 +140,7 @@ pub record SetIs (s : Source) (from : Place) (e : Expression) (d : DeclNo) (own 
   -- it has no text from whose inside it is a left side
   pub no_own : own ≡ None
   pub unowned : NoOwn s e
+  pub unplaced : is_placed s e ≡ false
 
 -- the identifier of a virtual alone
 pub record VirtualIs (s : Source) (from : Place) (e : Expression) (d : DeclNo) (own : Option DeclNo) : Type 0 where
@@ -146,6 +152,7 @@ pub record VirtualIs (s : Source) (from : Place) (e : Expression) (d : DeclNo) (
   pub calls : CallsFor s from e result
   -- as a left side it is the result inside the text of the match
   pub inside : MatchResult s from e result own
+  pub unplaced : is_placed s e ≡ false
 
 -- a standard name alone
 pub record StandardIs (s : Source) (from : Place) (e : Expression) (standard : StandardName) : Type 0 where
@@ -153,21 +160,22 @@ pub record StandardIs (s : Source) (from : Place) (e : Expression) (standard : S
   pub typed : is_stream standard ≡ false → TypeThere s e (signature standard).result
   pub stream : stream_of s e ≡ stream_named standard
   pub unowned : NoOwn s e
+  pub unplaced : is_placed s e ≡ false
 
 -- what is so only before calls are made
 abbrev pub Only : (alone : Bool) → Type 0 → Type 0
 Only true P = P
 Only false P = ⊥
 
--- An outcome before calls are made, where nothing is the result of a procedure but the identifier of one; and after.
+-- An outcome before calls are made, where nothing is the result of a procedure but the identifier of one, and only variables are placed; and after.
 abbrev pub Means : (alone : Bool) → Source → Place → Expression → Outcome → Type 0
 Means alone s from e is.Refused = ⊥
 Means alone s from e is.NoValue = CallsFor s from e None
 Means alone s from e is.NoValueInParentheses = Unit {0}
-Means alone s from e (is.Value type) = ValueIs s from e type × Unowned alone s e
-Means alone s from e (is.Called type) = ValueIs s from e type × CallsFor s from e (Some type) × Unowned alone s e
+Means alone s from e (is.Value type) = ValueIs s from e type × Unowned alone s e × Unplaced alone s e
+Means alone s from e (is.Called type) = ValueIs s from e type × CallsFor s from e (Some type) × Unowned alone s e × Unplaced alone s e
 Means alone s from e (is.Variable type) = ValueIs s from e type × ProperType s type × Varies s from e type × Unowned alone s e
-Means alone s from e (is.Constant type) = ValueIs s from e type
+Means alone s from e (is.Constant type) = ValueIs s from e type × Unplaced alone s e
 Means alone s from e (is.Array type) = ProperType s type × ExprIs s from e (ArrayOf (held_by s type))
 Means alone s from e (is.Procedure d token own) = Only alone (ProcedureIs s from e d own ⊎ (SetIs s from e d own ⊎ VirtualIs s from e d own))
 Means alone s from e (is.Standard name token) = Only alone (StandardIs s from e name)

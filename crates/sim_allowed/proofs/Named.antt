@@ -34,7 +34,7 @@ use Rattle.sim_values.specs.declared.kind.Kind.TheVariants as kind
 use Rattle.sim_values.specs.declared.standard.Standard.TheVariants as detach
 use Rattle.sim_code.specs.Transfers.{Detaching}
 use Rattle.sim_meaning.specs.Attributes.{connection_at, connection_in, is_connection, own_attribute, transfer_named}
-use Rattle.sim_meaning.specs.Closing.{block_if, own_block, own_block_denoted, own_result, result_meant, stream_denoted, stream_of, unless_connected, is_virtual_denoted, match_if_virtual, own_match, result_or_own, type_of_left}
+use Rattle.sim_meaning.specs.Closing.{block_if, is_attribute_denoted, is_placed, own_block, own_block_denoted, own_result, result_meant, stream_denoted, stream_of, unless_connected, is_virtual_denoted, match_if_virtual, own_match, result_or_own, type_of_left}
 use Rattle.sim_meaning.specs.Names.{procedure_named, stream_named}
 use Rattle.sim_meaning.specs.Statements.{denoted_leaves}
 use Rattle.sim_meaning.specs.Texts.{text}
@@ -228,6 +228,10 @@ standard_owner s x es name says = let m = standard_no_match s x es name says in 
     none NoMore = ap (λ z. unless_connected (connection_at s x.token.0) (own_block_denoted s x.token.0 z)) says ∙ unconnected_none (connection_at s x.token.0)
     none (Then e es) = unconnected_none (connection_at s x.token.0)
 
+standard_unplaced : (s : Source) (x : Identifier) (es : Expressions) (name : StandardName) → denoted s x.token.0 ≡ Some (denotation.Standard name) → is_placed s (syntax.Named x es) ≡ false
+unfolding is_placed
+standard_unplaced s x es name says = ap (λ z. is_attribute_denoted s z es) says
+
 -- ---- an identifier
 
 module _ (s : Source) (known : Tabled s) (from : Place) (e : Extent) (sight : Sight s from e) (x : Identifier) (placed : block_at s.tables x.token.0 ≡ Some (text_of from)) where
@@ -263,7 +267,7 @@ module _ (s : Source) (known : Tabled s) (from : Place) (e : Extent) (sight : Si
           (λ result k there. own_means s known from x placed d says binds b.found result k there) (λ result own there. match_means s known from x placed d says binds b.found result own there) (subst (λ z. AllSay s (declared_alone s.tables x.token.0 x d z).events) t.1 said))
       go (denotation.Standard name) is says binds open_to said =
           let alone = bound_name s x.token.0 x.name name binds in
-          standard_without s from (syntax.Named x NoMore) name x.token.0 refl (ap stream_denoted says) (standard_owner s x NoMore name says) (alone_proper name alone) x.token
+          standard_without s from (syntax.Named x NoMore) name x.token.0 refl (ap stream_denoted says) (standard_owner s x NoMore name says) (standard_unplaced s x NoMore name says) (alone_proper name alone) x.token
           (λ other class are. standard_call s from x NoMore name says (unconnected s e x o b name is) (detach_seen name binds b.found) alone other class (alone_proper name alone) are) said
 
   pub named_with : (first : Expression) (rest : Expressions) (o : Occurrence) → BoundIs s e x o → (a : Actuals) → AllActuals s from o.denotes (Then first rest) no_actuals a → AllSay s (used s.tables x.token.0 x o a).events
@@ -293,7 +297,7 @@ module _ (s : Source) (known : Tabled s) (from : Place) (e : Extent) (sight : Si
           x.token.0 t.0 t.1 (known.proper d t.0 t.1) (subst (λ z. AllSay s (declared_applied x.token.0 x.token.0 z (length (formals_of s.tables d)) a).events) t.1 said))
       go (denotation.Standard name) is says binds open_to fits said =
           let alone = bound_name s x.token.0 x.name name binds in
-          standard_with s from (syntax.Named x (Then first rest)) name x.token.0 refl (ap stream_denoted says) (standard_owner s x (Then first rest) name says) (alone_proper name alone) (Then first rest)
+          standard_with s from (syntax.Named x (Then first rest)) name x.token.0 refl (ap stream_denoted says) (standard_owner s x (Then first rest) name says) (standard_unplaced s x (Then first rest) name says) (alone_proper name alone) (Then first rest)
           (λ other class are. standard_call s from x (Then first rest) name says (unconnected s e x o b name is) (detach_seen name binds b.found) alone other class (alone_proper name alone) are) a (from_zero a.count (suc (size rest)) all.count) fits x.token.0 said
 
 -- ---- attributes behind dots
@@ -438,14 +442,14 @@ module _ (s : Source) (from : Place) (i : ℕ) (a : Expression) (x : Identifier)
           (dot_detaches s from i a x es (says ∙ ap (λ z. Some (denotation.Standard z)) y.0) y.1 (subst (λ z. AreOf s from es (kinds_of (signature z))) y.0 are))
 
   standard_alone : AllSay s (alone s.tables i x (denotation.Standard name)).events → Means true s from (syntax.Dot i a x NoMore) (alone s.tables i x (denotation.Standard name)).value
-  unfolding alone own_match result_meant stream_of
-  standard_alone said = standard_without s from (syntax.Dot i a x NoMore) name i refl (sym dot_none) (refl, refl) dot_proper x.token (λ other class are. dot_call NoMore are) said
+  unfolding alone is_placed own_match result_meant stream_of
+  standard_alone said = standard_without s from (syntax.Dot i a x NoMore) name i refl (sym dot_none) (refl, refl) (ap (λ z. is_attribute_denoted s z NoMore) says) dot_proper x.token (λ other class are. dot_call NoMore are) said
 
   standard_applies : (first : Expression) (rest : Expressions) (y : Actuals) → y.count ≡ size (Then first rest) → (y.misfit ≡ None → AllFit s from (Some (denotation.Standard name)) 0 (Then first rest))
       → AllSay s (applied s.tables i x.token.0 (denotation.Standard name) y).events → Means true s from (syntax.Dot i a x (Then first rest)) (applied s.tables i x.token.0 (denotation.Standard name) y).value
-  unfolding applied own_match result_meant stream_of
+  unfolding applied is_placed own_match result_meant stream_of
   standard_applies first rest y count fits said =
-      standard_with s from (syntax.Dot i a x (Then first rest)) name i refl (sym dot_none) (refl, refl) dot_proper (Then first rest) (λ other class are. dot_call (Then first rest) are) y count fits x.token.0 said
+      standard_with s from (syntax.Dot i a x (Then first rest)) name i refl (sym dot_none) (refl, refl) (ap (λ z. is_attribute_denoted s z (Then first rest)) says) dot_proper (Then first rest) (λ other class are. dot_call (Then first rest) are) y count fits x.token.0 said
 
 -- ---- behind a dot: any attribute
 

@@ -26,7 +26,7 @@ use Rattle.sim_tree.specs.declared.operator.Operator.TheVariants as op
 use Rattle.sim_tree.specs.Syntax.{Expression}
 use Rattle.sim_tree.specs.Syntax as syntax
 use Rattle.sim_values.specs.declared.kind.Kind.TheVariants as kind
-use Rattle.sim_meaning.specs.Closing.{is_text, is_text_type, result_meant, sort_of, stream_of, typed_token, own_match}
+use Rattle.sim_meaning.specs.Closing.{is_placed, is_text, is_text_type, own_match, result_meant, sort_of, stream_of, typed_token}
 use Rattle.sim_meaning.specs.Texts.{kind_of_type, text}
 use Rattle.sim_sound.specs.Held.{Fits, Holds, Place, Simply}
 use Rattle.sim_sound.specs.Expressions.{ExprIs, SortKinds}
@@ -184,7 +184,7 @@ operators_fit op.And a b = both_fit op.And t.Boolean t.Boolean a b tt tt (refl, 
 -- two operands
 pub two_means : (s : Source) (from : Place) (o : Operator) (i : ℕ) (a b : Expression) (x y : Side) → OperandIs s from a x → OperandIs s from b y
     → AllSay s (two o i x y).events → Means true s from (syntax.Binary o i a b) (two o i x y).value
-unfolding two has telling breaks is_text own_match result_meant stream_of
+unfolding two has telling breaks is_text is_placed own_match result_meant stream_of
 two_means s from o i a b x y p q said =
     subst (λ z. Means true s from (syntax.Binary o i a b) (types_fit o i x y z y.ty).value) (sym p.is)
     (subst (λ z. Means true s from (syntax.Binary o i a b) (types_fit o i x y (Some p.ty) z).value) (sym q.is)
@@ -208,15 +208,16 @@ two_means s from o i a b x y p q said =
         );
       },
       (refl, refl),
+      refl,
     )
     go fit.FirstWrong k said = absurd said.0
     go fit.SecondWrong k said = absurd said.0
 
 -- one operand
-one_is : (s : Source) (from : Place) (wanted : SimType) (i : ℕ) (a e : Expression) (x : Side) → PlainType wanted → OperandIs s from a x → typed_token e ≡ i → NoOwn s e → (stream_of s e ≡ None)
+one_is : (s : Source) (from : Place) (wanted : SimType) (i : ℕ) (a e : Expression) (x : Side) → PlainType wanted → OperandIs s from a x → typed_token e ≡ i → NoOwn s e → is_placed s e ≡ false → (stream_of s e ≡ None)
     → (ExprIs s from a (Simply (kind_of_type wanted)) → ExprIs s from e (Simply (kind_of_type wanted))) → AllSay s (one wanted i x).events → Means true s from e (one wanted i x).value
 unfolding one has telling breaks is_text
-one_is s from wanted i a e x w p at own stream value said =
+one_is s from wanted i a e x w p at own free stream value said =
     subst (λ z. Means true s from e (type_wanted wanted i x z).value) (sym p.is)
     (go (is_same p.ty wanted) refl (subst (λ z. AllSay s (type_wanted wanted i x z).events) p.is said))
   where
@@ -231,16 +232,17 @@ one_is s from wanted i a e x w p at own stream value said =
             value = plain_value s from e wanted w (value (subst (λ z. ExprIs s from a (Simply (kind_of_type z))) (same_type p.ty wanted w same) (simply s from a p.ty p.value)));
           },
           own,
+          free,
         )
     go false same said = absurd said.0
 
 pub not_means : (s : Source) (from : Place) (i : ℕ) (a : Expression) (x : Side) → OperandIs s from a x → AllSay s (one t.Boolean i x).events → Means true s from (syntax.Not i a) (one t.Boolean i x).value
-unfolding own_match result_meant stream_of
-not_means s from i a x p said = one_is s from t.Boolean i a (syntax.Not i a) x tt p refl (refl, refl) refl (λ v. (refl, v)) said
+unfolding is_placed own_match result_meant stream_of
+not_means s from i a x p said = one_is s from t.Boolean i a (syntax.Not i a) x tt p refl (refl, refl) refl refl (λ v. (refl, v)) said
 
 pub signed_means : (s : Source) (from : Place) (g : Sign) (i : ℕ) (a : Expression) (x : Side) → OperandIs s from a x → AllSay s (one t.Integer i x).events → Means true s from (syntax.Signed g i a) (one t.Integer i x).value
-unfolding own_match result_meant stream_of
-signed_means s from g i a x p said = one_is s from t.Integer i a (syntax.Signed g i a) x tt p refl (refl, refl) refl (λ v. (refl, v)) said
+unfolding is_placed own_match result_meant stream_of
+signed_means s from g i a x p said = one_is s from t.Integer i a (syntax.Signed g i a) x tt p refl (refl, refl) refl refl (λ v. (refl, v)) said
 
 -- a conditional expression: what may stand where its type does may stand where the type of each arm does
 record InCommon (s : Source) (a b type : SimType) : Type 0 where
@@ -294,7 +296,7 @@ module _ (s : Source) (known : Tabled s) where
 
 pub three_means : (s : Source) → Tabled s → (from : Place) (i : ℕ) (c a b : Expression) (x y z : Side) → OperandIs s from c x → OperandIs s from a y → OperandIs s from b z
     → AllSay s (three s.tables i x y z).events → Means true s from (syntax.If i c a b) (three s.tables i x y z).value
-unfolding three has telling breaks is_text own_match result_meant stream_of
+unfolding three has telling breaks is_text is_placed own_match result_meant stream_of
 three_means s known from i c a b x y z p q w said =
     subst (λ k. Means true s from (syntax.If i c a b) (arms_fit s.tables i x y z k y.ty z.ty).value) (sym p.is)
     (subst (λ k. Means true s from (syntax.If i c a b) (arms_fit s.tables i x y z (Some p.ty) k z.ty).value) (sym q.is)
@@ -316,6 +318,7 @@ three_means s known from i c a b x y z p q w said =
             value = λ h f. (condition, q.value.value h (both.first h f), w.value.value h (both.second h f));
           },
           (refl, refl),
+          refl,
         )
 
     go : (k : Bool) → is_same p.ty t.Boolean ≡ k → AllSay s (if k then in_common i z (common_type s.tables q.ty w.ty) else breaks x.first.0 r.WrongType).events

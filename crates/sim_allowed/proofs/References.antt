@@ -34,7 +34,7 @@ use Rattle.sim_tree.specs.declared.expr.Membership.{Membership}
 use Rattle.sim_tree.specs.Syntax.{Expression, Expressions}
 use Rattle.sim_tree.specs.Syntax as syntax
 use Rattle.sim_values.specs.declared.kind.Kind.TheVariants as kind
-use Rattle.sim_meaning.specs.Closing.{class_parameters, is_text, is_text_type, result_meant, stream_of, own_match}
+use Rattle.sim_meaning.specs.Closing.{class_parameters, is_placed, is_text, is_text_type, own_match, result_meant, stream_of}
 use Rattle.sim_meaning.specs.Levels.{class_at, class_denoted as class_meant, class_text}
 use Rattle.sim_meaning.specs.Attributes.{is_bare_process}
 use Rattle.sim_meaning.specs.Texts.{BlockText, ClassText, ConnectionText, PrefixedText, ProcedureText, StandardText, Text, kind_of_type, text}
@@ -196,16 +196,17 @@ module _ (s : Source) (known : Tabled s) (from : Place) (x : Extent) (a : Expres
   named = record { class = c.class.block; is = class_meets s x class o c }
 
   pub member_means : (m : Membership) (i : ℕ) → AllSay s (member s.tables i y class o).events → Means true s from (syntax.Member m i a class) (member s.tables i y class o).value
-  unfolding member is_text own_match result_meant stream_of
+  unfolding member is_text is_placed own_match result_meant stream_of
   member_means m i said =
       let k = compared i truth_of said in
       subst (λ z. Means true s from (syntax.Member m i a class) z) (sym k.is) (
         record { proper = tt; texts = ap is_text_type k.typed; stream = refl; typed = k.typed; value = plain_value s from (syntax.Member m i a class) t.Boolean tt (refl, named, k.object) },
         (refl, refl),
+        refl,
       )
 
   pub qualified_means : (i : ℕ) → AllSay s (qualified s.tables i y class o).events → Means true s from (syntax.Qua i a class) (qualified s.tables i y class o).value
-  unfolding qualified is_text own_match result_meant stream_of named
+  unfolding qualified is_text is_placed own_match result_meant stream_of named
   qualified_means i said =
       let k = compared i class_type said in
       subst (λ z. Means true s from (syntax.Qua i a class) z) (sym k.is) (
@@ -217,6 +218,7 @@ module _ (s : Source) (known : Tabled s) (from : Place) (x : Extent) (a : Expres
           value = λ h f. (named, subst (λ z. Fits s z h) (class_held s c.declaration c.class) f, k.object);
         },
         (refl, refl),
+        refl,
       )
 
 -- ---- `new`
@@ -255,7 +257,7 @@ module _ (s : Source) (known : Tabled s) (from : Place) (x : Extent) (class : Id
   class_parameter i = ap (parameter_of s.tables c.declaration i) c.class.declares ∙ ap formal_or_none ((class_heading s known c.declaration c.class.block c.class.declares).places i)
 
   pub new_means : (i : ℕ) → AllSay s (new_object s.tables i class o a).events → Means true s from (syntax.New i class es) (new_object s.tables i class o a).value
-  unfolding new_object next gives telling breaks is_text own_match result_meant stream_of
+  unfolding new_object next gives telling breaks is_text is_placed own_match result_meant stream_of
   new_means i said =
       subst (λ (z : Occurrence). Means true s from (syntax.New i class es) (new_of_class s.tables i class.token.0 z.denotes z.barred a).value) (sym c.is)
       (go (subst (λ (z : Occurrence). AllSay s (new_of_class s.tables i class.token.0 z.denotes z.barred a).events) c.is said))
@@ -273,7 +275,7 @@ module _ (s : Source) (known : Tabled s) (from : Place) (x : Extent) (class : Id
           let number : formal_count s.tables d ≡ a.count = grind (arith, nat_tests) in
           let actuals = all_formals s from (Some d) 0 es (class_parameters s (Some c.class.block)) (λ j. (let zero_more : 0 + j ≡ j = omega arith in ap (parameter_at s.tables (Some d)) zero_more ∙ class_parameter j)) head.proper (sym count ∙ sym number ∙ counted ∙ head.count) (fits fit) in
           let value : (h : Holds) → Takes s (t.Ref c.declaration) h → ExprIs s from (syntax.New i class es) h = λ h f. (record { declaration = c.declaration; denotes = class_says s x class o c; class = c.class.block; declares = c.class.declares; made = made; single = alone; seen = sees; actuals = actuals }, subst (λ z. Fits s z h) (class_held s c.declaration c.class) f) in
-          (record { proper = c.class; texts = ap is_text_type said.0; stream = refl; typed = said.0; value = value }, value, (refl, refl))
+          (record { proper = c.class; texts = ap is_text_type said.0; stream = refl; typed = said.0; value = value }, value, (refl, refl), refl)
 
       go : AllSay s (new_of s.tables i class.token.0 d false a).events → Means true s from (syntax.New i class es) (new_of s.tables i class.token.0 d false a).value
       go said =

@@ -45,13 +45,13 @@ use Rattle.sim_values.specs.declared.kind.Kind.{Kind}
 use Rattle.sim_values.specs.declared.kind.Kind.TheVariants as kind
 use Rattle.sim_code.specs.Transfers.{Transfer}
 use Rattle.sim_meaning.specs.Attributes.{connection_at, own_attribute, transfer_at}
-use Rattle.sim_meaning.specs.Closing.{is_text, is_text_type, class_parameters}
+use Rattle.sim_meaning.specs.Closing.{by_name, class_parameters, formal_by_name, is_text, is_text_type, name_denoted, named_formal}
 use Rattle.sim_meaning.specs.Constants.{arms_constants, block_constants, element_constants, elements_constants, expression_constants, right_constants, schedule_constants, statement_constants, statements_constants, expressions_constants}
 use Rattle.sim_meaning.specs.Levels.{class_at, qualification}
 use Rattle.sim_meaning.specs.Texts.{kind_of_type}
-use Rattle.sim_sound.specs.Held.{Fits, Holds, In, Place, Refers, Simply, formal_holds, held_by, reference_to as holds_reference}
-use Rattle.sim_sound.specs.Expressions.{ActualsFit, AreIntegers, AreOf, ExprIs, HeldNames}
-use Rattle.sim_sound.specs.Statements.{ArmsAre, CallIs, CompoundIs, ControlIs, ElementIs, ElementsAre, LeftHeld, OrTransferIs, PlaceDeclared, PlaceIs, ReferenceAt, StatementIs, StatementsAre, TextLeft, TimingIs, TransferIs, PrefixedIs, is_given}
+use Rattle.sim_sound.specs.Held.{Fits, Holds, In, Place, Refers, Simply, formal_names, held_by, reference_to as holds_reference}
+use Rattle.sim_sound.specs.Expressions.{ActualsFit, AreIntegers, AreOf, ExprIs, HeldNames, LeftHeld, PlaceDeclared, PlaceIs}
+use Rattle.sim_sound.specs.Statements.{ArmsAre, CallIs, CompoundIs, ControlIs, ControlOf, ElementIs, ElementsAre, OrTransferIs, ReferenceAt, StatementIs, StatementsAre, TextLeft, TimingIs, TransferIs, PrefixedIs, is_given}
 use Rattle.sim_agree.specs.Facts.{PlainType, ProperEntry, ProperFormal, ProperType, Tabled}
 use Rattle.sim_agree.specs.Places.{PlacedArms, PlacedBlock, PlacedElement, PlacedExpression, PlacedName, PlacedSchedule, PlacedSide, PlacedStatement, PlacedStatements, class_of_name, class_of_type, PlacedPrefixed}
 use Rattle.sim_agree.specs.Plain.{Each, PlainArms, PlainBlock, PlainElement, PlainExpression, PlainSchedule, PlainSide, PlainStatement, PlainStatements}
@@ -212,7 +212,7 @@ assign_typed s known k sight left parts h all said =
 
 -- ---- for statements
 
-controls : (s : Source) (k : ℕ) (sign : Assignment) (e : Expression) (ty : SimType) → Assignable s k e ty → takes sign ty ≡ true → ControlIs (is_text_type (Some ty)) sign s k e (kind_of_type ty)
+controls : (s : Source) (k : ℕ) (sign : Assignment) (e : Expression) (ty : SimType) → Assignable s k e ty → takes sign ty ≡ true → ControlOf (is_text_type (Some ty)) sign s k e (kind_of_type ty)
 controls s k assignment.Value e t.Text l h = (refl, l.left)
 controls s k assignment.Value e t.Integer l h = l.left
 controls s k assignment.Value e t.Boolean l h = l.left
@@ -234,29 +234,29 @@ pub record ControlledIs (s : Source) (k : ℕ) (sign : Assignment) (x : Identifi
 
 module _ (s : Source) (known : Tabled s) (k : ℕ) (sight : Sight s (In k) extent.Statement) where
   module _ (sign : Assignment) (x : Identifier) where
-    variable_is : (ty : SimType) → (type_at s x.token.0 ≡ Some ty → Assignable s k (syntax.Named x NoMore) ty) → AllSay s (variable_controlled sign x.token.0 ty).events → ControlledIs s k sign x (variable_controlled sign x.token.0 ty).value
+    variable_is : (ty : SimType) → by_name s (syntax.Named x NoMore) ≡ None → (type_at s x.token.0 ≡ Some ty → Assignable s k (syntax.Named x NoMore) ty) → AllSay s (variable_controlled sign x.token.0 ty).events → ControlledIs s k sign x (variable_controlled sign x.token.0 ty).value
     unfolding telling is_text
-    variable_is ty left said = go (takes sign ty) refl said
+    variable_is ty no_name left said = go (takes sign ty) refl said
       where
         go : (b : Bool) → takes sign ty ≡ b → AllSay s (if b then telling (Typed x.token.0 ty) (Some ty) else telling (Broken x.token.0 r.WrongType) None).events
             → ControlledIs s k sign x (if b then telling (Typed x.token.0 ty) (Some ty) else telling (Broken x.token.0 r.WrongType) None).value
         go true takes said =
-            record { ty = ty; is = refl; control = subst (λ z. ControlIs (is_text_type z) sign s k (syntax.Named x NoMore) (kind_of_type ty)) (sym said.0) (controls s k sign (syntax.Named x NoMore) ty (left said.0) takes) }
+            record { ty = ty; is = refl; control = subst (λ z. ControlIs (is_text_type z) sign s k (syntax.Named x NoMore) (kind_of_type ty)) (sym said.0) (no_name, controls s k sign (syntax.Named x NoMore) ty (left said.0) takes) }
         go false takes said = absurd said.0
 
-    moded_is : (m : Mode) (ty : SimType) → (type_at s x.token.0 ≡ Some ty → Assignable s k (syntax.Named x NoMore) ty) → AllSay s (moded_controlled sign x.token.0 m ty).events → ControlledIs s k sign x (moded_controlled sign x.token.0 m ty).value
+    moded_is : (m : Mode) (ty : SimType) → ((m ≡ mode.ByName → ⊥) → by_name s (syntax.Named x NoMore) ≡ None) → (type_at s x.token.0 ≡ Some ty → Assignable s k (syntax.Named x NoMore) ty) → AllSay s (moded_controlled sign x.token.0 m ty).events → ControlledIs s k sign x (moded_controlled sign x.token.0 m ty).value
     unfolding telling
-    moded_is mode.ByName ty left said = absurd said.0
-    moded_is mode.ByValue ty left said = variable_is ty left said
-    moded_is mode.ByReference ty left said = variable_is ty left said
+    moded_is mode.ByName ty no_name left said = absurd said.0
+    moded_is mode.ByValue ty no_name left said = variable_is ty (no_name (λ e. cc)) left said
+    moded_is mode.ByReference ty no_name left said = variable_is ty (no_name (λ e. cc)) left said
 
-    formal_is : (m : Mode) (shape' : FormalKind) (w : Option SimType) → ProperFormal s m shape' w → ((ty : SimType) → shape' ≡ shape.Simple → w ≡ Some ty → ProperType s ty → type_at s x.token.0 ≡ Some ty → Assignable s k (syntax.Named x NoMore) ty)
+    formal_is : (m : Mode) (shape' : FormalKind) (w : Option SimType) → ProperFormal s m shape' w → ((m ≡ mode.ByName → ⊥) → by_name s (syntax.Named x NoMore) ≡ None) → ((ty : SimType) → shape' ≡ shape.Simple → w ≡ Some ty → ProperType s ty → type_at s x.token.0 ≡ Some ty → Assignable s k (syntax.Named x NoMore) ty)
         → AllSay s (formal_controlled sign x.token.0 m shape' w).events → ControlledIs s k sign x (formal_controlled sign x.token.0 m shape' w).value
     unfolding telling gives
-    formal_is m shape.Simple None p left said = absurd (never_untyped s m shape.Simple p)
-    formal_is m shape.Simple (Some ty) p left said = moded_is m ty (left ty refl refl (formal_type s m shape.Simple ty p)) said
-    formal_is m shape.Array w p left said = absurd said.0
-    formal_is m shape.Procedure w p left said = absurd (never_procedure s m w p)
+    formal_is m shape.Simple None p no_name left said = absurd (never_untyped s m shape.Simple p)
+    formal_is m shape.Simple (Some ty) p no_name left said = moded_is m ty no_name (left ty refl refl (formal_type s m shape.Simple ty p)) said
+    formal_is m shape.Array w p no_name left said = absurd said.0
+    formal_is m shape.Procedure w p no_name left said = absurd (never_procedure s m w p)
 
     -- how the controlled variable is known
     abbrev Here : DeclNo → Type 0
@@ -282,19 +282,29 @@ module _ (s : Source) (known : Tabled s) (k : ℕ) (sight : Sight s (In k) exten
             text = λ is. subst (λ z. TextLeft s k (syntax.Named x NoMore) z) (sym own.0)
                 (it.value (Simply kind.Text) (subst (λ z. UseGives s (Here d) d NoMore (AreIntegers s (In k) NoMore) (λ fs. ActualsFit s (In k) NoMore fs) z (Some (Simply kind.Text))) (sym there)
                 (g (Simply kind.Text) (subst (λ z. Fits s (held_by s z) (Simply kind.Text)) (sym is) refl))));
-            reference = λ c is class held. subst (λ z. ReferenceAt s k (syntax.Named x NoMore) z class) (sym own.0) (subst (λ z. PlaceIs s k (syntax.Named x NoMore) z) (ap (held_by s) is ∙ held) place);
+            reference = λ c is class held. subst (λ z. ReferenceAt s k (syntax.Named x NoMore) z class) (sym own.0) (subst (λ z. PlaceIs s (In k) (syntax.Named x NoMore) z) (ap (held_by s) is ∙ held) place);
           }
+
+      -- what is no parameter by name
+      named_none : (e : Entry) → entry_of s.tables d ≡ Some e → formal_by_name d (Some e) ≡ None → by_name s (syntax.Named x NoMore) ≡ None
+      unfolding by_name
+      named_none e there none = ap (name_denoted s) says ∙ ap (formal_by_name d) there ∙ none
+
+      formal_none : (m : Mode) (kind : FormalKind) → (m ≡ mode.ByName → ⊥) → named_formal m kind d ≡ None
+      formal_none mode.ByName kind other = absurd (other refl)
+      formal_none mode.ByValue kind other = refl
+      formal_none mode.ByReference kind other = refl
 
       entry_is : (e : Entry) → entry_of s.tables d ≡ Some e → ProperEntry s e → AllSay s (entry_controlled sign x.token.0 (Some e)).events → ControlledIs s k sign x (entry_controlled sign x.token.0 (Some e)).value
       unfolding telling gives
       entry_is (entry.Variable ty) there p said =
-          variable_is ty (assigns (entry.Variable ty) there tt ty p (variable_left s (Here d) (AreIntegers s (In k) NoMore) ty seen)
+          variable_is ty (named_none (entry.Variable ty) there refl) (assigns (entry.Variable ty) there tt ty p (variable_left s (Here d) (AreIntegers s (In k) NoMore) ty seen)
           (λ h f. variable_names s (Here d) (AreIntegers s (In k) NoMore) ty h f seen)) said
       entry_is (entry.Formal f) there p said =
-          formal_is f.mode f.kind f.ty p
+          formal_is f.mode f.kind f.ty p (λ other. named_none (entry.Formal f) there (formal_none f.mode f.kind other))
           (λ ty kinds types proper typed.
-          let held : formal_holds s f.mode f.kind f.ty ≡ Some (held_by s ty) =
-          ap (λ z. formal_holds s f.mode z f.ty) kinds ∙ ap (λ z. formal_holds s f.mode shape.Simple z) types ∙ simple_held s f.mode ty (subst (λ z. ProperFormal s f.mode shape.Simple z) types (subst (λ z. ProperFormal s f.mode z f.ty) kinds p)) in
+          let held : formal_names s f.mode f.kind f.ty ≡ Some (held_by s ty) =
+          ap (λ z. formal_names s f.mode z f.ty) kinds ∙ ap (λ z. formal_names s f.mode shape.Simple z) types ∙ simple_held s f.mode ty (subst (λ z. ProperFormal s f.mode shape.Simple z) types (subst (λ z. ProperFormal s f.mode z f.ty) kinds p)) in
           assigns (entry.Formal f) there tt ty proper
           (subst (λ z. LeftHeld (Here d) NoMore (AreIntegers s (In k) NoMore) z (held_by s ty)) (sym held) (variable_left s (Here d) (AreIntegers s (In k) NoMore) ty seen))
           (λ h g. subst (λ z. HeldNames s (Here d) NoMore (AreIntegers s (In k) NoMore) z h) (sym held) (variable_names s (Here d) (AreIntegers s (In k) NoMore) ty h g seen))

@@ -22,7 +22,7 @@ use Rattle.sim_scope.specs.Source.{Source, found_at}
 use Rattle.sim_tree.specs.declared.expr.Identifier.{Identifier}
 use Rattle.sim_tree.specs.Syntax as syntax
 use Rattle.sim_meaning.specs.Attributes.{is_connection}
-use Rattle.sim_meaning.specs.Closing.{is_text, is_text_type, result_meant, stream_of, own_match}
+use Rattle.sim_meaning.specs.Closing.{is_placed, is_text, is_text_type, own_match, result_meant, stream_of}
 use Rattle.sim_meaning.specs.Levels.{is_class, has_levels}
 use Rattle.sim_meaning.specs.Texts.{text}
 use Rattle.sim_sound.specs.Held.{Around, Fits, Holds, In, InBound, Place, Refers, StandsAround, further, itself, reference_to}
@@ -115,7 +115,7 @@ this_is s known from d c b level stands h f = go (is_connection (text s b)) refl
 
 pub this_means : (s : Source) → Tabled s → (from : Place) (i : ℕ) (class : Identifier) (o : Occurrence) → ClassIs s (extent_of from) class o → block_at s.tables class.token.0 ≡ Some (text_of from)
     → AllSay s (this_object s.tables (extent_of from) i class o).events → Means true s from (syntax.This i class) (this_object s.tables (extent_of from) i class o).value
-unfolding this_object next gives telling has this_fits is_text own_match result_meant stream_of this_block
+unfolding this_object next gives telling has this_fits is_text is_placed own_match result_meant stream_of this_block
 this_means s known from i class o c placed said =
     subst (λ (z : Occurrence). Means true s from (syntax.This i class) (this_of_class s.tables (extent_of from) i class.token.0 z.denotes z.barred).value) (sym c.is)
     (go (this_block s.tables class.token.0 d) refl (subst (λ (z : Occurrence). AllSay s (this_of_class s.tables (extent_of from) i class.token.0 z.denotes z.barred).events) c.is said))
@@ -154,6 +154,7 @@ this_means s known from i class o c placed said =
             value = λ h f. value block e k1.0 k3.0 (located_says s i block first.0) h f;
           },
           (refl, refl),
+          refl,
         )
       where
         value : (block : Option ℕ) → this_block s.tables class.token.0 d ≡ block → is_nowhere block ≡ false → this_barred s.tables (extent_of from) token block ≡ false → ((b : ℕ) → block ≡ Some b → found_at s i ≡ Some b)

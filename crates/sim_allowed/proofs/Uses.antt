@@ -34,13 +34,13 @@ use Rattle.sim_values.specs.declared.standard.Standard.TheVariants as name_of
 use Rattle.sim_code.specs.Simulations.{is_simulation_name}
 use Rattle.sim_code.specs.Transfers.{Calling, Detaching, Resuming, Transfer}
 use Rattle.sim_meaning.specs.Attributes.{attribute_denoted, attribute_if, connection_at, is_standard_attribute, own_attribute, transfer_at, transfer_denoted, transfer_named}
-use Rattle.sim_meaning.specs.Closing.{is_text, is_text_type, own_block, own_block_denoted, own_result, result_meant, stream_denoted, stream_of, typed_token, unless_connected, is_virtual_denoted, match_if_virtual, own_match, result_or_own}
+use Rattle.sim_meaning.specs.Closing.{is_attribute_denoted, is_placed, is_text, is_text_type, own_block, own_block_denoted, own_result, result_meant, stream_denoted, stream_of, typed_token, unless_connected, is_virtual_denoted, match_if_virtual, own_match, result_or_own}
 use Rattle.sim_meaning.specs.Names.{procedure_named, stream_named}
 use Rattle.sim_meaning.specs.Statements.{denoted_leaves, leaves}
 use Rattle.sim_meaning.specs.Virtuals.{text_of_procedure}
 use Rattle.sim_sound.specs.Held.{Holds, In, InBound, Place, Refers, Simply, held_by}
-use Rattle.sim_sound.specs.Expressions.{ActualsFit, AreIntegers, AreOf, DeclaredGives, DotGives, ExprIs, IdentifierGives, KnownAt, NamedGives, ObjectHas, OwnGives, OwnKnown, OwnNameGives, SetGives, SimulationGives, SimulationKnown, ThisFound}
-use Rattle.sim_sound.specs.Statements.{LeftDeclared, LeftDot, NoText, OrTransferIs, PlaceDeclared, PlaceNamed, TransferIs, is_given, LeftResultOr}
+use Rattle.sim_sound.specs.Expressions.{ActualsFit, AreIntegers, AreOf, DeclaredGives, DotGives, ExprIs, IdentifierGives, KnownAt, NamedGives, ObjectHas, OwnGives, OwnKnown, OwnNameGives, PlaceDeclared, PlaceDot, PlaceNamed, SetGives, SimulationGives, SimulationKnown, ThisFound}
+use Rattle.sim_sound.specs.Statements.{LeftDeclared, OrTransferIs, TransferIs, is_given, LeftResultOr}
 use Rattle.sim_agree.specs.Facts.{PlainGiven}
 use Rattle.sim_agree.proofs.Unprefixed.{standard_is as standard_found}
 use Rattle.sim_allowed.proofs.Actuals.{AllFit, all_operands, size}
@@ -120,7 +120,7 @@ no_parameters : (first second : Option SimType) → first ≡ None → parameter
 no_parameters None second e = refl
 no_parameters (Some a) second e = absurd (cc)
 
-module _ (s : Source) (from : Place) (e : Expression) (name : StandardName) (naming : ℕ) (at : typed_token e ≡ naming) (stream : stream_of s e ≡ stream_named name) (unowned : NoOwn s e) (proper : PlainGiven (signature name).result) where
+module _ (s : Source) (from : Place) (e : Expression) (name : StandardName) (naming : ℕ) (at : typed_token e ≡ naming) (stream : stream_of s e ≡ stream_named name) (unowned : NoOwn s e) (unplaced : is_placed s e ≡ false) (proper : PlainGiven (signature name).result) where
   type_there : (o : Outcome) → AllSay s (typed_if naming (signature name).result o).events → is_stream name ≡ false → TypeThere s e (signature name).result
   unfolding telling gives is_text
   type_there o said other = go (signature name).result proper said
@@ -142,6 +142,7 @@ module _ (s : Source) (from : Place) (e : Expression) (name : StandardName) (nam
         typed = type_there (is.Standard name token) said;
         stream = stream;
         unowned = unowned;
+        unplaced = unplaced;
       })
 
       go : (b : Bool) → is_standard_class name ≡ b → AllSay s (if b then gives is.Class else typed_if naming (signature name).result (is.Standard name token)).events
@@ -159,7 +160,7 @@ module _ (s : Source) (from : Place) (e : Expression) (name : StandardName) (nam
       result other class same (Some f) is said = absurd said.0
       result other class same None is said =
           subst (λ z. Means true s from e z) (sym (typed_is naming (signature name).result (call_of (signature name).result)))
-          (call_means s from e (signature name).result (type_there (call_of (signature name).result) said other) (calls other class (all_operands s from name es (same ∙ count) (fits is))) true unowned)
+          (call_means s from e (signature name).result (type_there (call_of (signature name).result) said other) (calls other class (all_operands s from name es (same ∙ count) (fits is))) true unowned unplaced)
 
       counted : is_stream name ≡ false → is_standard_class name ≡ false → (b : Bool) → nat_eq (parameter_count (signature name)) a.count ≡ b → AllSay s (if b then resulting naming a.misfit (signature name).result else breaks token r.WrongNumber).events
           → Means true s from e (if b then resulting naming a.misfit (signature name).result else breaks token r.WrongNumber).value
@@ -475,7 +476,7 @@ identifier_place s from token es I d None None e h a = a
 identifier_place s from token es I d None (Some q) e h a = absurd (attribute_no_place s (OwnHere s from token d (entry_of s.tables d)) I es (entry_of s.tables d) h (own_is s q d e).is a)
 
 pub named_use : (s : Source) (from : Place) (x : Identifier) (es : Expressions) (d : DeclNo) → denoted s x.token.0 ≡ Some (denotation.Declared d) → EitherAttribute (entry_of s.tables d) → ThroughSeen s x.token.0 d → UseIs s from (syntax.Named x es) x.token.0 d es (KnownHere s from x.token.0 (connection_at s x.token.0) (own_attribute s x.token.0) d)
-unfolding stream_of
+unfolding is_placed stream_of
 named_use s from x es d says either through = record {
   at = refl;
   stream = ap stream_denoted says;
@@ -483,19 +484,19 @@ named_use s from x es d says either through = record {
   call = λ h a left.
       named_given s from x es h (declared_transfers s x.token.0 d says) (identifier_gives s from x es d says either (connection_at s x.token.0) through (own_attribute s x.token.0) (own_declared s x.token.0 d says) h a) (ap (denoted_leaves s) says ∙ left);
   calls = λ result g. named_calls s from x es result g;
-  place = λ type a. place from type a;
+  place = place;
   unowned = λ none. (let m = result_no_match s x d es says none in
       (meant_without s x es m ∙ ap (unless_connected (connection_at s x.token.0)) (no_own s x d es says none) ∙ unconnected_none (connection_at s x.token.0), m));
+  unplaced = λ none. ap (λ z. is_attribute_denoted s z es) says ∙ none;
 }
   where
-    place : (from : Place) (type : SimType) → PlaceDeclared s (KnownHere s from x.token.0 (connection_at s x.token.0) (own_attribute s x.token.0) d) es (AreIntegers s from es) (entry_of s.tables d) (held_by s type) → Varies s from (syntax.Named x es) type
-    place (InBound t) type a = tt
-    place (In t) type a =
-        subst (λ z. PlaceNamed s t (connection_at s x.token.0) z es (AreIntegers s (In t) es) (held_by s type)) (sym says)
-        (identifier_place s (In t) x.token.0 es (AreIntegers s (In t) es) d (connection_at s x.token.0) (own_attribute s x.token.0) (own_declared s x.token.0 d says) (held_by s type) a)
+    place : (type : SimType) → PlaceDeclared s (KnownHere s from x.token.0 (connection_at s x.token.0) (own_attribute s x.token.0) d) es (AreIntegers s from es) (entry_of s.tables d) (held_by s type) → Varies s from (syntax.Named x es) type
+    place type a =
+        subst (λ z. PlaceNamed s from (connection_at s x.token.0) z es (AreIntegers s from es) (held_by s type)) (sym says)
+        (identifier_place s from x.token.0 es (AreIntegers s from es) d (connection_at s x.token.0) (own_attribute s x.token.0) (own_declared s x.token.0 d says) (held_by s type) a)
 
 pub dot_use : (s : Source) (from : Place) (i : ℕ) (b : Expression) (x : Identifier) (es : Expressions) (d : DeclNo) → denoted s x.token.0 ≡ Some (denotation.Declared d) → AttributeThere (entry_of s.tables d) → UseIs s from (syntax.Dot i b x es) i d es (ObjectHas s (λ c. ExprIs s from b (Refers c)) d)
-unfolding own_match result_meant stream_of
+unfolding is_placed own_match result_meant stream_of
 dot_use s from i b x es d says plain = record {
   at = refl;
   stream = refl;
@@ -504,10 +505,10 @@ dot_use s from i b x es d says plain = record {
       dot_given s from i b x es h (declared_transfers s x.token.0 d says) (subst (λ z. DotGives s z (stream_of s b) (ExprIs s from b (Simply kind.Text)) (λ c. ExprIs s from b (Refers c)) es (AreIntegers s from es) (λ ks. AreOf s from es ks) (λ fs. ActualsFit s from es fs) h) (sym says) (declared_gives s (ObjectHas s (λ c. ExprIs s from b (Refers c)) d) (AreIntegers s from es) (λ fs. ActualsFit s from es fs) d es (entry_of s.tables d) h plain a))
       (ap (denoted_leaves s) says ∙ left);
   calls = λ result g. dot_calls s from i b x es result g;
-  place = λ type a. place from type a;
+  place = place;
   unowned = λ none. (refl, refl);
+  unplaced = λ none. ap (λ z. is_attribute_denoted s z es) says ∙ none;
 }
   where
-    place : (from : Place) (type : SimType) → PlaceDeclared s (ObjectHas s (λ c. ExprIs s from b (Refers c)) d) es (AreIntegers s from es) (entry_of s.tables d) (held_by s type) → Varies s from (syntax.Dot i b x es) type
-    place (InBound t) type a = tt
-    place (In t) type a = subst (λ z. LeftDot s z (λ c. ExprIs s (In t) b (Refers c)) es (AreIntegers s (In t) es) (held_by s type)) (sym says) (left_there s (ObjectHas s (λ c. ExprIs s (In t) b (Refers c)) d) (AreIntegers s (In t) es) NoText es (entry_of s.tables d) (held_by s type) a)
+    place : (type : SimType) → PlaceDeclared s (ObjectHas s (λ c. ExprIs s from b (Refers c)) d) es (AreIntegers s from es) (entry_of s.tables d) (held_by s type) → Varies s from (syntax.Dot i b x es) type
+    place type a = subst (λ z. PlaceDot s z (λ c. ExprIs s from b (Refers c)) es (AreIntegers s from es) (held_by s type)) (sym says) a

@@ -19,6 +19,7 @@ use Rattle.sim_tree.specs.declared.stmt.TypeName.{TypeName}
 use Rattle.sim_tree.specs.Filled.{Filled}
 use Rattle.sim_tree.specs.Syntax.{Declarations, Expressions, Heading, NoDeclaration, NoStatement, Statement, Statements}
 use Rattle.sim_meaning.specs.Attributes.{is_connection}
+use Rattle.sim_values.specs.declared.kind.Kind.{Kind}
 use Rattle.sim_values.specs.declared.standard.Standard.{Standard}
 use Rattle.sim_code.specs.Sets.{is_attribute_name}
 use Rattle.sim_code.specs.Simulations.{is_simulation_name}
@@ -26,7 +27,7 @@ use Rattle.sim_meaning.specs.Closing.{class_parameters}
 use Rattle.sim_meaning.specs.Entries.{formals_of, numbers_of}
 use Rattle.sim_meaning.specs.Texts.{BlockText, ClassText, ConnectionText, PrefixedText, ProcedureText, StandardText, Text, is_class_free, text}
 use Rattle.sim_meaning.specs.Virtuals.{match_in_text}
-use Rattle.sim_sound.specs.Held.{Among, ArrayOf, Holds, IsFormal, entry_holds, result_holds}
+use Rattle.sim_sound.specs.Held.{Among, ArrayOf, ByName, Holds, IsFormal, entry_holds, result_holds}
 use Rattle.sim_sound.specs.Typed.{BlockTyped, ClassThere, ClassTyped, ConnectionTyped, Distinct, FormalsAre, IsAttribute, NoFormals, ProcedureThere, ProcessClassThere, ResultWritten, SetClassThere, SetProcedureThere, SimulationClasses, SimulationProcedureThere, Starts, TextTyped, Typed, arrays_of_block, MatchThere}
 use Rattle.sim_agree.specs.Facts.{Tabled}
 use Rattle.sim_agree.specs.Places.{PlacedArrays, PlacedStatement, PlacedStatements}
@@ -57,6 +58,7 @@ pub record ClassIs (s : Source) (k : ℕ) (ds : Declarations) (ss : Statements) 
   pub formals : FormalsAre s (class_formals s.tables k) (class_parameters s (Some k))
   pub parameters : (d : DeclNo) → Among d (numbers_of s k) → IsFormal (entry_of s.tables d) → Among d (class_formals s.tables k)
   pub different : Distinct (numbers_of s k)
+  pub not_by_name : (d : DeclNo) (kind : Kind) → Among d (numbers_of s k) → entry_holds s true (entry_of s.tables d) ≡ Some (ByName kind) → ⊥
   pub distinct : Distinct (arrays_of_block s ds)
   pub made : (d : DeclNo) (element : SimType) (dimensions : ℕ) → Among d (numbers_of s k) → entry_of s.tables d ≡ Some (entry.Array element dimensions) → Among d (arrays_of_block s ds)
   pub own : (d : DeclNo) → Among d (arrays_of_block s ds) → Among d (numbers_of s k)
@@ -111,6 +113,7 @@ module _ (s : Source) (agreed : Agreed s) (plain : Plain s.program) (filled : Fi
         formals = b.formals;
         parameters = b.parameters;
         different = b.different;
+        not_by_name = b.not_by_name;
         constants = λ d type among e. (let c = tabled.constants d type e in record { value = c.value; is = c.is; of_type = c.of_type });
         arrays = arrays_typed s agreed.tabled k solid ds fine.0.0 b.arrays b.named fine.0.1 fine.0.2;
         distinct = b.distinct;

@@ -18,9 +18,8 @@ use Rattle.sim_meaning.specs.Closing.{formals_at, formals_declared}
 use Rattle.sim_meaning.specs.Entries.{formals_of}
 use Rattle.sim_meaning.specs.Pending.{Declared}
 use Rattle.sim_meaning.specs.Texts.{constant_of, kind_of_type, text}
-use Rattle.sim_sound.specs.Held.{ArrayOf, Holds, Simply, entry_holds, formal_holds, held_by}
-use Rattle.sim_sound.specs.Expressions.{ArrayNames, ConstantNames, DeclaredGives, HeldNames, SetGives}
-use Rattle.sim_sound.specs.Statements.{LeftHeld, PlaceDeclared}
+use Rattle.sim_sound.specs.Held.{ArrayOf, ByName, Holds, Simply, entry_holds, formal_holds, formal_names, held_by}
+use Rattle.sim_sound.specs.Expressions.{ArrayNames, ConstantNames, DeclaredGives, HeldNames, LeftHeld, PlaceDeclared, SetGives}
 use Rattle.sim_sound.specs.Typed.{Typed}
 use Rattle.sim_sound.proofs.Formals.{formals_same}
 use Rattle.codegen_expr.specs.Built.{AreBuilt, ArrayBuilt, ArrayOfBuilt, ArrayPlaceBuilt, ArrayPlaceOfBuilt, CellBuilt, ConstantBuilt, ConstantOfBuilt, DeclaredBuilt, DeclaredPlaceBuilt, FormalBuilt, FormalPlaceBuilt, HasBuilt, OfObjectBuilt, ParameterOfBuilt, ParameterPlaceOfBuilt, PlaceOfObjectBuilt, StandsIn, VariableBuilt, VariableOfBuilt}
@@ -69,19 +68,21 @@ module _ (s : Source) (ok : Typed s) (laid : Laid s) (t : ℕ) (d : DeclNo) (Kno
         by_list NoMore f a = absurd a
         by_list (Then x xs) f a = (cell false (ArrayOf k) e a.0, f a.1)
 
-    -- a formal parameter that holds something is by value or by reference, and no procedure
-    formal_built : (m : Mode) (k : FormalKind) (ty : Option SimType) (h : Holds) → entry_holds s false (entry_of s.tables d) ≡ formal_holds s m k ty → HeldNames s Known es Indices (formal_holds s m k ty) h → FormalBuilt s t d m k es (AreBuilt s t es)
+    -- a formal parameter that holds something is no procedure
+    formal_built : (m : Mode) (k : FormalKind) (ty : Option SimType) (h : Holds) → entry_holds s false (entry_of s.tables d) ≡ formal_holds s m k ty → HeldNames s Known es Indices (formal_names s m k ty) h → FormalBuilt s t d m k es (AreBuilt s t es)
     formal_built mode.ByValue shape.Simple (Some ty) h e a = variable_built (held_by s ty) e (names_alone s Known Indices es (held_by s ty) h (no_array s ty) a)
     formal_built mode.ByReference shape.Simple (Some ty) h e a = variable_built (held_by s ty) e (names_alone s Known Indices es (held_by s ty) h (no_array s ty) a)
     formal_built mode.ByValue shape.Array (Some ty) h e a = array_built (held_by s ty) h e a
     formal_built mode.ByReference shape.Array (Some ty) h e a = array_built (held_by s ty) h e a
+    formal_built mode.ByName shape.Simple (Some ty) h e a = variable_built (ByName (kind_of_type ty)) e (names_alone s Known Indices es (held_by s ty) h (no_array s ty) a)
     formal_built _ _ _ h e a = absurd a
 
-    formal_place_built : (m : Mode) (k : FormalKind) (ty : Option SimType) (h : Holds) → entry_holds s false (entry_of s.tables d) ≡ formal_holds s m k ty → LeftHeld Known es Indices (formal_holds s m k ty) h → FormalPlaceBuilt s t d m k es (AreBuilt s t es)
+    formal_place_built : (m : Mode) (k : FormalKind) (ty : Option SimType) (h : Holds) → entry_holds s false (entry_of s.tables d) ≡ formal_holds s m k ty → LeftHeld Known es Indices (formal_names s m k ty) h → FormalPlaceBuilt s t d m k es (AreBuilt s t es)
     formal_place_built mode.ByValue shape.Simple (Some ty) h e a = variable_built (held_by s ty) e (left_alone s Known Indices es (held_by s ty) h (no_array s ty) a)
     formal_place_built mode.ByReference shape.Simple (Some ty) h e a = variable_built (held_by s ty) e (left_alone s Known Indices es (held_by s ty) h (no_array s ty) a)
     formal_place_built mode.ByValue shape.Array (Some ty) h e a = element_built (held_by s ty) e (left_indexed s Known Indices es (held_by s ty) h a)
     formal_place_built mode.ByReference shape.Array (Some ty) h e a = element_built (held_by s ty) e (left_indexed s Known Indices es (held_by s ty) h a)
+    formal_place_built mode.ByName shape.Simple (Some ty) h e a = variable_built (ByName (kind_of_type ty)) e (left_alone s Known Indices es (held_by s ty) h (no_array s ty) a)
     formal_place_built _ _ _ h e a = absurd (left_none s Known Indices es h a)
 
     -- no procedure of SIMSET, which is one of the object around
@@ -137,18 +138,20 @@ module _ (s : Source) (ok : Typed s) (laid : Laid s) (t : ℕ) (d : DeclNo) (Kno
     constant_of_object ty h e a =
         let known = constant_known s Known d es h a in (object known, has true (Simply (kind_of_type ty)) (ap (entry_holds s true) e) known, constant_is_built s Known d es h a)
 
-    parameter_of : (m : Mode) (k : FormalKind) (ty : Option SimType) (h : Holds) → entry_holds s false (entry_of s.tables d) ≡ formal_holds s m k ty → HeldNames s Known es Indices (formal_holds s m k ty) h → ParameterOfBuilt s d k es Object (AreBuilt s t es)
+    parameter_of : (m : Mode) (k : FormalKind) (ty : Option SimType) (h : Holds) → entry_holds s false (entry_of s.tables d) ≡ formal_holds s m k ty → HeldNames s Known es Indices (formal_names s m k ty) h → ParameterOfBuilt s d k es Object (AreBuilt s t es)
     parameter_of mode.ByValue shape.Simple (Some ty) h e a = variable_of (held_by s ty) e (names_alone s Known Indices es (held_by s ty) h (no_array s ty) a)
     parameter_of mode.ByReference shape.Simple (Some ty) h e a = variable_of (held_by s ty) e (names_alone s Known Indices es (held_by s ty) h (no_array s ty) a)
     parameter_of mode.ByValue shape.Array (Some ty) h e a = array_of (held_by s ty) h e a
     parameter_of mode.ByReference shape.Array (Some ty) h e a = array_of (held_by s ty) h e a
+    parameter_of mode.ByName shape.Simple (Some ty) h e a = variable_of (ByName (kind_of_type ty)) e (names_alone s Known Indices es (held_by s ty) h (no_array s ty) a)
     parameter_of _ _ _ h e a = absurd a
 
-    parameter_place_of : (m : Mode) (k : FormalKind) (ty : Option SimType) (h : Holds) → entry_holds s false (entry_of s.tables d) ≡ formal_holds s m k ty → LeftHeld Known es Indices (formal_holds s m k ty) h → ParameterPlaceOfBuilt s d k es Object (AreBuilt s t es)
+    parameter_place_of : (m : Mode) (k : FormalKind) (ty : Option SimType) (h : Holds) → entry_holds s false (entry_of s.tables d) ≡ formal_holds s m k ty → LeftHeld Known es Indices (formal_names s m k ty) h → ParameterPlaceOfBuilt s d k es Object (AreBuilt s t es)
     parameter_place_of mode.ByValue shape.Simple (Some ty) h e a = variable_of (held_by s ty) e (left_alone s Known Indices es (held_by s ty) h (no_array s ty) a)
     parameter_place_of mode.ByReference shape.Simple (Some ty) h e a = variable_of (held_by s ty) e (left_alone s Known Indices es (held_by s ty) h (no_array s ty) a)
     parameter_place_of mode.ByValue shape.Array (Some ty) h e a = element_of (held_by s ty) e (left_indexed s Known Indices es (held_by s ty) h a)
     parameter_place_of mode.ByReference shape.Array (Some ty) h e a = element_of (held_by s ty) e (left_indexed s Known Indices es (held_by s ty) h a)
+    parameter_place_of mode.ByName shape.Simple (Some ty) h e a = variable_of (ByName (kind_of_type ty)) e (left_alone s Known Indices es (held_by s ty) h (no_array s ty) a)
     parameter_place_of _ _ _ h e a = absurd (left_none s Known Indices es h a)
 
     -- a procedure of SIMSET, with its actual parameter, if it takes one

@@ -33,7 +33,7 @@ use Rattle.sim_sound.proofs.Prefixes.{level_is}
 use Rattle.sim_sound.proofs.Prefixes as prefixes
 use Rattle.sim_sound.proofs.Lists.{numbers_equal, there_get, there_is}
 use Rattle.sim_sound.proofs.Reach.{among_block}
-use Rattle.sim_sound.proofs.Sound.{KeyAmong, first_key, key_of, later_key}
+use Rattle.sim_sound.proofs.Values.{KeyAmong, first_key, key_of, later_key}
 use Rattle.codegen_expr.specs.Built.{HasBuilt, PlainBuilt, StandsIn, is_around, is_level, is_there, place_from, slot_in}
 use Rattle.codegen_expr.specs.Sites.{cells_in, connects, frame_text, hidden_before, hidden_from, hidden_in, in_front, is_connected, own_cells, own_part, prefix_of}
 use Rattle.codegen_expr.specs.Sites as sites

@@ -14,7 +14,7 @@ use Rattle.sim_scope.specs.declared.types.Mode.TheVariants as mode
 use Rattle.sim_scope.specs.declared.types.SimType.{SimType}
 use Rattle.sim_scope.specs.Levels.{class_block, class_block_in}
 use Rattle.sim_scope.specs.Scopes.{entry_of}
-use Rattle.sim_scope.specs.Source.{Source, block_of, denoted, found_at}
+use Rattle.sim_scope.specs.Source.{Source, block_of, denoted, found_at, type_at}
 use Rattle.sim_tree.specs.Syntax.{Expression, Expressions, Literal, NoMore, Then}
 use Rattle.sim_tree.specs.Syntax as syntax
 use Rattle.sim_values.specs.declared.kind.Kind.{Kind}
@@ -24,13 +24,13 @@ use Rattle.sim_values.specs.declared.standard.StandardType.{StandardType}
 use Rattle.sim_values.specs.Standard.{is_image, moves_position, on_image, operands_of, row_of}
 use Rattle.sim_code.specs.Simulations.{is_simulation_name}
 use Rattle.sim_meaning.specs.Attributes.{attribute_denoted, attribute_formals, attribute_if, class_made, class_unless, connection_at, is_connection, is_standard_attribute, own_attribute}
-use Rattle.sim_meaning.specs.Closing.{class_parameters, formals_at, formals_declared, is_attribute, is_attribute_denoted, is_image_behind, is_variable, is_variable_denoted, is_variable_entry, stream_of}
-use Rattle.sim_meaning.specs.Levels.{class_at, class_denoted, class_text, has_levels, is_class}
+use Rattle.sim_meaning.specs.Closing.{class_parameters, formals_at, formals_declared, is_attribute, is_attribute_denoted, is_image_behind, is_placed, is_variable, is_variable_denoted, is_variable_entry, stream_of, typed_token}
+use Rattle.sim_meaning.specs.Levels.{class_at, class_denoted, class_text, has_levels, is_class, qualification}
 use Rattle.sim_meaning.specs.Names.{procedure_named}
 use Rattle.sim_meaning.specs.Statements.{has_value, standard_leaves}
-use Rattle.sim_meaning.specs.Texts.{text}
+use Rattle.sim_meaning.specs.Texts.{kind_of_type, text}
 use Rattle.sim_sound.specs.Held.{ArrayOf, FitsIn, Holds, Place, Refers, Sees, SeesConnected, Simply, StandsAround, given_by, held_by}
-use Rattle.sim_sound.specs.Expressions.{ActualFits, ActualsFit, AreIntegers, AreOf, AttributeGives, ClassNamed, DeclaredGives, DotGives, ExprIs, Generates, IdentifierGives, LiteralIs, NameGives, NamedGives, ObjectHas, OfText, OwnGives, OwnKnown, OwnNameGives, SetGives, SimulationGives, SimulationKnown, StandardGives, ThisFound, ThisIs, passed, some_holds, standard_kind}
+use Rattle.sim_sound.specs.Expressions.{ActualFits, ActualPassed, ActualsFit, AreIntegers, AreOf, AttributeGives, ClassNamed, DeclaredGives, DotGives, ExprIs, Generates, IdentifierGives, LiteralIs, NameGives, NamedGives, ObjectHas, OfText, OwnGives, OwnKnown, OwnNameGives, PlaceDot, PlaceIs, PlaceNamed, SetGives, SimulationGives, SimulationKnown, StandardGives, ThisFound, ThisIs, passed, some_holds, standard_kind}
 use Rattle.sim_sound.specs.Statements.{is_given}
 use Rattle.sim_sound.specs.Typed.{Typed}
 use Rattle.sim_sound.proofs.Calls.{not_own, own_denoted, own_is_attribute}
@@ -340,6 +340,24 @@ module _ (s : Source) (ok : Typed s) (laid : Laid s) (t : ℕ) (from : Place) (s
         let z = gives_place s (ObjectHas s Object d) (AreIntegers s from es) d es Actuals (entry_of s.tables d) v b a in
         place_of_built s ok laid t d (ObjectHas s Object d) (λ z. object_solid Object d z) es (AreIntegers s from es) integers Value (λ z. o z.0 z.3) (entry_of s.tables d) z.0 refl z.1
 
+    -- where a variable or an element lies
+    named_lies : (c : Option ℕ) (x : Option Denotation) (h : Holds) → PlaceNamed s from c x es (AreIntegers s from es) h → ThroughBuilt c (λ k. PlaceBehindBuilt s x es (ConnectedBuilt s t k) (AreBuilt s t es)) (NamedPlaceBuilt s t x es (AreBuilt s t es))
+    named_lies None None h a = absurd a
+    named_lies (Some k) None h a = absurd a
+    named_lies None (Some (denotation.Declared d)) h a =
+        declared_place_built s ok laid t d (Sees s from d) (λ z. stands.solid d z) es (AreIntegers s from es) integers (λ z. stands.seen d z) (entry_of s.tables d) h refl a
+    named_lies (Some k) (Some (denotation.Declared d)) h a =
+        place_of_built s ok laid t d (SeesConnected s from k d) (λ z. stands.behind k d z) es (AreIntegers s from es) integers (ConnectedBuilt s t k) (λ z. stands.connected k d z) (entry_of s.tables d) h refl a
+    named_lies None (Some (denotation.Standard n)) h a = absurd a
+    named_lies (Some k) (Some (denotation.Standard n)) h a = absurd a
+
+    dot_lies : (Value : Type 0) (Object : ℕ → Type 0) (x : Option Denotation) (stream : Option ℕ) (h : Holds) → ((c : ℕ) → Object c → Value) → PlaceDot s x Object es (AreIntegers s from es) h → StreamBuilt stream (PlaceBehindBuilt s x es Value (AreBuilt s t es))
+    dot_lies Value Object x (Some image) h o a = tt
+    dot_lies Value Object None None h o a = absurd a
+    dot_lies Value Object (Some (denotation.Standard n)) None h o a = absurd a
+    dot_lies Value Object (Some (denotation.Declared d)) None h o a =
+        place_of_built s ok laid t d (ObjectHas s Object d) (λ z. object_solid Object d z) es (AreIntegers s from es) integers Value (λ z. o z.0 z.3) (entry_of s.tables d) h refl a
+
   -- ---- objects
 
   generation_built : (token : ℕ) (Actuals Given : List Formal → Type 0) → ((fs : List Formal) → Actuals fs → Given fs) → Generates s from token Actuals → GenerationBuilt s t (denoted s token) (class_made s (class_at s token)) (Given (class_parameters s (class_at s token)))
@@ -352,12 +370,19 @@ module _ (s : Source) (ok : Typed s) (laid : Laid s) (t : ℕ) (from : Place) (s
 
   -- ---- expressions
 
-  actual_built : (m : Mode) (k : FormalKind) (ty : Option SimType) (Is : Holds → Type 0) (Built : Type 0) → ((h : Holds) → Is h → Built) → ActualFits s m k ty Is → Built × ActualBuilt m k
-  actual_built mode.ByValue shape.Simple (Some ty) Is Built f a = (f (passed (held_by s ty)) a, tt)
-  actual_built mode.ByReference shape.Simple (Some ty) Is Built f a = (f (passed (held_by s ty)) a, tt)
-  actual_built mode.ByReference shape.Array (Some ty) Is Built f a = (f (ArrayOf (held_by s ty)) a, tt)
-  actual_built mode.ByValue shape.Array (Some ty) Is Built f a = (f (ArrayOf (held_by s ty)) a, tt)
-  actual_built _ _ _ Is Built f a = absurd a
+  actual_built : (m : Mode) (k : FormalKind) (ty : Option SimType) (Is : Holds → Type 0) (Passed : Kind → Type 0) (Value Given : Type 0) → ((h : Holds) → Is h → Value) → ((k : Kind) → Passed k → Given) → ActualFits s m k ty Is Passed → ActualBuilt m k Value Given
+  actual_built mode.ByValue shape.Simple (Some ty) Is Passed Value Given f g a = f (passed (held_by s ty)) a
+  actual_built mode.ByReference shape.Simple (Some ty) Is Passed Value Given f g a = f (passed (held_by s ty)) a
+  actual_built mode.ByReference shape.Array (Some ty) Is Passed Value Given f g a = f (ArrayOf (held_by s ty)) a
+  actual_built mode.ByValue shape.Array (Some ty) Is Passed Value Given f g a = f (ArrayOf (held_by s ty)) a
+  actual_built mode.ByName shape.Simple (Some ty) Is Passed Value Given f g a = g (kind_of_type ty) a
+  actual_built _ _ _ Is Passed Value Given f g a = absurd a
+
+  -- what a thunk gives: where a variable lies, or a value
+  passed_built : (placed : Bool) (class : Option ℕ) (Is Lies : Holds → Type 0) (Lying Value : Type 0) → ((h : Holds) → Is h → Value) → ((h : Holds) → Lies h → Lying) → (k : Kind) → ActualPassed placed class Is Lies k → ObjectBuilt placed Lying Value
+  passed_built true None Is Lies Lying Value f g k a = g (Simply k) a.1
+  passed_built true (Some c) Is Lies Lying Value f g k a = g (Refers c) a.1
+  passed_built false class Is Lies Lying Value f g k a = f (Simply k) a
 
   literal_built : (token : ℕ) (x : Literal) (h : Holds) → LiteralIs s token x h → LiteralBuilt s token x
   literal_built token (syntax.IntegerValue z) h a = tt
@@ -409,6 +434,24 @@ module _ (s : Source) (ok : Typed s) (laid : Laid s) (t : ℕ) (from : Place) (s
     text_place (syntax.This i c) b x = absurd (variable_form s (syntax.This i c) b)
     text_place (syntax.New i c es) b x = absurd (variable_form s (syntax.New i c es) b)
 
+    pub place_built : (e : Expression) (h : Holds) → PlaceIs s from e h → PlaceBuilt s t e
+    place_built (syntax.Named name es) h a =
+        named_lies es (λ y. integers_built es y) (λ ks y. are_built es ks y) (λ fs. ActualsFit s from es fs) (λ fs. ActualsBuilt s t es fs) (λ fs y. actuals_built es fs y) (λ fs y. fitted s from es fs y)
+        (connection_at s name.token.0) (denoted s name.token.0) h a
+    place_built (syntax.Dot i b name es) h a =
+        dot_lies es (λ y. integers_built es y) (λ ks y. are_built es ks y) (λ fs. ActualsFit s from es fs) (λ fs. ActualsBuilt s t es fs) (λ fs y. actuals_built es fs y) (λ fs y. fitted s from es fs y)
+        (IsBuilt s t b) (λ c. ExprIs s from b (Refers c)) (denoted s name.token.0) (stream_of s b) h (λ c y. is_built b (Refers c) y) a
+    place_built (syntax.If i c b d) h a = absurd a
+    place_built (syntax.Binary op i b d) h a = absurd a
+    place_built (syntax.Not i b) h a = absurd a
+    place_built (syntax.Signed sign i b) h a = absurd a
+    place_built (syntax.Constant literal i) h a = absurd a
+    place_built (syntax.Parentheses i b) h a = absurd a
+    place_built (syntax.Member m i b c) h a = absurd a
+    place_built (syntax.Qua i b c) h a = absurd a
+    place_built (syntax.This i c) h a = absurd a
+    place_built (syntax.New i c es) h a = absurd a
+
     pub are_built : (es : Expressions) (ks : List Kind) → AreOf s from es ks → AreBuilt s t es
     are_built NoMore ks x = tt
     are_built (Then e es) [] x = absurd x
@@ -423,4 +466,8 @@ module _ (s : Source) (ok : Typed s) (laid : Laid s) (t : ℕ) (from : Place) (s
     actuals_built NoMore (f ∷ fs) x = absurd x
     actuals_built (Then e es) [] x = absurd x
     actuals_built (Then e es) (f ∷ fs) x =
-        let y = actual_built f.mode f.kind f.ty (ExprIs s from e) (IsBuilt s t e) (λ h z. is_built e h z) x.0 in (y.0, y.1, actuals_built es fs x.1)
+        let class = qualification s (type_at s (typed_token e)) in (
+          actual_built f.mode f.kind f.ty (ExprIs s from e) (ActualPassed (is_placed s e) class (ExprIs s from e) (PlaceIs s from e)) (IsBuilt s t e) (ObjectBuilt (is_placed s e) (PlaceBuilt s t e) (IsBuilt s t e)) (λ h z. is_built e h z)
+              (λ k z. passed_built (is_placed s e) class (ExprIs s from e) (PlaceIs s from e) (PlaceBuilt s t e) (IsBuilt s t e) (λ h y. is_built e h y) (λ h y. place_built e h y) k z) x.0,
+          actuals_built es fs x.1,
+        )

@@ -21,23 +21,23 @@ use Rattle.sim_tree.specs.Syntax as syntax
 use Rattle.sim_values.specs.declared.kind.Kind.{Kind}
 use Rattle.sim_values.specs.declared.kind.Kind.TheVariants as kind
 use Rattle.sim_meaning.specs.Attributes.{connection_at, declared_attribute}
-use Rattle.sim_meaning.specs.Closing.{block_if, own_block, own_block_denoted, own_match, own_result, result_meant, result_or_own, stream_of, unless_connected}
+use Rattle.sim_meaning.specs.Closing.{block_if, by_name, formal_by_name, name_denoted, named_formal, own_block, own_block_denoted, own_match, own_result, result_meant, result_or_own, unless_connected}
 use Rattle.sim_meaning.specs.Pending.{Declared, Key, Result}
 use Rattle.sim_meaning.specs.Texts.{Text, text}
 use Rattle.sim_meaning.specs.Virtuals.{procedure_text, text_of_procedure}
-use Rattle.sim_sound.specs.Held.{Around, ArrayOf, Holds, In, Refers, Sees, SeesConnected, Simply, entry_holds, formal_holds, held_by, result_holds}
-use Rattle.sim_sound.specs.Expressions.{AreIntegers, ExprIs, ObjectHas}
-use Rattle.sim_sound.specs.Statements.{ControlIs, LeftDot, LeftHeld, LeftIs, LeftNamed, LeftOf, LeftResultOr, NoText, OwnText, PlaceDeclared, PlaceIs, PlaceNamed, ReferenceAt, ReferenceLeft, TextLeft}
+use Rattle.sim_sound.specs.Held.{Around, ArrayOf, Holds, In, Refers, Sees, SeesConnected, Simply, entry_holds, formal_holds, formal_names, held_by, result_holds}
+use Rattle.sim_sound.specs.Expressions.{AreIntegers, ExprIs, LeftHeld, ObjectHas, PlaceDeclared, PlaceDot, PlaceIs, PlaceNamed}
+use Rattle.sim_sound.specs.Statements.{ControlIs, LeftDot, LeftIs, LeftNamed, LeftOf, LeftResultOr, NoText, OwnText, ReferenceAt, ReferenceLeft, TextLeft}
 use Rattle.sim_sound.specs.Typed.{Typed}
-use Rattle.codegen_expr.specs.Built.{AreBuilt, CellBuilt, ClassBuilt, ConnectedBuilt, IsBuilt, KeyBuilt, NamedPlaceBuilt, PlaceBehindBuilt, PlaceBuilt, PlaceOrResultBuilt, ReferenceBuilt, StandsIn, StreamBuilt, ThroughBuilt, is_there, slot_in}
+use Rattle.codegen_expr.specs.Built.{AreBuilt, CellBuilt, ClassBuilt, IsBuilt, KeyBuilt, PlaceBuilt, PlaceOrResultBuilt, ReferenceBuilt, StandsIn, is_there, slot_in}
 use Rattle.codegen.specs.BuiltProgram.{LeftBuilt, StepsBuilt, VariableBuilt}
 use Rattle.codegen.specs.CodeFor.{Variable, assigned_by, variable_of, variable_stored}
-use Rattle.codegen.specs.CodeLeft.{AtAttribute, InCell, Stored, stored_declared, stored_element, stored_formal, stored_found, stored_left, stored_match, stored_named, stored_of, stored_text, stored_variable}
+use Rattle.codegen.specs.CodeLeft.{AtAttribute, InCell, Stored, stored_by_sign, stored_declared, stored_element, stored_formal, stored_found, stored_left, stored_match, stored_named, stored_of, stored_or_named, stored_text, stored_variable}
 use Rattle.sim_built.specs.Laid.{Laid}
-use Rattle.sim_built.proofs.Attributes.{declared_place_built, place_of_built}
 use Rattle.sim_built.proofs.Cells.{declared_has, result_has, result_typed, stands}
-use Rattle.sim_built.proofs.Expressions.{Stands, integers_built, is_built, object_solid}
+use Rattle.sim_built.proofs.Expressions.{Stands, integers_built, is_built, place_built}
 use Rattle.sim_built.proofs.Lists.{Alone, Indexed, LeftCase, a_place, a_result, left_alone, left_case, left_indexed, left_none, left_place, no_array}
+use Rattle.sim_built.proofs.NamedSides.{named_built}
 use Rattle.sim_built.proofs.Standing.{stands_here}
 
 -- the result of a procedure that is meant has a cell
@@ -131,37 +131,15 @@ module _ (s : Source) (ok : Typed s) (laid : Laid s) (t : ℕ) (x : Text) (there
 
   -- ---- places
 
-  named_place : (c : Option ℕ) (y : Option Denotation) (es : Expressions) (h : Holds) → PlaceNamed s t c y es (AreIntegers s (In t) es) h → ThroughBuilt c (λ k. PlaceBehindBuilt s y es (ConnectedBuilt s t k) (AreBuilt s t es)) (NamedPlaceBuilt s t y es (AreBuilt s t es))
-  named_place None None es h a = absurd a
-  named_place (Some k) None es h a = absurd a
-  named_place None (Some (denotation.Declared d)) es h a =
-      declared_place_built s ok laid t d (Sees s (In t) d) (λ z. here.solid d z) es (AreIntegers s (In t) es) (λ z. integers es z) (λ z. here.seen d z) (entry_of s.tables d) h refl a
-  named_place (Some k) (Some (denotation.Declared d)) es h a =
-      place_of_built s ok laid t d (SeesConnected s (In t) k d) (λ z. here.behind k d z) es (AreIntegers s (In t) es) (λ z. integers es z) (ConnectedBuilt s t k) (λ z. here.connected k d z) (entry_of s.tables d) h refl a
-  named_place None (Some (denotation.Standard n)) es h a = absurd a
-  named_place (Some k) (Some (denotation.Standard n)) es h a = absurd a
+  place_is_built : (e : Expression) (h : Holds) → PlaceIs s (In t) e h → PlaceBuilt s t e
+  place_is_built e h a = place_built s ok laid t (In t) here e h a
 
-  dot_place : (y : Option Denotation) (stream : Option ℕ) (Object : ℕ → Type 0) (Value : Type 0) (es : Expressions) (h : Holds) → ((c : ℕ) → Object c → Value) → LeftDot s y Object es (AreIntegers s (In t) es) h → StreamBuilt stream (PlaceBehindBuilt s y es Value (AreBuilt s t es))
-  dot_place y (Some image) Object Value es h o a = tt
-  dot_place None None Object Value es h o a = absurd a
-  dot_place (Some (denotation.Standard n)) None Object Value es h o a = absurd a
-  dot_place (Some (denotation.Declared d)) None Object Value es h o a =
-      place_of_built s ok laid t d (ObjectHas s Object d) (λ z. object_solid s ok laid t (In t) here Object d z) es (AreIntegers s (In t) es) (λ z. integers es z) Value (λ z. o z.0 z.3) (entry_of s.tables d) h refl
-      (left_place s (ObjectHas s Object d) (AreIntegers s (In t) es) NoText es (entry_of s.tables d) h (λ k z. z) (left_case s (ObjectHas s Object d) (AreIntegers s (In t) es) NoText es (entry_of s.tables d) h a))
-
-  place_is_built : (e : Expression) (h : Holds) → PlaceIs s t e h → PlaceBuilt s t e
-  place_is_built (syntax.Named name es) h a = named_place (connection_at s name.token.0) (denoted s name.token.0) es h a
-  place_is_built (syntax.Dot i b name es) h a = dot_place (denoted s name.token.0) (stream_of s b) (λ c. ExprIs s (In t) b (Refers c)) (IsBuilt s t b) es h (λ c y. built b (Refers c) y) a
-  place_is_built (syntax.If i c b d) h a = absurd a
-  place_is_built (syntax.Binary op i b d) h a = absurd a
-  place_is_built (syntax.Not i b) h a = absurd a
-  place_is_built (syntax.Signed sign i b) h a = absurd a
-  place_is_built (syntax.Constant literal i) h a = absurd a
-  place_is_built (syntax.Parentheses i b) h a = absurd a
-  place_is_built (syntax.Member m i b c) h a = absurd a
-  place_is_built (syntax.Qua i b c) h a = absurd a
-  place_is_built (syntax.This i c) h a = absurd a
-  place_is_built (syntax.New i c es) h a = absurd a
+  -- behind a dot no result is a left side
+  behind_place : (y : Option Denotation) (Object : ℕ → Type 0) (es : Expressions) (h : Holds) → LeftDot s y Object es (AreIntegers s (In t) es) h → PlaceDot s y Object es (AreIntegers s (In t) es) h
+  behind_place None Object es h a = absurd a
+  behind_place (Some (denotation.Standard n)) Object es h a = absurd a
+  behind_place (Some (denotation.Declared d)) Object es h a =
+      left_place s (ObjectHas s Object d) (AreIntegers s (In t) es) NoText es (entry_of s.tables d) h (λ k z. z) (left_case s (ObjectHas s Object d) (AreIntegers s (In t) es) NoText es (entry_of s.tables d) h a)
 
   result_around : (block : ℕ) → is_there (slot_in s block Result) ≡ true → Around s.tables t block → KeyBuilt s t block Result
   result_around block has a = record { has = has; inside = around block a }
@@ -186,33 +164,38 @@ module _ (s : Source) (ok : Typed s) (laid : Laid s) (t : ℕ) (x : Text) (there
   element_left d NoMore line h e a = absurd a
   element_left d (Then y ys) line h e a = (cell d (ArrayOf h) e a.0, integers (Then y ys) a.1)
 
-  formal_left : (d : DeclNo) (es : Expressions) (line : ℕ) (m : Mode) (f : FormalKind) (ty : Option SimType) (h : Holds) → entry_holds s false (entry_of s.tables d) ≡ formal_holds s m f ty → LeftHeld (Sees s (In t) d) es (AreIntegers s (In t) es) (formal_holds s m f ty) h → LeftBuilt s t (stored_formal s d es line m f)
-  formal_left d es line mode.ByValue shape.Simple (Some ty) h e a = variable_left d es (held_by s ty) e (left_alone s (Sees s (In t) d) (AreIntegers s (In t) es) es (held_by s ty) h (no_array s ty) a)
-  formal_left d es line mode.ByReference shape.Simple (Some ty) h e a = variable_left d es (held_by s ty) e (left_alone s (Sees s (In t) d) (AreIntegers s (In t) es) es (held_by s ty) h (no_array s ty) a)
-  formal_left d es line mode.ByValue shape.Array (Some ty) h e a = element_left d es line (held_by s ty) e (left_indexed s (Sees s (In t) d) (AreIntegers s (In t) es) es (held_by s ty) h a)
-  formal_left d es line mode.ByReference shape.Array (Some ty) h e a = element_left d es line (held_by s ty) e (left_indexed s (Sees s (In t) d) (AreIntegers s (In t) es) es (held_by s ty) h a)
-  formal_left d es line _ _ _ h e a = absurd (left_none s (Sees s (In t) d) (AreIntegers s (In t) es) es h a)
+  formal_left : (d : DeclNo) (es : Expressions) (line : ℕ) (m : Mode) (f : FormalKind) (ty : Option SimType) (h : Holds) → (es ≡ NoMore → named_formal m f d ≡ None) → entry_holds s false (entry_of s.tables d) ≡ formal_holds s m f ty → LeftHeld (Sees s (In t) d) es (AreIntegers s (In t) es) (formal_names s m f ty) h → LeftBuilt s t (stored_formal s d es line m f)
+  formal_left d es line mode.ByValue shape.Simple (Some ty) h other e a = variable_left d es (held_by s ty) e (left_alone s (Sees s (In t) d) (AreIntegers s (In t) es) es (held_by s ty) h (no_array s ty) a)
+  formal_left d es line mode.ByReference shape.Simple (Some ty) h other e a = variable_left d es (held_by s ty) e (left_alone s (Sees s (In t) d) (AreIntegers s (In t) es) es (held_by s ty) h (no_array s ty) a)
+  formal_left d es line mode.ByValue shape.Array (Some ty) h other e a = element_left d es line (held_by s ty) e (left_indexed s (Sees s (In t) d) (AreIntegers s (In t) es) es (held_by s ty) h a)
+  formal_left d es line mode.ByReference shape.Array (Some ty) h other e a = element_left d es line (held_by s ty) e (left_indexed s (Sees s (In t) d) (AreIntegers s (In t) es) es (held_by s ty) h a)
+  formal_left d es line mode.ByName shape.Simple (Some ty) h other e a = absurd (by_list es other (left_alone s (Sees s (In t) d) (AreIntegers s (In t) es) es (held_by s ty) h (no_array s ty) a))
+    where
+      by_list : (es : Expressions) → (es ≡ NoMore → named_formal mode.ByName shape.Simple d ≡ None) → Alone (Sees s (In t) d) es → ⊥
+      by_list NoMore other a = let none = other refl in cc
+      by_list (Then y ys) other a = a
+  formal_left d es line _ _ _ h other e a = absurd (left_none s (Sees s (In t) d) (AreIntegers s (In t) es) es h a)
 
-  place_left : (d : DeclNo) (es : Expressions) (line : ℕ) (y : Option Entry) (h : Holds) → entry_of s.tables d ≡ y → PlaceDeclared s (Sees s (In t) d) es (AreIntegers s (In t) es) y h → LeftBuilt s t (stored_declared s d es line y)
-  place_left d es line (Some (entry.Variable ty)) h e a = variable_left d es (held_by s ty) (ap (entry_holds s false) e) (left_alone s (Sees s (In t) d) (AreIntegers s (In t) es) es (held_by s ty) h (no_array s ty) a)
-  place_left d es line (Some (entry.Array ty n)) h e a = element_left d es line (held_by s ty) (ap (entry_holds s false) e) (left_indexed s (Sees s (In t) d) (AreIntegers s (In t) es) es (held_by s ty) h a)
-  place_left d es line (Some (entry.Formal f)) h e a = formal_left d es line f.mode f.kind f.ty h (ap (entry_holds s false) e) a
-  place_left d es line (Some (entry.Procedure r k)) h e a = absurd a
-  place_left d es line None h e a = absurd a
-  place_left d es line (Some _) h e a = absurd (left_none s (Sees s (In t) d) (AreIntegers s (In t) es) es h a)
+  place_left : (d : DeclNo) (es : Expressions) (line : ℕ) (y : Option Entry) (h : Holds) → (es ≡ NoMore → formal_by_name d y ≡ None) → entry_of s.tables d ≡ y → PlaceDeclared s (Sees s (In t) d) es (AreIntegers s (In t) es) y h → LeftBuilt s t (stored_declared s d es line y)
+  place_left d es line (Some (entry.Variable ty)) h other e a = variable_left d es (held_by s ty) (ap (entry_holds s false) e) (left_alone s (Sees s (In t) d) (AreIntegers s (In t) es) es (held_by s ty) h (no_array s ty) a)
+  place_left d es line (Some (entry.Array ty n)) h other e a = element_left d es line (held_by s ty) (ap (entry_holds s false) e) (left_indexed s (Sees s (In t) d) (AreIntegers s (In t) es) es (held_by s ty) h a)
+  place_left d es line (Some (entry.Formal f)) h other e a = formal_left d es line f.mode f.kind f.ty h other (ap (entry_holds s false) e) a
+  place_left d es line (Some (entry.Procedure r k)) h other e a = absurd a
+  place_left d es line None h other e a = absurd a
+  place_left d es line (Some _) h other e a = absurd (left_none s (Sees s (In t) d) (AreIntegers s (In t) es) es h a)
 
-  declared_left : (d : DeclNo) (es : Expressions) (line : ℕ) (y : Option Entry) (h : Holds) → entry_of s.tables d ≡ y → LeftCase s (Sees s (In t) d) (AreIntegers s (In t) es) (λ k. Around s.tables t k) h es y → LeftBuilt s t (stored_declared s d es line y)
-  declared_left d _ line _ h e (a_result {type = type} {k = k} a) = result_around k (result_typed s ok laid d type k e) a
-  declared_left d es line y h e (a_place a) = place_left d es line y h e a
+  declared_left : (d : DeclNo) (es : Expressions) (line : ℕ) (y : Option Entry) (h : Holds) → (es ≡ NoMore → formal_by_name d y ≡ None) → entry_of s.tables d ≡ y → LeftCase s (Sees s (In t) d) (AreIntegers s (In t) es) (λ k. Around s.tables t k) h es y → LeftBuilt s t (stored_declared s d es line y)
+  declared_left d _ line _ h other e (a_result {type = type} {k = k} a) = result_around k (result_typed s ok laid d type k e) a
+  declared_left d es line y h other e (a_place a) = place_left d es line y h other e a
 
   -- an identifier, not seen through a connection or seen through one
-  named_left : (y : Option Denotation) (es : Expressions) (line : ℕ) (h : Holds) → LeftNamed s t None y es (AreIntegers s (In t) es) h → LeftBuilt s t (stored_named s y es line)
-  named_left None es line h a = absurd a
-  named_left (Some (denotation.Standard n)) es line h a = absurd a
-  named_left (Some (denotation.Declared d)) es line h a =
-      declared_left d es line (entry_of s.tables d) h refl (left_case s (Sees s (In t) d) (AreIntegers s (In t) es) (λ k. Around s.tables t k) es (entry_of s.tables d) h a)
+  named_left : (y : Option Denotation) (es : Expressions) (line : ℕ) (h : Holds) → (es ≡ NoMore → name_denoted s y ≡ None) → LeftNamed s t None y es (AreIntegers s (In t) es) h → LeftBuilt s t (stored_named s y es line)
+  named_left None es line h other a = absurd a
+  named_left (Some (denotation.Standard n)) es line h other a = absurd a
+  named_left (Some (denotation.Declared d)) es line h other a =
+      declared_left d es line (entry_of s.tables d) h other refl (left_case s (Sees s (In t) d) (AreIntegers s (In t) es) (λ k. Around s.tables t k) es (entry_of s.tables d) h a)
 
-  connected_left : (k : ℕ) (y : Option Denotation) (es : Expressions) (e : Expression) (h : Holds) → (PlaceNamed s t (Some k) y es (AreIntegers s (In t) es) h → PlaceBuilt s t e) → LeftNamed s t (Some k) y es (AreIntegers s (In t) es) h → PlaceBuilt s t e
+  connected_left : (k : ℕ) (y : Option Denotation) (es : Expressions) (e : Expression) (h : Holds) → (PlaceNamed s (In t) (Some k) y es (AreIntegers s (In t) es) h → PlaceBuilt s t e) → LeftNamed s t (Some k) y es (AreIntegers s (In t) es) h → PlaceBuilt s t e
   connected_left k None es e h f a = absurd a
   connected_left k (Some (denotation.Standard n)) es e h f a = absurd a
   connected_left k (Some (denotation.Declared d)) es e h f a =
@@ -224,36 +207,48 @@ module _ (s : Source) (ok : Typed s) (laid : Laid s) (t : ℕ) (x : Text) (there
   behind_left (Some (denotation.Declared d)) e Object es Indices h other b a = b
 
   -- the result of a match, or else what is named
-  match_or_named : (name : Identifier) (es : Expressions) (c match : Option ℕ) (h : Holds) → connection_at s name.token.0 ≡ c → text_of_procedure s (own_match s (syntax.Named name es)) ≡ match → LeftResultOr s t c match h (LeftNamed s t c (denoted s name.token.0) es (AreIntegers s (In t) es) h)
-      → LeftBuilt s t (stored_found c (syntax.Named name es) (stored_match match (stored_named s (denoted s name.token.0) es (line_at s name.token.0))))
-  match_or_named name es None (Some block) h at is a = result_around block (match_has s ok laid (own_match s (syntax.Named name es)) block h is a.1) a.0
-  match_or_named name es None None h at is a = named_left (denoted s name.token.0) es (line_at s name.token.0) h a
-  match_or_named name es (Some c) match h at is a =
-      connected_left c (denoted s name.token.0) es (syntax.Named name es) h (λ z. place_is_built (syntax.Named name es) h (subst (λ x. PlaceNamed s t x (denoted s name.token.0) es (AreIntegers s (In t) es) h) (sym at) z)) a
+  not_named : (name : Identifier) (es : Expressions) → by_name s (syntax.Named name es) ≡ None → es ≡ NoMore → name_denoted s (denoted s name.token.0) ≡ None
+  unfolding by_name
+  not_named name es other same = sym (ap (λ z. by_name s (syntax.Named name z)) same) ∙ other
 
-  pub left_built : (e : Expression) (h : Holds) → LeftIs s t e h → LeftBuilt s t (stored_left s e)
-  left_built (syntax.Named name es) h a = match_or_named name es (connection_at s name.token.0) (text_of_procedure s (own_match s (syntax.Named name es))) h refl refl a
-  left_built (syntax.Dot i b name es) h a = behind_left (denoted s name.token.0) (syntax.Dot i b name es) (λ c. ExprIs s (In t) b (Refers c)) es (AreIntegers s (In t) es) h _ (place_is_built (syntax.Dot i b name es) h a) a
-  left_built (syntax.If i c b d) h a = absurd a
-  left_built (syntax.Binary op i b d) h a = absurd a
-  left_built (syntax.Not i b) h a = absurd a
-  left_built (syntax.Signed sign i b) h a = absurd a
-  left_built (syntax.Constant literal i) h a = absurd a
-  left_built (syntax.Parentheses i b) h a = absurd a
-  left_built (syntax.Member m i b c) h a = absurd a
-  left_built (syntax.Qua i b c) h a = absurd a
-  left_built (syntax.This i c) h a = absurd a
-  left_built (syntax.New i c es) h a = absurd a
+  match_or_named : (name : Identifier) (es : Expressions) (c match : Option ℕ) (h : Holds) → by_name s (syntax.Named name es) ≡ None → connection_at s name.token.0 ≡ c → text_of_procedure s (own_match s (syntax.Named name es)) ≡ match → LeftResultOr s t c match h (LeftNamed s t c (denoted s name.token.0) es (AreIntegers s (In t) es) h)
+      → LeftBuilt s t (stored_found c (syntax.Named name es) (stored_match match (stored_named s (denoted s name.token.0) es (line_at s name.token.0))))
+  match_or_named name es None (Some block) h other at is a = result_around block (match_has s ok laid (own_match s (syntax.Named name es)) block h is a.1) a.0
+  match_or_named name es None None h other at is a = named_left (denoted s name.token.0) es (line_at s name.token.0) h (not_named name es other) a
+  match_or_named name es (Some c) match h other at is a =
+      connected_left c (denoted s name.token.0) es (syntax.Named name es) h (λ z. place_is_built (syntax.Named name es) h (subst (λ x. PlaceNamed s (In t) x (denoted s name.token.0) es (AreIntegers s (In t) es) h) (sym at) z)) a
+
+  pub left_built : (e : Expression) (h : Holds) → by_name s e ≡ None → LeftIs s t e h → LeftBuilt s t (stored_left s e)
+  left_built (syntax.Named name es) h other a = match_or_named name es (connection_at s name.token.0) (text_of_procedure s (own_match s (syntax.Named name es))) h other refl refl a
+  left_built (syntax.Dot i b name es) h other a =
+      behind_left (denoted s name.token.0) (syntax.Dot i b name es) (λ c. ExprIs s (In t) b (Refers c)) es (AreIntegers s (In t) es) h _ (place_is_built (syntax.Dot i b name es) h (behind_place (denoted s name.token.0) (λ c. ExprIs s (In t) b (Refers c)) es h a)) a
+  left_built (syntax.If i c b d) h other a = absurd a
+  left_built (syntax.Binary op i b d) h other a = absurd a
+  left_built (syntax.Not i b) h other a = absurd a
+  left_built (syntax.Signed sign i b) h other a = absurd a
+  left_built (syntax.Constant literal i) h other a = absurd a
+  left_built (syntax.Parentheses i b) h other a = absurd a
+  left_built (syntax.Member m i b c) h other a = absurd a
+  left_built (syntax.Qua i b c) h other a = absurd a
+  left_built (syntax.This i c) h other a = absurd a
+  left_built (syntax.New i c es) h other a = absurd a
 
   text_left : (own : Option ℕ) (e : Expression) (line : ℕ) → result_meant s e ≡ own → TextLeft s t e own → LeftBuilt s t (stored_text own e line)
   text_left None e line o a = built e (Simply kind.Text) a
   text_left (Some block) e line o a = result_around block (meant_has s ok laid e block (Simply kind.Text) o a.1) a.0
 
+  plain_built : (is_text : Bool) (sign : Assignment) (line : ℕ) (e : Expression) (k : Kind) → by_name s e ≡ None → LeftOf is_text sign s t e k → LeftBuilt s t (stored_by_sign is_text sign s line e)
+  plain_built true assignment.Value line e k other a = text_left (result_meant s e) e line refl a.1
+  plain_built true assignment.Reference line e k other a = left_built e (Simply k) other a.1
+  plain_built false assignment.Value line e k other a = left_built e (Simply k) other a.1
+  plain_built false assignment.Reference line e k other a = reference_left e a.1
+
   pub side_built : (is_text : Bool) (sign : Assignment) (line : ℕ) (e : Expression) (k : Kind) → LeftOf is_text sign s t e k → LeftBuilt s t (stored_of is_text sign s line e)
-  side_built true assignment.Value line e k a = text_left (result_meant s e) e line refl a.1
-  side_built true assignment.Reference line e k a = left_built e (Simply k) a
-  side_built false assignment.Value line e k a = left_built e (Simply k) a
-  side_built false assignment.Reference line e k a = reference_left e a.1
+  side_built is_text sign line e k a = by_formal (by_name s e) refl
+    where
+      by_formal : (o : Option DeclNo) → by_name s e ≡ o → LeftBuilt s t (stored_or_named o is_text sign s line e)
+      by_formal None other = plain_built is_text sign line e k other a
+      by_formal (Some d) is = named_built s ok laid t x there is_text sign line e k d is a
 
   -- ---- the variable of a `for` list
 
@@ -305,14 +300,14 @@ module _ (s : Source) (ok : Typed s) (laid : Laid s) (t : ℕ) (x : Text) (there
   with_steps None First Second f c = absurd c
   with_steps (Some v) First Second f c = (c.0, λ z. c.1 (f z))
 
-  left_controls : (name : Identifier) (assigned : Option ℕ) (h : Holds) → LeftIs s t (syntax.Named name NoMore) h → Controls (variable_stored (stored_left s (syntax.Named name NoMore)) assigned) (assigned ≡ None)
-  left_controls name assigned h a =
-      stored_controls (stored_left s (syntax.Named name NoMore)) assigned (found_alone (connection_at s name.token.0) (text_of_procedure s (own_match s (syntax.Named name NoMore))) (syntax.Named name NoMore) (denoted s name.token.0) (line_at s name.token.0) (left_built (syntax.Named name NoMore) h a))
+  left_controls : (name : Identifier) (assigned : Option ℕ) (h : Holds) → by_name s (syntax.Named name NoMore) ≡ None → LeftIs s t (syntax.Named name NoMore) h → Controls (variable_stored (stored_left s (syntax.Named name NoMore)) assigned) (assigned ≡ None)
+  left_controls name assigned h other a =
+      stored_controls (stored_left s (syntax.Named name NoMore)) assigned (found_alone (connection_at s name.token.0) (text_of_procedure s (own_match s (syntax.Named name NoMore))) (syntax.Named name NoMore) (denoted s name.token.0) (line_at s name.token.0) (left_built (syntax.Named name NoMore) h other a))
 
   -- a step element is over integers alone
   pub controls : (is_text : Bool) (sign : Assignment) (line : ℕ) (name : Identifier) (k : Kind) → ControlIs is_text sign s t (syntax.Named name NoMore) k
       → Controls (variable_of s line (syntax.Named name NoMore) (assigned_by is_text sign line)) (k ≡ kind.Integer)
-  controls true assignment.Value line name k a = with_steps (variable_stored (stored_left s (syntax.Named name NoMore)) (Some line)) (Some line ≡ None) (k ≡ kind.Integer) (λ e. let t = a.0 in absurd (cc)) (left_controls name (Some line) (Simply k) a.1)
-  controls true assignment.Reference line name k a = with_steps (variable_stored (stored_left s (syntax.Named name NoMore)) None) (None ≡ None) (k ≡ kind.Integer) (λ e. refl) (left_controls name None (Simply k) a)
-  controls false assignment.Value line name k a = with_steps (variable_stored (stored_left s (syntax.Named name NoMore)) None) (None ≡ None) (k ≡ kind.Integer) (λ e. refl) (left_controls name None (Simply k) a)
-  controls false assignment.Reference line name k a = (reference_left (syntax.Named name NoMore) a.1, λ e. let r = a.0 in absurd (cc))
+  controls true assignment.Value line name k a = with_steps (variable_stored (stored_left s (syntax.Named name NoMore)) (Some line)) (Some line ≡ None) (k ≡ kind.Integer) (λ e. let text_kind = (a.1).0 in absurd (cc)) (left_controls name (Some line) (Simply k) a.0 (a.1).1)
+  controls true assignment.Reference line name k a = with_steps (variable_stored (stored_left s (syntax.Named name NoMore)) None) (None ≡ None) (k ≡ kind.Integer) (λ e. refl) (left_controls name None (Simply k) a.0 a.1)
+  controls false assignment.Value line name k a = with_steps (variable_stored (stored_left s (syntax.Named name NoMore)) None) (None ≡ None) (k ≡ kind.Integer) (λ e. refl) (left_controls name None (Simply k) a.0 a.1)
+  controls false assignment.Reference line name k a = (reference_left (syntax.Named name NoMore) (a.1).1, λ e. let r = (a.1).0 in absurd (cc))

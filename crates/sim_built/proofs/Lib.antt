@@ -7,6 +7,7 @@ pub mod Held
 pub mod LeftSides
 pub mod Lists
 pub mod Lying
+pub mod NamedSides
 pub mod Names
 pub mod Programs
 pub mod SetNames

@@ -1,5 +1,5 @@
 -- What stands alone, and what has subscripts.
-use Rattle.std.proofs.Common.{◌≡◌, ℕ, true, false, List, Option, Some, None, refl}
+use Rattle.std.proofs.Common.{◌≡◌, ℕ, true, List, Option, Some, None, refl}
 use Rattle.sim_scope.specs.declared.types.Entry.{Entry}
 use Rattle.sim_scope.specs.declared.types.Entry.TheVariants as entry
 use Rattle.sim_scope.specs.declared.types.Formal.{Formal}
@@ -11,9 +11,9 @@ use Rattle.sim_tree.specs.Syntax.{Expressions, NoMore, Then}
 use Rattle.sim_values.specs.declared.kind.Kind.{Kind}
 use Rattle.sim_meaning.specs.Closing.{is_variable_entry}
 use Rattle.sim_meaning.specs.Levels.{qualification}
-use Rattle.sim_sound.specs.Held.{ArrayOf, Holds, Refers, Simply, entry_holds, held_by, reference_to}
-use Rattle.sim_sound.specs.Expressions.{DeclaredGives, HeldNames}
-use Rattle.sim_sound.specs.Statements.{LeftDeclared, LeftHeld, PlaceDeclared}
+use Rattle.sim_sound.specs.Held.{ArrayOf, ByName, Holds, Refers, Simply, entry_names, held_by, reference_to}
+use Rattle.sim_sound.specs.Expressions.{DeclaredGives, HeldNames, LeftHeld, PlaceDeclared}
+use Rattle.sim_sound.specs.Statements.{LeftDeclared}
 
 abbrev pub Alone : (Known : Type 0) → Expressions → Type 0
 Alone Known NoMore = Known
@@ -49,9 +49,11 @@ module _ (s : Source) (Known Indices : Type 0) where
   left_alone NoMore (Simply k) h p a = a.1
   left_alone NoMore (Refers c) h p a = a.1
   left_alone NoMore (ArrayOf k) h p a = absurd p
+  left_alone NoMore (ByName k) h p a = absurd a
   left_alone (Then e es) (Simply k) h p a = absurd a
   left_alone (Then e es) (Refers c) h p a = absurd a
   left_alone (Then e es) (ArrayOf k) h p a = absurd p
+  left_alone (Then e es) (ByName k) h p a = absurd a
 
   pub left_indexed : (es : Expressions) (x h : Holds) → LeftHeld Known es Indices (Some (ArrayOf x)) h → Indexed Known es Indices
   left_indexed NoMore x h a = absurd a
@@ -67,13 +69,17 @@ module _ (s : Source) (Known Indices : Type 0) where
   names_alone (Then e es) (Simply k) h p a = absurd a
   names_alone (Then e es) (Refers c) h p a = absurd a
   names_alone NoMore (ArrayOf k) h p a = absurd p
+  names_alone NoMore (ByName k) h p a = absurd a
   names_alone (Then e es) (ArrayOf k) h p a = absurd p
+  names_alone (Then e es) (ByName k) h p a = absurd a
 
   -- what is a variable or an element lies somewhere
   names_left : (es : Expressions) (o : Option Holds) (x : Kind) → HeldNames s Known es Indices o (Simply x) → (h : Holds) × LeftHeld Known es Indices o h
   names_left es None x a = absurd a
   names_left NoMore (Some (Simply k)) x a = (Simply k, (refl, a.1))
   names_left NoMore (Some (Refers c)) x a = (Refers c, (refl, a.1))
+  names_left NoMore (Some (ByName k)) x a = absurd a
+  names_left (Then e es) (Some (ByName k)) x a = absurd a
   names_left NoMore (Some (ArrayOf k)) x a = let e = a.0 in absurd (cc)
   names_left (Then e es) (Some (Simply k)) x a = absurd a
   names_left (Then e es) (Some (Refers c)) x a = absurd a
@@ -81,9 +87,9 @@ module _ (s : Source) (Known Indices : Type 0) where
 
   pub gives_place : (d : DeclNo) (es : Expressions) (Actuals : List Formal → Type 0) (y : Option Entry) (x : Kind) → is_variable_entry y es ≡ true → DeclaredGives s Known d es Indices Actuals y (Some (Simply x)) → (h : Holds) × PlaceDeclared s Known es Indices y h
   gives_place d es Actuals None x b a = absurd a
-  gives_place d es Actuals (Some (entry.Variable ty)) x b a = names_left es (entry_holds s false (Some (entry.Variable ty))) x a
-  gives_place d es Actuals (Some (entry.Array ty n)) x b a = names_left es (entry_holds s false (Some (entry.Array ty n))) x a
-  gives_place d es Actuals (Some (entry.Formal f)) x b a = names_left es (entry_holds s false (Some (entry.Formal f))) x a
+  gives_place d es Actuals (Some (entry.Variable ty)) x b a = names_left es (entry_names s (Some (entry.Variable ty))) x a
+  gives_place d es Actuals (Some (entry.Array ty n)) x b a = names_left es (entry_names s (Some (entry.Array ty n))) x a
+  gives_place d es Actuals (Some (entry.Formal f)) x b a = names_left es (entry_names s (Some (entry.Formal f))) x a
   gives_place d es Actuals (Some (entry.Constant ty)) x b a = absurd (cc)
   gives_place d es Actuals (Some (entry.Procedure r k)) x b a = absurd (cc)
   gives_place d es Actuals (Some (entry.Class k)) x b a = absurd (cc)

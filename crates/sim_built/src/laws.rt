@@ -25,7 +25,8 @@ pub fn tables_lie()
 
 /// A program that breaks no rule and has only forms that are built is built, and never comes to where its meaning has no rule, whatever the
 /// limits and the input are. At each moment of its run the instance that operates lives with its enclosers, and stands at no other place of
-/// the chains; and each reference in hand names an object, or the main program of a simulation, which is there.
+/// the chains but as the home of parameters by name that are evaluated; and each reference in hand, and each that lies where an address in hand
+/// leads, names an object, or the main program of a simulation, which is there.
 pub fn allowed_programs_run()
     ensures built { (tokens : List Token) (tree : Tree) (s : Source) → IsAllowed tokens tree s → ProgramBuilt s }
     ensures ruled { (tokens : List Token) (tree : Tree) (s : Source) → IsAllowed tokens tree s → HasRules s }

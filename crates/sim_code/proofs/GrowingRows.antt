@@ -22,6 +22,7 @@ use Rattle.sim_chains.specs.Components.{AttachedObject, Components, DetachedObje
 use Rattle.sim_code.specs.declared.code.BlockKind.{BlockKind}
 use Rattle.sim_code.specs.declared.code.BlockKind.TheVariants as block
 use Rattle.sim_code.specs.declared.code.CodeActual.{CodeActual}
+use Rattle.sim_code.specs.declared.code.ThunkRecord.{ThunkRecord}
 use Rattle.sim_code.specs.declared.instr.Instr.{Instr}
 use Rattle.sim_code.specs.declared.instr.Instr.TheVariants as i
 use Rattle.sim_code.specs.declared.instr.Lined.{Lined}
@@ -35,10 +36,11 @@ use Rattle.sim_code.specs.Sets.{enrolled, is_set_name}
 use Rattle.sim_code.specs.Simulations.{begun_in, is_process_name, is_simulation_name, joined, joined_at, located, with_simulation}
 use Rattle.sim_code.specs.Scheduling.{Timing, component_of, deciding, going_to}
 use Rattle.sim_code.specs.Transfers.{Calling, Detaching, Resuming, Transfer, component_in, transferred, transferring}
-use Rattle.sim_code.specs.Machine.{Activation, Address, ArrayValue, Cells, Frames, Link, Machine, Of, ProcedureValue, ThunkValue, Value, arrays_among, arrays_by_value, variable_in, words_of_block, array_in, block_at, cell, cell_at, cell_set, frame_in, index, jumping, leaving, level, link_in, number, operand, own_block, owner, place_in, plain, procedure_in, pushing, pushing_any, same_kind, value_at, waiting, with_result}
+use Rattle.sim_code.specs.Machine.{Activation, Address, ArrayValue, Cells, Frames, Link, Machine, Of, ProcedureValue, ThunkValue, Value, array_in, arrays_among, arrays_by_value, block_at, cell, cell_at, cell_set, frame_in, index, jumping, leaving, level, link_in, number, operand, own_block, owner, place_in, plain, procedure_in, pushing, pushing_any, same_kind, thunk_in, value_at, variable_in, waiting, with_result, words_of_block}
 use Rattle.sim_code.specs.Classes.{admitting, class_named, in_process, is_in, is_of, may_stand, qualifying}
 use Rattle.sim_code.specs.Levels.{after_declarations, at_inner, at_stage, class_at_level, declarations_done, ended_by_kind, ending_process, entering_prefixed, generating, inner_reached, is_process_class, is_simulation_class, leading, level_ended, levelled, linkage_of_class, objects_of, outermost_ended, own_levels, words_of_object}
-use Rattle.sim_code.specs.Rows.{activation_of, checking, class_at, code_of, comparison_of, decided, element_kind, entering_frame, entering_procedure, entering_value, first_stage, mstep, mrun, no_class, on_chain, one_row, opening, program_begun, pushed, put_back, putting, qualified, row, standard_of, standard_row, storing, truth_of, two_row, without_class}
+use Rattle.sim_code.specs.Rows.{activation_of, checking, class_at, code_of, comparison_of, decided, element_kind, entering_frame, entering_procedure, entering_value, first_stage, mrun, mstep, no_class, on_chain, one_row, opening, program_begun, pushed, put_back, putting, qualified, row, standard_of, standard_row, storing, thunk_ended, thunk_given, truth_of, two_row, without_class}
+use Rattle.sim_code.specs.Thunks.{in_thunk, instruction_before, is_place, locating, using_name, value_given}
 use Rattle.sim_code.specs.Virtuals.{counting, matching, with_match}
 use Rattle.sim_code.specs.Growing.{Grown, OutputGrows, written}
 use Rattle.sim_code.proofs.Growing.{Grows, after_grows, after_more, grown_same, grows_assigning, grows_choosing, grows_computing, grows_copying, grows_entering, grows_finding, grows_having, grows_if, grows_integers, grows_keeping, grows_making, grows_many, grows_no_rule, grows_object, grows_one, grows_performing, grows_plain, grows_popping, grows_reference, grows_set, grows_step, grows_stopping, grows_ticking, grows_truth, grows_two, grows_when}
@@ -362,6 +364,98 @@ standard_grows code l o m a below line name =
     (grows_simulation Machine Value plain link_in (in_process code m) (ending_process code m a) name a.stack o _ _ (λ value stack. going o _) (decided_grows o m a below line))
     (grows_when Machine _ o _ (grows_performing Machine Value Frames operand put_back back_grows l line name a.stack o m _ (λ p m value stack. going p _)))))
 
+-- ---- parameters by name
+
+locating_grows : (line : ℕ) (place value_too : Bool) (o : World) (r : Run Machine) → Here o r → Here o (locating line place value_too o r)
+unfolding locating
+locating_grows line true value_too o r h = h
+locating_grows line false true o r h = h
+locating_grows line false false o r h = grows_stopping Machine _ o
+
+thunk_begins : (code : CodeOf) (o : World) (m : Frames) (t home : ℕ) (below : List Activation) → Here o (in_thunk code o m t home below)
+unfolding in_thunk
+thunk_begins code o m t home below =
+    grows_when Machine (is_live m home) o _ (grows_having Machine ThunkRecord (slice_get code.thunks t) o _ (λ x _. grows_having Machine Lined (slice_get code.instrs x.entry) o _ (λ y _. going o _)))
+
+using_grows : (code : CodeOf) (l : Limits) (o : World) (m : Frames) (a : Activation) (below : List Activation) (j c : ℕ) → Here o (using_name code l o m a below j c)
+using_grows code l o m a below j c = grows_having Machine Value (cell m j c) o _ (λ v _. grows_having Machine (ℕ × ℕ) (thunk_in v) o _ (λ t _. grows_ticking Machine l o _ (λ p. thunk_begins code p m t.0 t.1 _)))
+
+given_grows : (code : CodeOf) (o : World) (m : Frames) (b : Activation) (rest : List Activation) (v : Value) (line : ℕ) (x : Instr) → Here o (thunk_given code o m b rest v line x)
+given_grows code o m b rest v line i.Halt = none o
+given_grows code o m b rest v line (i.Int z) = none o
+given_grows code o m b rest v line (i.Bool z) = none o
+given_grows code o m b rest v line (i.Char z) = none o
+given_grows code o m b rest v line (i.TextK z) = none o
+given_grows code o m b rest v line i.None = none o
+given_grows code o m b rest v line i.NoText = none o
+given_grows code o m b rest v line (i.Link z) = none o
+given_grows code o m b rest v line (i.This z) = none o
+given_grows code o m b rest v line (i.Addr z c class) = none o
+given_grows code o m b rest v line (i.AddrR c class) = none o
+given_grows code o m b rest v line (i.AddrImg z) = none o
+given_grows code o m b rest v line (i.Elem n class) = none o
+given_grows code o m b rest v line i.Fetch = none o
+given_grows code o m b rest v line i.Put = none o
+given_grows code o m b rest v line (i.Load z c) = none o
+given_grows code o m b rest v line (i.Store z c) = none o
+given_grows code o m b rest v line i.Dup = none o
+given_grows code o m b rest v line i.Pop = none o
+given_grows code o m b rest v line i.Swap = none o
+given_grows code o m b rest v line i.Neg = none o
+given_grows code o m b rest v line i.Add = none o
+given_grows code o m b rest v line i.Sub = none o
+given_grows code o m b rest v line i.Mul = none o
+given_grows code o m b rest v line i.Div = none o
+given_grows code o m b rest v line i.Pow = none o
+given_grows code o m b rest v line (i.Rel z) = none o
+given_grows code o m b rest v line (i.RelT z) = none o
+given_grows code o m b rest v line i.Same = none o
+given_grows code o m b rest v line i.SameT = none o
+given_grows code o m b rest v line i.Not = none o
+given_grows code o m b rest v line i.And = none o
+given_grows code o m b rest v line i.Or = none o
+given_grows code o m b rest v line i.Imp = none o
+given_grows code o m b rest v line i.Eqv = none o
+given_grows code o m b rest v line (i.Is z) = none o
+given_grows code o m b rest v line (i.In z) = none o
+given_grows code o m b rest v line (i.Qua z) = none o
+given_grows code o m b rest v line (i.Jump q) = none o
+given_grows code o m b rest v line (i.JumpF q) = none o
+given_grows code o m b rest v line i.Tick = none o
+given_grows code o m b rest v line i.StepTest = none o
+given_grows code o m b rest v line (i.Enter z) = none o
+given_grows code o m b rest v line i.Leave = none o
+given_grows code o m b rest v line (i.Call k n) = none o
+given_grows code o m b rest v line i.Return = none o
+given_grows code o m b rest v line (i.ProcVal z) = none o
+given_grows code o m b rest v line (i.Virt z) = none o
+given_grows code o m b rest v line (i.Check z) = none o
+given_grows code o m b rest v line (i.Param f t p) = none o
+given_grows code o m b rest v line (i.CallV n) = none o
+given_grows code o m b rest v line (i.Thunk t) = none o
+given_grows code o m b rest v line (i.NameVal z c class) = qualified_grows code class o _ (λ q. grows_having Machine Value (value_given o m v) o _ (λ v _. admitting_grows code m line q v o _ (pushed_grows b.room b.stack v o _ (λ stack. going o _))))
+given_grows code o m b rest v line (i.NameAddr z c value) = grows_having Machine Bool (truth_of value) o _ (λ value_too _. locating_grows line (is_place v) value_too o _ (pushed_grows b.room b.stack v o _ (λ stack. going o _)))
+given_grows code o m b rest v line i.EndThunk = none o
+given_grows code o m b rest v line (i.New class n) = none o
+given_grows code o m b rest v line (i.Pref k n) = none o
+given_grows code o m b rest v line (i.NextDecl z) = none o
+given_grows code o m b rest v line (i.Inner z) = none o
+given_grows code o m b rest v line (i.EndLevel z) = none o
+given_grows code o m b rest v line (i.Array z n) = none o
+given_grows code o m b rest v line i.CopyArr = none o
+given_grows code o m b rest v line i.Keep = none o
+given_grows code o m b rest v line i.AssignT = none o
+given_grows code o m b rest v line (i.Std z) = none o
+given_grows code o m b rest v line (i.Act z) = none o
+given_grows code o m b rest v line i.Detach = none o
+given_grows code o m b rest v line i.Attach = none o
+given_grows code o m b rest v line i.Resume = none o
+given_grows code o m b rest v line i.NotNone = none o
+
+thunk_ends : (code : CodeOf) (o : World) (m : Frames) (v : Value) (below : List Activation) → Here o (thunk_ended code o m v below)
+thunk_ends code o m v [] = none o
+thunk_ends code o m v (b ∷ rest) = grows_having Machine Lined (instruction_before code b.pc) o _ (λ x _. given_grows code o m b rest v x.line.0 x.instr)
+
 row_grows : (code : CodeOf) (l : Limits) (o : World) (m : Frames) (a : Activation) (below : List Activation) (line : ℕ) (x : Instr) → Here o (row code l o m a below line x)
 row_grows code l o m a below line i.Halt = grows_stopping Machine _ o
 row_grows code l o m a below line (i.Int z) = push_grows o m a below _
@@ -414,10 +508,10 @@ row_grows code l o m a below line (i.Virt z) = index_grows z o _ (λ v. grows_ob
 row_grows code l o m a below line (i.Check z) = checking_grows code o m a below line z
 row_grows code l o m a below line (i.Param f t p) = none o
 row_grows code l o m a below line (i.CallV n) = value_grows code l o m a below line n
-row_grows code l o m a below line (i.Thunk t) = none o
-row_grows code l o m a below line (i.NameVal z c class) = none o
-row_grows code l o m a below line (i.NameAddr z c value) = none o
-row_grows code l o m a below line i.EndThunk = none o
+row_grows code l o m a below line (i.Thunk z) = index_grows z o _ (λ t. grows_having Machine ThunkRecord (slice_get code.thunks t) o _ (λ _ _. push_grows o m a below _))
+row_grows code l o m a below line (i.NameVal z c class) = cell_grows m a z c o _ (λ j c. using_grows code l o m a below j c)
+row_grows code l o m a below line (i.NameAddr z c value) = cell_grows m a z c o _ (λ j c. using_grows code l o m a below j c)
+row_grows code l o m a below line i.EndThunk = grows_having Machine ℕ a.thunk o _ (λ t _. grows_popping Machine Value plain a.stack o _ (λ v stack. thunk_ends code o m v below))
 row_grows code l o m a below line (i.New class n) = new_grows code l o m a below line class n
 row_grows code l o m a below line (i.Pref k n) = prefixed_grows code l o m a below line k n
 row_grows code l o m a below line (i.NextDecl z) = index_grows z o _ (λ n. declared_grows code o m a below n)

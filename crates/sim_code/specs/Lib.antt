@@ -12,6 +12,7 @@ pub mod Machine
 pub mod Classes
 pub mod Levels
 pub mod Virtuals
+pub mod Thunks
 pub mod Names
 pub mod Rows
 pub mod Running

@@ -1,5 +1,5 @@
 -- What a command makes of a source, step by step, and that it is one thing at most.
-use Rattle.std.proofs.Common.{◌≡◌, ℕ, Bool, true, false, ◌||◌, List, refl, length, Option, Result, OnOk, Ok, Err, subst, sym, ap, ◌∙◌}
+use Rattle.std.proofs.Common.{◌≡◌, ℕ, Bool, true, false, ◌&&◌, ◌||◌, List, refl, length, Option, Result, OnOk, Ok, Err, subst, sym, ap, ◌∙◌}
 use Rattle.sim_base.specs.Place.{line_at}
 use Rattle.sim_base.specs.declared.numbering.Line.{Line}
 use Rattle.sim_base.specs.declared.numbering.TokenNo.{TokenNo}
@@ -28,11 +28,11 @@ use Rattle.sim_static.specs.UnbuiltNames.{has_unbuilt_name}
 use Rattle.sim_allowed.specs.MatchParameters.{has_match_with_parameters}
 use Rattle.sim_built.specs.Allowed.{IsAllowed}
 use Rattle.sim_run.specs.RunEnds.{IsRunnable}
-use Rattle.sim_driver.specs.Compiling.{AllowedCompiles, AllowedCompilesIf, Answers, Bad, BindsAs, BoundCompiles, CheckBinds, CheckRejects, ChecksAs, CheckedCompiles, Compiled, Deep, IsBad, IsDeep, IsParsed, LexedCompiles, Parsed, ParsedCompiles, Printed, Rejected, Same, SourceBinds, SourceCompiles, SourcePrints, SourceRejects, TokensCompile, TokensReject, TreeBinds, TreeCompiles, TreeCompilesIf, TreeRejects, Whole, WholeCompiles, lacks_form, lacks_match, source_with, token_line}
+use Rattle.sim_driver.specs.Compiling.{AllowedCompiles, AllowedCompilesIf, Answers, Bad, BindsAs, BoundCompiles, CheckBinds, CheckRejects, ChecksAs, CheckedCompiles, Compiled, Deep, IsBad, IsDeep, IsParsed, LexedCompiles, Parsed, ParsedCompiles, Printed, Rejected, Same, SourceBinds, SourceCompiles, SourcePrints, SourceRejects, TokensCompile, TokensReject, TreeBinds, TreeCompiles, TreeCompilesIf, TreeRejects, Whole, WholeCompiles, lacks_form, lacks_match, needs_code, source_with, token_line}
 use Rattle.sim_driver.specs.declared.compiling.Refusal.{Refusal}
 use Rattle.sim_driver.specs.declared.compiling.Refusal.TheVariants as refusal
 use Rattle.command_line.specs.declared.words.Command.{Command}
-use Rattle.command_line.specs.declared.words.Command.TheVariants.{Check, Print, Run}
+use Rattle.command_line.specs.declared.words.Command.TheVariants.{Check, Compile, Listing, Print, Run}
 
 -- what holds, holds of an Ok
 pub holds_on_ok : {T E P : Type 0} (r : Result T E) → P → OnOk r P
@@ -100,6 +100,8 @@ move_tree one command tokens p q x y c is =
 move_whole : OneSyntax → (command : Command) (tokens : List Token) (p q : Tree) → IsTree tokens p → IsTree tokens q → (c : Compiled) → WholeCompiles command tokens p c → WholeCompiles command tokens q c
 move_whole one Run tokens p q x y c is = move_tree one Run tokens p q x y c is
 move_whole one Check tokens p q x y c is = move_tree one Check tokens p q x y c is
+move_whole one Compile tokens p q x y c is = move_tree one Compile tokens p q x y c is
+move_whole one Listing tokens p q x y c is = move_tree one Listing tokens p q x y c is
 move_whole one Print tokens p q x y c is = is ∙ ap (λ s. Printed (canonical_text s)) (one tokens p q x y)
 
 -- The steps.
@@ -116,10 +118,12 @@ tree_tokens one command tokens tree c is = record {
   back = λ gives. record { parsed = Whole tree; parses = is; gives = gives };
 }
 
--- `run` and `check` ask the static rules of it
+-- all commands but `print` ask the static rules of it
 whole_tree : (command : Command) (tokens : List Token) (tree : Tree) (c : Compiled) → (command ≡ Print → ⊥) → Same (WholeCompiles command tokens tree c) (TreeCompiles command tokens tree c)
 whole_tree Run tokens tree c asks = itself (TreeCompiles Run tokens tree c)
 whole_tree Check tokens tree c asks = itself (TreeCompiles Check tokens tree c)
+whole_tree Compile tokens tree c asks = itself (TreeCompiles Compile tokens tree c)
+whole_tree Listing tokens tree c asks = itself (TreeCompiles Listing tokens tree c)
 whole_tree Print tokens tree c asks = absurd (asks refl)
 
 -- tokens that the parser refuses
@@ -241,24 +245,25 @@ neither false false is = (refl, refl)
 neither false true is = cc is
 neither true b is = cc is
 
-has_none : (command : Command) (tokens : List Token) (p : Program) → lacks_form command tokens p ≡ false → command ≡ Run → (has_unbuilt_name tokens ≡ false) × (has_unbuilt_form p ≡ false)
-has_none Run tokens p none is = neither (has_unbuilt_name tokens) (has_unbuilt_form p) none
-has_none Check tokens p none is = cc is
-has_none Print tokens p none is = cc is
+-- the second of two is not so, where the first is
+not_second : (a b : Bool) → (a && b) ≡ false → a ≡ true → b ≡ false
+not_second true b none is = none
+not_second false b none is = cc is
 
-lacks_none : (command : Command) (s : Source) → lacks_match command s ≡ false → command ≡ Run → has_match_with_parameters s ≡ false
-lacks_none Run s none is = none
-lacks_none Check s none is = cc is
-lacks_none Print s none is = cc is
+has_none : (command : Command) (tokens : List Token) (p : Program) → lacks_form command tokens p ≡ false → needs_code command ≡ true → (has_unbuilt_name tokens ≡ false) × (has_unbuilt_form p ≡ false)
+has_none command tokens p none needs = neither (has_unbuilt_name tokens) (has_unbuilt_form p) (not_second (needs_code command) (has_unbuilt_name tokens || has_unbuilt_form p) none needs)
+
+lacks_none : (command : Command) (s : Source) → lacks_match command s ≡ false → needs_code command ≡ true → has_match_with_parameters s ≡ false
+lacks_none command s none needs = not_second (needs_code command) (has_match_with_parameters s) none needs
 
 -- what breaks no rule and has only forms that are built can be run, where no match has parameters
 pub binds_as : (command : Command) (tokens : List Token) (tree : Tree) (s : Source) (lacks : Bool) → lacks ≡ lacks_form command tokens (program_syntax tree) → lacks ≡ false → (unmatched : Bool) → unmatched ≡ lacks_match command s → unmatched ≡ false → (IsAllowed tokens tree s → IsRunnable s)
     → ChecksAs tokens tree s → BindsAs command tokens tree s
 binds_as command tokens tree s lacks is none unmatched same nowhere runs (binds, checked) = (
   allowed_tree command tokens tree s (lacking_none command tokens tree lacks is none) binds false (sym same ∙ nowhere),
-  λ reads run.
-      let free = has_none command tokens (program_syntax tree) (sym is ∙ none) run in
-      runs (record { reads = reads; names = free.0; forms = free.1; checked = checked; alone = lacks_none command s (sym same ∙ nowhere) run }),
+  λ reads needs.
+      let free = has_none command tokens (program_syntax tree) (sym is ∙ none) needs in
+      runs (record { reads = reads; names = free.0; forms = free.1; checked = checked; alone = lacks_none command s (sym same ∙ nowhere) needs }),
 )
 
 pub rejected_tree : (command : Command) (tokens : List Token) (tree : Tree) (r : Rule) (line : Line) → ((c : Compiled) → Same (TreeCompiles command tokens tree c) (CheckedCompiles command tokens tree (check_of tree) c)) → CheckRejects tokens tree r line

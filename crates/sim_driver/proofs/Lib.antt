@@ -5,4 +5,5 @@ pub mod Meant
 pub mod Prefixes
 pub mod Requests
 pub mod SourceReads
+pub mod Typed
 pub mod Whole

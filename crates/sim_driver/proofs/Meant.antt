@@ -1,33 +1,34 @@
 -- What a program means, from how it was run.
-use Rattle.std.proofs.Common.{◌≡◌, ◌⊎◌, inl, inr, ℕ, List, [], Option, OnOk, Result, Ok, Err, refl, sym, ap, ◌∙◌, subst}
+use Rattle.std.proofs.Common.{◌≡◌, ◌⊎◌, inl, inr, ℕ, false, List, [], Option, OnOk, Result, Ok, Err, refl, sym, ap, ◌∙◌, subst}
 use Rattle.std.proofs.KnownBytes.{Appends-nil}
 use Rattle.std.specs.Io.KnownBytes.{Appends}
 use Rattle.sim_base.specs.declared.limits.Limits.{Limits}
 use Rattle.sim_base.specs.declared.numbering.Line.{Line}
 use Rattle.sim_base.specs.declared.rule.Rule.{Rule}
 use Rattle.sim_ports.specs.Bytes.{AddsPrefix}
+use Rattle.sim_driver.specs.Output.{Begins, Exactly, SomeCodeFile, SomeListing, Writes}
 use Rattle.sim_run.specs.declared.running.RunFailure.{RunFailure as NotRun}
 use Rattle.sim_run.specs.declared.running.RunEnd.{RunEnd}
-use Rattle.sim_run.specs.RunEnds.{BeforeARead, Begins, Broken, Ran, TakesNothing}
+use Rattle.sim_run.specs.RunEnds.{BeforeARead, Begins as BeginsRun, Broken, Ran, TakesNothing}
 use Rattle.sim_run.proofs.OneEnd.{one_end}
 use Rattle.sim_scope.specs.Source.{Source}
-use Rattle.sim_driver.specs.Compiling.{BoundCompiles, Compiled, Printed, Rejected, Runnable, Sound, SourceBinds, SourceCompiles, SourcePrints, SourceRejects}
+use Rattle.sim_driver.specs.Compiling.{BoundCompiles, Coded, Compiled, Listed, Printed, Rejected, Runnable, Sound, SourceBinds, SourceCompiles, SourcePrints, SourceRejects, needs_code}
 use Rattle.sim_driver.specs.OutputAfter.{InputAfter}
 use Rattle.sim_driver.specs.declared.failure.RunFailure.{RunFailure}
 use Rattle.sim_driver.specs.declared.failure.RunFailure.TheVariants.{Input, Memory, Output}
-use Rattle.sim_driver.specs.SourceMeaning.{BoundMeans, IsCutOff, Meaning, Means, RunMeans, SourceMeans, ending_of}
+use Rattle.sim_driver.specs.SourceMeaning.{BoundMeans, Does, IsCutOff, Meaning, Means, RunMeans, SourceMeans, ending_of}
 use Rattle.sim_driver.specs.declared.status.Ending.{Ending}
 use Rattle.sim_driver.specs.declared.status.Ending.TheVariants.{Normal, Refused}
 use Rattle.command_line.specs.declared.words.Command.{Command}
-use Rattle.command_line.specs.declared.words.Command.TheVariants.{Check, Print, Run}
+use Rattle.command_line.specs.declared.words.Command.TheVariants.{Check, Compile, Listing, Print, Run}
 
 -- ---- a run
 
 -- what was run to its end has a meaning
 pub ran_means : (l : Limits) (s : Source) (input : List ℕ) (end : RunEnd) (old new : Option (List ℕ)) → Ran s l input end old new → (meaning : Meaning) × BoundMeans Run l s input meaning
 ran_means l s input end old new ran = (
-  record { ending = ending_of l end; output = ran.output },
-  record { compiled = Runnable s; compiles = refl; means = record { end = end; ends = ran.ends; same = refl } },
+  record { ending = ending_of l end; output = Exactly ran.output },
+  record { compiled = Runnable s; compiles = refl; means = record { end = end; output = ran.output; ends = ran.ends; same = refl } },
 )
 
 run_of : (l : Limits) (s : Source) (input : List ℕ) (meaning : Meaning) → BoundMeans Run l s input meaning → RunMeans l s input meaning
@@ -35,17 +36,18 @@ run_of l s input meaning is = subst (λ (c : Compiled). Means l input c meaning)
 
 -- it ended and wrote as every meaning says
 pub ran_does : (l : Limits) (s : Source) (input : List ℕ) (end : RunEnd) (ending : Ending) (old new : Option (List ℕ)) → Ran s l input end old new → ending ≡ ending_of l end
-    → (meaning : Meaning) → BoundMeans Run l s input meaning → (ending ≡ meaning.ending) × Appends old new meaning.output
+    → (meaning : Meaning) → BoundMeans Run l s input meaning → (ending ≡ meaning.ending) × Writes old new meaning.output
 ran_does l s input end ending old new ran says meaning is =
     let means = run_of l s input meaning is in
-    let same = one_end s l input end means.end ran.output meaning.output ran.ends means.ends in
-    (says ∙ ap (ending_of l) same.0 ∙ sym means.same, subst (λ xs. Appends old new xs) same.1 ran.writes)
+    let same = one_end s l input end means.end ran.output means.output ran.ends means.ends in
+    subst (λ (m : Meaning). (ending ≡ m.ending) × Writes old new m.output) (sym means.same)
+    (says ∙ ap (ending_of l) same.0, (means.output, refl, subst (λ xs. Appends old new xs) same.1 ran.writes))
 
 -- what failed wrote a part of it
-pub failed_begins : (l : Limits) (s : Source) (input : List ℕ) (old new : Option (List ℕ)) → Begins s l input old new → (meaning : Meaning) → BoundMeans Run l s input meaning → AddsPrefix old new meaning.output
+pub failed_begins : (l : Limits) (s : Source) (input : List ℕ) (old new : Option (List ℕ)) → BeginsRun s l input old new → (meaning : Meaning) → BoundMeans Run l s input meaning → Begins old new meaning.output
 failed_begins l s input old new part meaning is =
     let means = run_of l s input meaning is in
-    part means.end meaning.output means.ends
+    subst (λ (m : Meaning). Begins old new m.output) (sym means.same) (inr (means.output, refl, part means.end means.output means.ends))
 
 -- what is known of a run that failed, by its cause
 pub broken_by : (faults now : ℕ) (l : Limits) (s : Source) (input : List ℕ) (old new : Option (List ℕ)) (e f : NotRun) → e ≡ f → Broken faults now s l input old new (Err e) → Broken faults now s l input old new (Err f)
@@ -53,39 +55,67 @@ broken_by faults now l s input old new e f is broken = subst (λ x. Broken fault
 
 -- ---- what is checked and not run
 
-pub not_run : (command : Command) → (command ≡ Check) ⊎ (command ≡ Print) → command ≡ Run → ⊥
-not_run command (inl is) run = cc (run, is)
-not_run command (inr is) run = cc (run, is)
+pub no_code : (command : Command) → (command ≡ Check) ⊎ (command ≡ Print) → needs_code command ≡ false
+no_code command (inl is) = ap needs_code is
+no_code command (inr is) = ap needs_code is
 
 abbrev says_nothing : Meaning
-says_nothing = record { ending = Normal; output = [] }
+says_nothing = record { ending = Normal; output = Exactly [] }
 
-pub checked_means : (command : Command) (l : Limits) (s : Source) (input : List ℕ) → (command ≡ Run → ⊥) → (meaning : Meaning) × BoundMeans command l s input meaning
-checked_means Run l s input idle = absurd (idle refl)
+-- what writes nothing wrote all of it
+nothing_more : (old : Option (List ℕ)) → Writes old old (Exactly [])
+nothing_more old = ([], refl, Appends-nil old)
+
+pub checked_means : (command : Command) (l : Limits) (s : Source) (input : List ℕ) → needs_code command ≡ false → (meaning : Meaning) × BoundMeans command l s input meaning
+checked_means Run l s input idle = absurd (cc idle)
+checked_means Compile l s input idle = absurd (cc idle)
+checked_means Listing l s input idle = absurd (cc idle)
 checked_means Check l s input idle = (says_nothing, record { compiled = Sound; compiles = refl; means = refl })
 checked_means Print l s input idle = (says_nothing, record { compiled = Sound; compiles = refl; means = refl })
 
-sound_of : (command : Command) (s : Source) (c : Compiled) → (command ≡ Run → ⊥) → BoundCompiles command s c → c ≡ Sound
-sound_of Run s c idle is = absurd (idle refl)
+sound_of : (command : Command) (s : Source) (c : Compiled) → needs_code command ≡ false → BoundCompiles command s c → c ≡ Sound
+sound_of Run s c idle is = absurd (cc idle)
+sound_of Compile s c idle is = absurd (cc idle)
+sound_of Listing s c idle is = absurd (cc idle)
 sound_of Check s c idle is = is
 sound_of Print s c idle is = is
 
-pub checked_does : (command : Command) (l : Limits) (s : Source) (input : List ℕ) (old : Option (List ℕ)) (meaning : Meaning) → (command ≡ Run → ⊥) → BoundMeans command l s input meaning → (Normal ≡ meaning.ending) × Appends old old meaning.output
+pub checked_does : (command : Command) (l : Limits) (s : Source) (input : List ℕ) (old : Option (List ℕ)) (meaning : Meaning) → needs_code command ≡ false → BoundMeans command l s input meaning → (Normal ≡ meaning.ending) × Writes old old meaning.output
 checked_does command l s input old meaning idle is =
     let sound : Means l input Sound meaning = subst (λ (c : Compiled). Means l input c meaning) (sound_of command s is.compiled idle is.compiles) is.means in
-    subst (λ (m : Meaning). (Normal ≡ m.ending) × Appends old old m.output) (sym sound) (refl, Appends-nil old)
+    subst (λ (m : Meaning). (Normal ≡ m.ending) × Writes old old m.output) (sym sound) (refl, nothing_more old)
+
+-- ---- what is said of the code
+
+pub coded_means : (l : Limits) (s : Source) (input : List ℕ) → (meaning : Meaning) × BoundMeans Compile l s input meaning
+coded_means l s input = (record { ending = Normal; output = SomeCodeFile s }, record { compiled = Coded s; compiles = refl; means = refl })
+
+pub listed_means : (l : Limits) (s : Source) (input : List ℕ) → (meaning : Meaning) × BoundMeans Listing l s input meaning
+listed_means l s input = (record { ending = Normal; output = SomeListing s }, record { compiled = Listed s; compiles = refl; means = refl })
+
+pub coded_does : {E : Type 0} (l : Limits) (s : Source) (input : List ℕ) (old new : Option (List ℕ)) (r : Result Ending E) → Does (record { ending = Normal; output = SomeCodeFile s }) old new r
+    → (meaning : Meaning) → BoundMeans Compile l s input meaning → Does meaning old new r
+coded_does l s input old new r does meaning is =
+    let means : Means l input (Coded s) meaning = subst (λ (c : Compiled). Means l input c meaning) is.compiles is.means in
+    subst (λ (m : Meaning). Does m old new r) (sym means) does
+
+pub listed_does : {E : Type 0} (l : Limits) (s : Source) (input : List ℕ) (old new : Option (List ℕ)) (r : Result Ending E) → Does (record { ending = Normal; output = SomeListing s }) old new r
+    → (meaning : Meaning) → BoundMeans Listing l s input meaning → Does meaning old new r
+listed_does l s input old new r does meaning is =
+    let means : Means l input (Listed s) meaning = subst (λ (c : Compiled). Means l input c meaning) is.compiles is.means in
+    subst (λ (m : Meaning). Does m old new r) (sym means) does
 
 -- ---- what is printed
 
 pub printed_means : (l : Limits) (source input text : List ℕ) → SourcePrints source text → (meaning : Meaning) × SourceMeans Print l source input meaning
-printed_means l source input text prints = (record { ending = Normal; output = text }, record { compiled = Printed text; compiles = (prints (Printed text)).back refl; means = refl })
+printed_means l source input text prints = (record { ending = Normal; output = Exactly text }, record { compiled = Printed text; compiles = (prints (Printed text)).back refl; means = refl })
 
 printed_as : (l : Limits) (source input text : List ℕ) (meaning : Meaning) → SourcePrints source text → SourceMeans Print l source input meaning → Means l input (Printed text) meaning
 printed_as l source input text meaning prints is = subst (λ (c : Compiled). Means l input c meaning) ((prints is.compiled).there is.compiles) is.means
 
-pub printed_does : (l : Limits) (source input text : List ℕ) (old new : Option (List ℕ)) → SourcePrints source text → Appends old new text → (meaning : Meaning) → SourceMeans Print l source input meaning → (Normal ≡ meaning.ending) × Appends old new meaning.output
+pub printed_does : (l : Limits) (source input text : List ℕ) (old new : Option (List ℕ)) → SourcePrints source text → Appends old new text → (meaning : Meaning) → SourceMeans Print l source input meaning → (Normal ≡ meaning.ending) × Writes old new meaning.output
 printed_does l source input text old new prints wrote meaning is =
-    subst (λ (m : Meaning). (Normal ≡ m.ending) × Appends old new m.output) (sym (printed_as l source input text meaning prints is)) (refl, wrote)
+    subst (λ (m : Meaning). (Normal ≡ m.ending) × Writes old new m.output) (sym (printed_as l source input text meaning prints is)) (refl, (text, refl, wrote))
 
 -- what does not fail by the input leaves it as it was
 pub unread : (faults : ℕ) (r : Result Ending RunFailure) → (r ≡ Err Input → ⊥) → InputAfter faults faults r
@@ -95,9 +125,9 @@ unread faults (Err Input) sound = absurd (sound refl)
 unread faults (Err Output) sound = refl
 
 -- what failed wrote a part of it
-pub printed_part : (l : Limits) (source input text : List ℕ) (old new : Option (List ℕ)) → SourcePrints source text → AddsPrefix old new text → (meaning : Meaning) → SourceMeans Print l source input meaning → AddsPrefix old new meaning.output
+pub printed_part : (l : Limits) (source input text : List ℕ) (old new : Option (List ℕ)) → SourcePrints source text → AddsPrefix old new text → (meaning : Meaning) → SourceMeans Print l source input meaning → Begins old new meaning.output
 printed_part l source input text old new prints wrote meaning is =
-    subst (λ (m : Meaning). AddsPrefix old new m.output) (sym (printed_as l source input text meaning prints is)) wrote
+    subst (λ (m : Meaning). Begins old new m.output) (sym (printed_as l source input text meaning prints is)) (inr (text, refl, wrote))
 
 -- ---- what was cut off, and what is rejected
 
@@ -109,6 +139,8 @@ not_rejected s rule line is = cc
 pub untouched_by : {P : Type 0} (command : Command) (source : List ℕ) (s : Source) (rule : Rule) (line : Line) → SourceBinds command source s → ((command ≡ Run → ⊥) → P) → SourceCompiles Run source (Rejected rule line) → P
 untouched_by Run source s rule line binds idle compiles = absurd (not_rejected s rule line ((binds (Rejected rule line)).there compiles))
 untouched_by Check source s rule line binds idle compiles = idle (λ is. cc is)
+untouched_by Compile source s rule line binds idle compiles = idle (λ is. cc is)
+untouched_by Listing source s rule line binds idle compiles = idle (λ is. cc is)
 untouched_by Print source s rule line binds idle compiles = idle (λ is. cc is)
 
 -- and one that runs a program does what is known of the run of that program
@@ -118,16 +150,17 @@ takes_by Run l source input s t binds idle takes compiles never = takes (subst (
     same_program : {s t : Source} → Runnable s ≡ Runnable t → s ≡ t
     same_program is = cc is
 takes_by Check l source input s t binds idle takes compiles never = idle (λ is. cc is)
+takes_by Compile l source input s t binds idle takes compiles never = idle (λ is. cc is)
+takes_by Listing l source input s t binds idle takes compiles never = idle (λ is. cc is)
 takes_by Print l source input s t binds idle takes compiles never = idle (λ is. cc is)
 
-not_both : {E : Type 0} (e : E) → Ok Normal ≡ Err e → ⊥
-not_both e same = cc
-
-pub cut_by : {E P : Type 0} (faults now : ℕ) (command : Command) (l : Limits) (source input : List ℕ) (s : Source) (old new : Option (List ℕ)) (r : Result Ending E) (e : E) → SourceBinds command source s → ((command ≡ Run → ⊥) → (r ≡ Ok Normal) × P) → r ≡ Err e → BeforeARead faults now s l input old new
+pub cut_by : {E P : Type 0} (faults now : ℕ) (command : Command) (l : Limits) (source input : List ℕ) (s : Source) (old new : Option (List ℕ)) (r : Result Ending E) (e : E) → SourceBinds command source s → ((command ≡ Run → ⊥) → (r ≡ Err e → ⊥) × P) → r ≡ Err e → BeforeARead faults now s l input old new
     → IsCutOff faults now command l source input old new
 cut_by faults now Run l source input s old new r e binds idle is at = (refl, s, (binds (Runnable s)).back refl, at)
-cut_by faults now Check l source input s old new r e binds idle is at = absurd (not_both e (sym (idle (λ same. cc same)).0 ∙ is))
-cut_by faults now Print l source input s old new r e binds idle is at = absurd (not_both e (sym (idle (λ same. cc same)).0 ∙ is))
+cut_by faults now Check l source input s old new r e binds idle is at = absurd ((idle (λ same. cc same)).0 is)
+cut_by faults now Compile l source input s old new r e binds idle is at = absurd ((idle (λ same. cc same)).0 is)
+cut_by faults now Listing l source input s old new r e binds idle is at = absurd ((idle (λ same. cc same)).0 is)
+cut_by faults now Print l source input s old new r e binds idle is at = absurd ((idle (λ same. cc same)).0 is)
 
 -- ---- a source
 
@@ -145,11 +178,11 @@ binds_ok command l source input s (Err e) binds means = tt
 -- a source that is rejected
 pub rejected_means : (command : Command) (l : Limits) (source input : List ℕ) (rule : Rule) (line : Line) → SourceRejects command source rule line → (meaning : Meaning) × SourceMeans command l source input meaning
 rejected_means command l source input rule line rejects =
-    (record { ending = Refused rule line; output = [] }, record { compiled = Rejected rule line; compiles = (rejects (Rejected rule line)).back refl; means = refl })
+    (record { ending = Refused rule line; output = Exactly [] }, record { compiled = Rejected rule line; compiles = (rejects (Rejected rule line)).back refl; means = refl })
 
 pub rejected_does : (command : Command) (l : Limits) (source input : List ℕ) (rule : Rule) (line : Line) (old : Option (List ℕ)) → SourceRejects command source rule line
-    → (meaning : Meaning) → SourceMeans command l source input meaning → (Refused rule line ≡ meaning.ending) × Appends old old meaning.output
+    → (meaning : Meaning) → SourceMeans command l source input meaning → (Refused rule line ≡ meaning.ending) × Writes old old meaning.output
 rejected_does command l source input rule line old rejects meaning is =
     let same : is.compiled ≡ Rejected rule line = (rejects is.compiled).there is.compiles in
     let means : Means l input (Rejected rule line) meaning = subst (λ (c : Compiled). Means l input c meaning) same is.means in
-    subst (λ (m : Meaning). (Refused rule line ≡ m.ending) × Appends old old m.output) (sym means) (refl, Appends-nil old)
+    subst (λ (m : Meaning). (Refused rule line ≡ m.ending) × Writes old old m.output) (sym means) (refl, nothing_more old)

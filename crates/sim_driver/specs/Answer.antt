@@ -1,8 +1,8 @@
 -- What a command answers, by its words and the bytes of the file and of the input.
 use Rattle.std.specs.Prelude.{◌≡◌, ℕ, List, [], Option, Some, None}
-use Rattle.std.specs.Io.KnownBytes.{Appends}
 use Rattle.command_line.specs.Words.{Request, request_of}
 use Rattle.sim_base.specs.declared.limits.Limits.{Limits}
+use Rattle.sim_driver.specs.Output.{Exactly, Output, Writes}
 use Rattle.sim_driver.specs.SourceMeaning.{Meaning, SourceMeans}
 use Rattle.sim_driver.specs.Status.{status_of}
 use Rattle.command_line.specs.declared.words.Command.{Command}
@@ -12,7 +12,7 @@ use Rattle.sim_driver.specs.declared.status.Status.TheVariants.{Usage}
 -- how a command ends, and what it writes to the output
 pub record Answer : Type 0 where
   pub status : Status
-  pub output : List ℕ
+  pub output : Output
 
 -- the answer of a source
 abbrev pub meant : Meaning → Answer
@@ -25,7 +25,7 @@ pub record IsSourceAnswer (command : Command) (l : Limits) (source input : List 
   pub same : answer ≡ meant meaning
 
 abbrev pub IsAnswerFor : Option Request → (source input : List ℕ) → Answer → Type 0
-IsAnswerFor None source input answer = answer ≡ record { status = Usage; output = [] }
+IsAnswerFor None source input answer = answer ≡ record { status = Usage; output = Exactly [] }
 IsAnswerFor (Some request) source input answer = IsSourceAnswer request.command request.limits source input answer
 
 -- the answer to the words, where the file that they name, if they name one, holds this source, and the input these bytes
@@ -35,4 +35,4 @@ IsAnswer words source input answer = IsAnswerFor (request_of words) source input
 -- the command ended as the answer says, with the whole output
 pub record Gives (answer : Answer) (status : Status) (old new : Option (List ℕ)) : Type 0 where
   pub ends : status ≡ answer.status
-  pub writes : Appends old new answer.output
+  pub writes : Writes old new answer.output

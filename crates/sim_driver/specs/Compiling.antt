@@ -1,6 +1,7 @@
--- What a command makes of a source: for `run` a program that can be run, for `check` that no rule refuses it, for `print` its canonical text,
--- and for each the rule that refuses it, with the line. `print` asks the rules of spelling and of the grammar alone.
-use Rattle.std.specs.Prelude.{◌≡◌, ℕ, Bool, true, false, ◌||◌, List, Result, Ok, Err, Option, slice_index_or, ⊤}
+-- What a command makes of a source: for `run` a program that can be run, for `compile` and `list` one whose code is written, for `check` that no
+-- rule refuses it, for `print` its canonical text, and for each the rule that refuses it, with the line. `print` asks the rules of spelling and
+-- of the grammar alone.
+use Rattle.std.specs.Prelude.{◌≡◌, ℕ, Bool, true, false, ◌&&◌, ◌||◌, List, Result, Ok, Err, Option, slice_index_or, ⊤}
 use Rattle.sim_base.specs.Place.{line_at}
 use Rattle.sim_base.specs.declared.numbering.Line.{Line}
 use Rattle.sim_base.specs.declared.rule.Rule.{Rule}
@@ -28,10 +29,13 @@ use Rattle.sim_run.specs.RunEnds.{IsRunnable}
 use Rattle.sim_driver.specs.declared.compiling.Refusal.{Refusal}
 use Rattle.sim_driver.specs.declared.compiling.Refusal.TheVariants as refusal
 use Rattle.command_line.specs.declared.words.Command.{Command}
-use Rattle.command_line.specs.declared.words.Command.TheVariants.{Run, Print}
+use Rattle.command_line.specs.declared.words.Command.TheVariants.{Compile, Listing, Print, Run}
 
 pub data Compiled : Type 0 where
   Runnable : Source → Compiled
+  -- its code is written, as a code file or as a listing
+  Coded : Source → Compiled
+  Listed : Source → Compiled
   -- no rule refuses it
   Sound : Compiled
   -- its canonical text
@@ -45,15 +49,23 @@ token_line tokens token = (slice_index_or tokens token finish).line
 abbrev pub not_built : Compiled
 not_built = Rejected FormNotBuilt (record { 0 = 1 })
 
+-- Some commands need the code of a program; a form that is not built has none.
+abbrev pub needs_code : Command → Bool
+needs_code Run = true
+needs_code Compile = true
+needs_code Listing = true
+needs_code command = false
+
 -- what a command makes of a program that is not rejected
 abbrev pub BoundCompiles : Command → Source → Compiled → Type 0
 BoundCompiles Run s compiled = compiled ≡ Runnable s
+BoundCompiles Compile s compiled = compiled ≡ Coded s
+BoundCompiles Listing s compiled = compiled ≡ Listed s
 BoundCompiles command s compiled = compiled ≡ Sound
 
--- For `run` it is not built that a procedure with parameters matches a virtual.
+-- It is not built that a procedure with parameters matches a virtual.
 abbrev pub lacks_match : Command → Source → Bool
-lacks_match Run s = has_match_with_parameters s
-lacks_match command s = false
+lacks_match command s = needs_code command && has_match_with_parameters s
 
 -- such a program is rejected behind the static rules
 abbrev pub AllowedCompilesIf : (lacks : Bool) → Command → Source → Compiled → Type 0
@@ -73,11 +85,10 @@ abbrev pub CheckedCompiles : Command → List Token → Tree → Checked → Com
 CheckedCompiles command tokens tree (Refused fault) compiled = compiled ≡ Rejected fault.rule (token_line tokens fault.token.0)
 CheckedCompiles command tokens tree (Allowed tables uses found_in types) compiled = AllowedCompiles command (source_with tree tables uses found_in types) compiled
 
--- What else is not built, for `run`: `process` directly behind `new`; a parameter by name, a procedure as a parameter.
--- `check` knows all forms.
+-- What else is not built: `process` directly behind `new`; an array as a parameter by name, a procedure as a parameter. `check` knows all
+-- forms.
 abbrev pub lacks_form : Command → List Token → Program → Bool
-lacks_form Run tokens p = has_unbuilt_name tokens || has_unbuilt_form p
-lacks_form command tokens p = false
+lacks_form command tokens p = needs_code command && (has_unbuilt_name tokens || has_unbuilt_form p)
 
 -- a source with such a form is rejected before the static rules are asked
 abbrev pub TreeCompilesIf : (lacks : Bool) → Command → List Token → Tree → Compiled → Type 0
@@ -106,7 +117,7 @@ TreeBinds command tokens tree s = (compiled : Compiled) → Same (TreeCompiles c
 abbrev pub TreeRejects : Command → List Token → Tree → Rule → Line → Type 0
 TreeRejects command tokens tree rule line = (compiled : Compiled) → Same (TreeCompiles command tokens tree compiled) (compiled ≡ Rejected rule line)
 
--- The static rules allow the tree, and it is this program; it is the same for both commands.
+-- The static rules allow the tree, and it is this program; it is the same for all commands.
 abbrev pub CheckBinds : List Token → Tree → Source → Type 0
 CheckBinds tokens tree s = (command : Command) (compiled : Compiled) → Same (CheckedCompiles command tokens tree (check_of tree) compiled) (AllowedCompiles command s compiled)
 
@@ -176,13 +187,13 @@ SourceBinds command source s = (compiled : Compiled) → Same (SourceCompiles co
 abbrev pub ChecksAs : List Token → Tree → Source → Type 0
 ChecksAs tokens tree s = CheckBinds tokens tree s × IsChecked tree s
 
--- the tree is this program, which breaks no rule; for `run` it can be run
+-- the tree is this program, which breaks no rule; where its code is needed it can be run
 abbrev pub BindsAs : Command → List Token → Tree → Source → Type 0
-BindsAs command tokens tree s = TreeBinds command tokens tree s × (IsTree tokens tree → command ≡ Run → IsRunnable s)
+BindsAs command tokens tree s = TreeBinds command tokens tree s × (IsTree tokens tree → needs_code command ≡ true → IsRunnable s)
 
--- the source is this program, which breaks no rule; for `run` it can be run
+-- the source is this program, which breaks no rule; where its code is needed it can be run
 abbrev pub IsProgram : Command → List ℕ → Source → Type 0
-IsProgram command source s = SourceBinds command source s × (command ≡ Run → IsRunnable s)
+IsProgram command source s = SourceBinds command source s × (needs_code command ≡ true → IsRunnable s)
 
 -- What a step answers, by what is known of its source: the program, or the refusal. Want of memory says nothing of the source.
 abbrev pub Answers : {A : Type 0} → (A → Type 0) → (Rule → Line → Type 0) → Result A Refusal → Type 0

@@ -1,5 +1,6 @@
 pub mod Answer
 pub mod Compiling
+pub mod Output
 pub mod OutputAfter
 pub mod Reading
 pub mod SourceMeaning

@@ -5,19 +5,20 @@ ghost use Rattle.command_line.specs.Words.{texts};
 ghost use Rattle.sim_base.specs.declared.limits.Limits.{Limits as AnyLimits};
 ghost use Rattle.sim_base.specs.declared.numbering.Line.{Line as AnyLine};
 ghost use Rattle.sim_base.specs.declared.rule.Rule.{Rule as AnyRule};
-ghost use Rattle.sim_ports.specs.Bytes.{AddsPrefix};
 ghost use Rattle.sim_ports.specs.Faults.{Rose, StopsAt};
 ghost use Rattle.sim_ports.specs.Named.{IsOpen};
 ghost use Rattle.sim_run.specs.RunEnds.{BeforeARead, IsRunnable, TakesNothing};
 ghost use Rattle.sim_scope.specs.Source.{Source as AnySource, source_of};
 ghost use Rattle.sim_driver.specs.Answer.{Answer, Gives, IsAnswer, IsSourceAnswer};
-ghost use Rattle.sim_driver.specs.Compiling.{Rejected, Runnable, SourceCompiles};
+ghost use Rattle.sim_driver.specs.Compiling.{Rejected, Runnable, SourceCompiles, needs_code};
+ghost use Rattle.sim_driver.specs.Output.{Begins};
 ghost use Rattle.sim_driver.specs.OutputAfter.{InputAfter, OutputAfter};
 ghost use Rattle.sim_driver.specs.Reading.{TakesAtMost};
 ghost use Rattle.sim_driver.specs.SourceMeaning.{BoundMeans, Does, IsCutOff, Meaning, SourceMeans, ending_of as ending_of_run};
 ghost use Rattle.sim_driver.specs.Status.{is_answer};
 ghost use Rattle.sim_driver.specs.Words.{AsksRun, AsksRunWith, TellsFile, WasCutOff, file_of};
 
+use crate::coding::{code_file_of, listing_of, write_made};
 use crate::compiling::{Refusal, bind};
 use crate::failure::RunFailure;
 use crate::printing::print_source;
@@ -55,7 +56,7 @@ pub fn run_command<F: Files, I: Source, O: Sink>(
     ensures answer { (source given : List ℕ) (answer : Answer) → TellsFile (F.content files.old) (texts words.now) source → I.left input.old ≡ Some given
         → IsAnswer (texts words.now) source given answer → is_answer result ≡ true → Gives answer result (O.written out.old) (O.written out.new) }
     ensures prefix { (source given : List ℕ) (answer : Answer) → TellsFile (F.content files.old) (texts words.now) source → I.left input.old ≡ Some given
-        → IsAnswer (texts words.now) source given answer → AddsPrefix (O.written out.old) (O.written out.new) answer.output }
+        → IsAnswer (texts words.now) source given answer → Begins (O.written out.old) (O.written out.new) answer.output }
     ensures files_later { F.faults files.old ≤ F.faults files.new }
     ensures cut { (source given : List ℕ) → TellsFile (F.content files.old) (texts words.now) source → I.left input.old ≡ Some given → result ≡ Status.InputFault
         → WasCutOff (I.faults input.old) (I.faults input.new) (texts words.now) source given (O.written out.old) (O.written out.new) }
@@ -103,7 +104,7 @@ fn answer_request<F: Files, I: Source, O: Sink>(
     ensures answer { (source given : List ℕ) (answer : Answer) → F.content files.old file.now ≡ Some source → I.left input.old ≡ Some given
         → IsSourceAnswer command limits.now source given answer → is_answer result ≡ true → Gives answer result (O.written out.old) (O.written out.new) }
     ensures prefix { (source given : List ℕ) (answer : Answer) → F.content files.old file.now ≡ Some source → I.left input.old ≡ Some given
-        → IsSourceAnswer command limits.now source given answer → AddsPrefix (O.written out.old) (O.written out.new) answer.output }
+        → IsSourceAnswer command limits.now source given answer → Begins (O.written out.old) (O.written out.new) answer.output }
     ensures files_later { F.faults files.old ≤ F.faults files.new }
     ensures cut { (source given : List ℕ) → F.content files.old file.now ≡ Some source → I.left input.old ≡ Some given → result ≡ Status.InputFault
         → IsCutOff (I.faults input.old) (I.faults input.new) command limits.now source given (O.written out.old) (O.written out.new) }
@@ -140,7 +141,7 @@ fn answer_source<I: Source, O: Sink>(
     ensures answered { (given : List ℕ) → I.left input.old ≡ Some given → is_answer result ≡ true → (answer : Answer) × IsSourceAnswer command limits.now source.now given answer }
     ensures answer { (given : List ℕ) (answer : Answer) → I.left input.old ≡ Some given → IsSourceAnswer command limits.now source.now given answer → is_answer result ≡ true
         → Gives answer result (O.written out.old) (O.written out.new) }
-    ensures prefix { (given : List ℕ) (answer : Answer) → I.left input.old ≡ Some given → IsSourceAnswer command limits.now source.now given answer → AddsPrefix (O.written out.old) (O.written out.new) answer.output }
+    ensures prefix { (given : List ℕ) (answer : Answer) → I.left input.old ≡ Some given → IsSourceAnswer command limits.now source.now given answer → Begins (O.written out.old) (O.written out.new) answer.output }
     ensures cut { (given : List ℕ) → I.left input.old ≡ Some given → result ≡ Status.InputFault → IsCutOff (I.faults input.old) (I.faults input.new) command limits.now source.now given (O.written out.old) (O.written out.new) }
     ensures only_run { (command ≡ Command.Run → ⊥) → input.new ≡ input.old }
     ensures untouched { (rule : AnyRule) (line : AnyLine) → SourceCompiles Command.Run source.now (Rejected rule line) → input.new ≡ input.old }
@@ -177,8 +178,9 @@ fn do_command<I: Source, O: Sink>(
 {
     match command {
         Command::Print => print_source(alloc, source, out),
-        Command::Run => bind_and_do(alloc, command, limits, source, input, out),
-        Command::Check => bind_and_do(alloc, command, limits, source, input, out),
+        Command::Run | Command::Check | Command::Compile | Command::Listing => bind_and_do(
+            alloc, command, limits, source, input, out,
+        ),
     }
 }
 
@@ -218,17 +220,19 @@ fn do_bound<I: Source, O: Sink>(
     input: &mut I,
     out: &mut O,
 ) -> Result<Ending, RunFailure>
-    requires { command ≡ Command.Run → IsRunnable (source_of bound.now) }
+    requires { needs_code command ≡ true → IsRunnable (source_of bound.now) }
     ensures known { (given : List ℕ) → I.left input.old ≡ Some given → OnOk result ((meaning : Meaning) × BoundMeans command limits.now (source_of bound.now) given meaning) }
     ensures does { (given : List ℕ) (meaning : Meaning) → I.left input.old ≡ Some given → BoundMeans command limits.now (source_of bound.now) given meaning → Does meaning (O.written out.old) (O.written out.new) result }
     ensures cut { (given : List ℕ) → I.left input.old ≡ Some given → result ≡ Err RunFailure.Input → BeforeARead (I.faults input.old) (I.faults input.new) (source_of bound.now) limits.now given (O.written out.old) (O.written out.new) }
-    ensures only_run { (command ≡ Command.Run → ⊥) → (result ≡ Ok Ending.Normal) × (input.new ≡ input.old) }
+    ensures only_run { (command ≡ Command.Run → ⊥) → (result ≡ Err RunFailure.Input → ⊥) × (input.new ≡ input.old) }
     ensures takes { (given : List ℕ) → I.left input.old ≡ Some given → TakesNothing (source_of bound.now) limits.now given → input.new ≡ input.old }
     ensures output { OutputAfter O.written O.faults out.old out.new result }
     ensures input { InputAfter (I.faults input.old) (I.faults input.new) result }
 {
     match command {
         Command::Run => run(alloc, limits, bound, input, out),
+        Command::Compile => write_made(code_file_of(alloc, bound), out),
+        Command::Listing => write_made(listing_of(alloc, bound), out),
         Command::Check | Command::Print => Ok(Ending::Normal),
     }
 }

@@ -6,7 +6,7 @@ ghost use Rattle.sim_parser.specs.Claim.{IsWholeSource};
 ghost use Rattle.sim_scope.specs.Source.{source_of};
 ghost use Rattle.sim_tree.specs.SyntaxOfProgram.{program_syntax};
 ghost use Rattle.sim_tree.specs.Tree.{IsTree};
-ghost use Rattle.sim_driver.specs.Compiling.{Answers, BindsAs, CheckRejects, ChecksAs, IsProgram, SourcePrints, SourceRejects, TokensReject, TreeRejects, lacks_form, lacks_match, token_line};
+ghost use Rattle.sim_driver.specs.Compiling.{Answers, BindsAs, CheckRejects, ChecksAs, IsProgram, SourcePrints, SourceRejects, TokensReject, TreeRejects, lacks_form, lacks_match, needs_code, token_line};
 ghost use Rattle.sim_driver.specs.declared.compiling.Refusal.TheVariants as refusal;
 ghost use Rattle.command_line.specs.declared.words.Command.{Command as AnyCommand};
 ghost use Rattle.command_line.specs.declared.words.Command.TheVariants.{Print};
@@ -36,8 +36,8 @@ pub enum Refusal {
     Memory,
 }
 
-/// The program of a source, which breaks no rule, for `run` or `check`; or the rule that it breaks first, with the line. To run, it must
-/// have only forms that are built, and no procedure that matches a virtual may have parameters.
+/// The program of a source, which breaks no rule, for each command but `print`; or the rule that it breaks first, with the line. Where its
+/// code is needed, it must have only forms that are built, and no procedure that matches a virtual may have parameters.
 pub fn bind(alloc: Global, command: Command, source: &[u8]) -> Result<Bound, Refusal>
     requires length { length source.now < 2 ^ 32 - 1 }
     requires binds { command ≡ Print → ⊥ }
@@ -106,25 +106,29 @@ fn line_at(tokens: &[Token], token: TokenNo) -> Line
     }
 }
 
-// Whether a tree of these tokens has a name or a form that is not built, for `run`.
-#[tactic(auto, unfolding(sim_static::specs::UnbuiltNames::HasUnbuiltName, sim_static::specs::UnbuiltForms::HasUnbuiltForm))]
-fn lacks_form(command: Command, tokens: &[Token], tree: &sim_tree::Program) -> bool
-    ensures { result ≡ lacks_form command tokens.now (program_syntax tree.now) }
+// Whether a command needs the code of a program.
+fn needs_code(command: Command) -> bool
+    ensures { result ≡ needs_code command }
 {
     match command {
-        Command::Run => has_unbuilt_name(tokens) || has_unbuilt_form(tree),
+        Command::Run | Command::Compile | Command::Listing => true,
         Command::Check | Command::Print => false,
     }
 }
 
-// Whether a procedure of a program matches a virtual and has parameters, for `run`.
+// Whether a tree of these tokens has a name or a form that is not built, where its code is needed.
+#[tactic(auto, unfolding(sim_static::specs::UnbuiltNames::HasUnbuiltName, sim_static::specs::UnbuiltForms::HasUnbuiltForm))]
+fn lacks_form(command: Command, tokens: &[Token], tree: &sim_tree::Program) -> bool
+    ensures { result ≡ lacks_form command tokens.now (program_syntax tree.now) }
+{
+    needs_code(command) && (has_unbuilt_name(tokens) || has_unbuilt_form(tree))
+}
+
+// Whether a procedure of a program matches a virtual and has parameters, where its code is needed.
 fn lacks_match(command: Command, bound: &Bound) -> bool
     ensures { result ≡ lacks_match command (source_of bound.now) }
 {
-    match command {
-        Command::Run => has_match_with_parameters(bound),
-        Command::Check | Command::Print => false,
-    }
+    needs_code(command) && has_match_with_parameters(bound)
 }
 
 // The refusal of a source that has what is not built.

@@ -1,6 +1,7 @@
 //! The top call: from the words of the command line to a status.
 #![tactic(auto)]
 
+mod coding;
 mod command;
 mod compiling;
 mod failure;

@@ -1,13 +1,13 @@
 // The top call.
 ghost use Rattle.std.specs.Prelude.{◌≡◌, ◌+◌, ◌⊎◌, List, ℕ, None, Some, true, IfSome, IsSome};
 ghost use Rattle.std.specs.Io.KnownBytes.{Appends, Keeps};
-ghost use Rattle.sim_ports.specs.Bytes.{AddsPrefix};
 ghost use Rattle.sim_ports.specs.Faults.{Rose, Steady, StopsAt};
 ghost use Rattle.sim_ports.specs.Named.{IsOpen};
 ghost use Rattle.sim_driver.specs.Answer.{Answer, Gives, IsAnswer};
 ghost use Rattle.sim_run.specs.RunEnds.{TakesNothing};
 ghost use Rattle.sim_scope.specs.Source.{Source as AnySource};
 ghost use Rattle.sim_driver.specs.Compiling.{Rejected, Runnable, SourceCompiles};
+ghost use Rattle.sim_driver.specs.Output.{Begins};
 ghost use Rattle.sim_driver.specs.Reading.{TakesAtMost};
 ghost use Rattle.sim_driver.specs.Speaking.{HasItsCause, Says};
 ghost use Rattle.sim_driver.specs.Status.{is_answer, is_told, line_text};
@@ -27,7 +27,8 @@ use sim_ports::{Files, Sink, Source};
 use std::alloc::Global;
 
 /// Does what the words of the command line ask for. `run FILE` runs the source in the file, under the limits that its options set, and its
-/// output goes to `out`; `check FILE` runs nothing. One line to `diag` says how it ended, but for a normal end.
+/// output goes to `out`; `compile FILE` and `list FILE` write its code there, as a code file and as text; `print FILE` writes its canonical text
+/// there; `check FILE` writes nothing. Of these only `run` runs anything. One line to `diag` says how it ended, but for a normal end.
 pub fn simula<F: Files, I: Source, O: Sink, D: Sink>(
     alloc: Global,
     words: &[String],
@@ -71,7 +72,7 @@ pub fn simula<F: Files, I: Source, O: Sink, D: Sink>(
     ensures answer { (source given : List ℕ) (answer : Answer) → TellsFile (F.content files.old) (texts words.now) source → I.left input.old ≡ Some given
         → IsAnswer (texts words.now) source given answer → is_answer result ≡ true → Gives answer result (O.written out.old) (O.written out.new) }
     ensures prefix { (source given : List ℕ) (answer : Answer) → TellsFile (F.content files.old) (texts words.now) source → I.left input.old ≡ Some given
-        → IsAnswer (texts words.now) source given answer → AddsPrefix (O.written out.old) (O.written out.new) answer.output }
+        → IsAnswer (texts words.now) source given answer → Begins (O.written out.old) (O.written out.new) answer.output }
 
     // The line of the status, whole where its output did not fail. A status that is neither an output fault nor want of
     // memory has its whole line, and no write of it failed.

@@ -12,7 +12,7 @@ use Rattle.sim_scope.specs.declared.types.FormalKind.TheVariants as shape
 use Rattle.sim_scope.specs.declared.types.Mode.{Mode}
 use Rattle.sim_scope.specs.declared.types.Mode.TheVariants as mode
 use Rattle.sim_scope.specs.Scopes.{entry_of}
-use Rattle.sim_scope.specs.Source.{Source, denoted, found_at, level_of, line_at}
+use Rattle.sim_scope.specs.Source.{Source, denoted, found_at, level_of, line_at, type_at}
 use Rattle.sim_tree.specs.declared.expr.Membership.{Membership}
 use Rattle.sim_tree.specs.declared.expr.Sign.{Sign}
 use Rattle.sim_tree.specs.declared.expr.Sign.TheVariants as sign
@@ -21,16 +21,16 @@ use Rattle.sim_tree.specs.Syntax as syntax
 use Rattle.sim_values.specs.declared.standard.Standard.{Standard}
 use Rattle.sim_values.specs.Plain.{Plain}
 use Rattle.sim_values.specs.Standard.{is_image, moves_position, on_image}
-use Rattle.sim_meaning.specs.Closing.{actual_term, array_place, array_term, attribute_term, behind_dot, class_parameters, close, close_actuals, close_all, close_place, constant_term, declared_place, declared_term, dot_term, formal_place, formal_term, formals_at, given_term, home_of, home_of_class, image_place, in_instance, is_attribute, is_text, is_text_type, is_variable, Joining, Lazily, literal_term, name_term, named_place, named_term, Negated, object_term, Plainly, signed_term, Sort, sort_of, standard_term, stream_of, sysout, two_term, variable_place, variable_term}
+use Rattle.sim_meaning.specs.Closing.{Joining, Lazily, Negated, Plainly, Sort, actual_term, array_place, array_term, attribute_term, behind_dot, by_name, class_parameters, class_passed, close, close_actual, close_actual_by, close_actuals, close_all, close_place, constant_term, declared_place, declared_term, dot_term, formal_place, formal_term, formals_at, given_term, home_of, home_of_class, image_place, in_instance, is_attribute, is_placed, is_text, is_text_type, is_variable, literal_term, name_term, named_place, named_term, object_term, qualified_if, signed_term, sort_of, standard_name_term, standard_term, stream_of, sysout, two_term, typed_token, variable_place, variable_term}
 use Rattle.sim_code.specs.Instances.{at_level}
-use Rattle.sim_meaning.specs.Attributes.{array_attribute, attribute, attribute_of_object, attribute_place, block_found, class_made, connected_object, connection_at, connection_in, declared_attribute, element_at, entry_at, entry_attribute, fitting, generation, if_any, kept_if, membership_term, own_attribute, own_term, parameter_at, parameter_attribute, parameter_qualification, place_of_attribute, process_term, qua_term, simulation_term, this_instance, this_term, transfer_at, transfer_term, variable_at, variable_attribute, with_arrays_kept}
+use Rattle.sim_meaning.specs.Attributes.{array_attribute, attribute, attribute_of_object, attribute_place, block_found, class_made, connected_object, connection_at, connection_in, declared_attribute, element_at, entry_at, entry_attribute, fitting, generation, if_any, kept_if, membership_term, own_attribute, own_term, parameter_at, parameter_attribute, place_of_attribute, process_term, qua_term, qualified, simulation_term, this_instance, this_term, transfer_at, transfer_term, variable_at, variable_attribute, with_arrays_kept}
 use Rattle.sim_code.specs.Sets.{is_set_name}
 use Rattle.sim_code.specs.Simulations.{is_process_name, is_simulation_name}
 use Rattle.sim_code.specs.Transfers.{Calling, Detaching, Resuming, Transfer}
 use Rattle.sim_meaning.specs.Constants.{text_constant}
-use Rattle.sim_meaning.specs.Levels.{class_at}
+use Rattle.sim_meaning.specs.Levels.{class_at, qualification}
 use Rattle.sim_meaning.specs.Names.{procedure_named}
-use Rattle.sim_meaning.specs.Pending.{Further, Instances, NoTerm, Term, Terms, Unbuilt}
+use Rattle.sim_meaning.specs.Pending.{ActualOf, AttributeOf, CallOf, Cell, CopyOf, Either, ElementOf, FitsOf, Further, Given, ImageOf, Instances, Joined, KeptOf, MemberOf, NamedOf, NewOf, NoTerm, NotNoneOf, One, PlaceOf, ProcessOf, QuaOf, QualifiedElementOf, QualifiedPlaceOf, RemoteCallOf, SetOf, SimulationOf, StandardOf, Term, Terms, TransferOf, Two, Unbuilt, Use, ValueAt, VirtualOf}
 use Rattle.sim_meaning.specs.Texts.{constant_of}
 use Rattle.sim_finite.proofs.Weights.{expression_weight, expressions_weight, term_weight, terms_weight}
 
@@ -79,6 +79,10 @@ module _ (s : Source) (m : Instances) (i n : ℕ) (some : 1 ≤ n) where
   place_small d NoMore = in_small (home_of s m i d) _ n some (λ j. some)
   place_small d (Then e es) = some
 
+  use_small : (d : DeclNo) (es : Expressions) (wanted : Use) → term_weight (name_term s m i d es wanted) ≤ n
+  use_small d NoMore wanted = in_small (home_of s m i d) _ n some (λ j. some)
+  use_small d (Then e es) wanted = some
+
   module _ (line : ℕ) (terms : Terms) (most : 5 + terms_weight terms ≤ n) where
     array_small : (d : DeclNo) (es : Expressions) → term_weight (array_term s m i line d es terms) ≤ n
     array_small d NoMore = in_small (home_of s m i d) _ n some (λ j. some)
@@ -89,7 +93,9 @@ module _ (s : Source) (m : Instances) (i n : ℕ) (some : 1 ≤ n) where
     element_small d (Then e es) = in_small (home_of s m i d) _ n some (λ j. omega (arith, most))
 
     formal_small : (d : DeclNo) (mode : Mode) (kind : FormalKind) (es : Expressions) → term_weight (formal_term s m i line d mode kind es terms) ≤ n
-    formal_small d mode.ByName kind es = some
+    formal_small d mode.ByName shape.Simple es = use_small d es _
+    formal_small d mode.ByName shape.Array es = some
+    formal_small d mode.ByName shape.Procedure es = some
     formal_small d mode.ByValue shape.Simple es = variable_small d es
     formal_small d mode.ByValue shape.Array es = array_small d es
     formal_small d mode.ByValue shape.Procedure es = some
@@ -98,7 +104,9 @@ module _ (s : Source) (m : Instances) (i n : ℕ) (some : 1 ≤ n) where
     formal_small d mode.ByReference shape.Procedure es = some
 
     formal_place_small : (d : DeclNo) (mode : Mode) (kind : FormalKind) (es : Expressions) → term_weight (formal_place s m i line d mode kind es terms) ≤ n
-    formal_place_small d mode.ByName kind es = some
+    formal_place_small d mode.ByName shape.Simple es = use_small d es _
+    formal_place_small d mode.ByName shape.Array es = some
+    formal_place_small d mode.ByName shape.Procedure es = some
     formal_place_small d mode.ByValue shape.Simple es = place_small d es
     formal_place_small d mode.ByValue shape.Array es = element_small d es
     formal_place_small d mode.ByValue shape.Procedure es = some
@@ -123,7 +131,7 @@ module _ (s : Source) (m : Instances) (i n : ℕ) (some : 1 ≤ n) where
     named_place_small (Some (denotation.Declared d)) es = declared_place_small d (entry_of s.tables d) es
     named_place_small (Some (denotation.Standard name)) es = some
 
-    name_small : (image : Bool) (other : Option Standard) (name : Standard) (k : ℕ) → term_weight (name_term image other name k line terms) ≤ n
+    name_small : (image : Bool) (other : Option Standard) (name : Standard) (k : ℕ) → term_weight (standard_name_term image other name k line terms) ≤ n
     name_small true other name k = omega (arith, most)
     name_small false (Some of_text) name k = omega (arith, most)
     name_small false None name k = omega (arith, most)
@@ -302,17 +310,17 @@ fitting_small (Some k) line a = omega arith
 
 -- ---- actual parameters
 
-actual_small : (line : ℕ) (mode : Mode) (kind : FormalKind) (text : Bool) (a : Term) → term_weight (actual_term line mode kind text a) ≤ 2 + term_weight a
-actual_small line mode.ByValue shape.Array text a = omega arith
-actual_small line mode.ByReference shape.Array text a = omega arith
-actual_small line mode.ByValue shape.Simple true a = omega arith
-actual_small line mode.ByValue shape.Simple false a = omega arith
-actual_small line mode.ByReference shape.Simple text a = omega arith
-actual_small line mode.ByValue shape.Procedure text a = omega arith
-actual_small line mode.ByReference shape.Procedure text a = omega arith
-actual_small line mode.ByName shape.Simple text a = omega arith
-actual_small line mode.ByName shape.Array text a = omega arith
-actual_small line mode.ByName shape.Procedure text a = omega arith
+actual_small : (line : ℕ) (mode : Mode) (kind : FormalKind) (text : Bool) (a : Term) (j : ℕ) (e : Expression) → term_weight (actual_term line mode kind text a (ActualOf j e)) ≤ 2 + term_weight a
+actual_small line mode.ByValue shape.Array text a j e = omega arith
+actual_small line mode.ByReference shape.Array text a j e = omega arith
+actual_small line mode.ByValue shape.Simple true a j e = omega arith
+actual_small line mode.ByValue shape.Simple false a j e = omega arith
+actual_small line mode.ByReference shape.Simple text a j e = omega arith
+actual_small line mode.ByValue shape.Procedure text a j e = omega arith
+actual_small line mode.ByReference shape.Procedure text a j e = omega arith
+actual_small line mode.ByName shape.Simple text a j e = omega arith
+actual_small line mode.ByName shape.Array text a j e = omega arith
+actual_small line mode.ByName shape.Procedure text a j e = omega arith
 
 kept_small : (mode : Mode) (kind : FormalKind) (a : Term) → term_weight (kept_if mode kind a) ≤ 2 + term_weight a
 kept_small mode.ByReference shape.Array a = omega arith
@@ -414,8 +422,8 @@ mutual
   close_actuals_small s m i line NoMore (f ∷ fs) = omega arith
   close_actuals_small s m i line (Then e es) [] = omega arith
   close_actuals_small s m i line (Then e es) (f ∷ fs) =
-      let a = actual_term line f.mode f.kind (is_text_type f.ty) (close s m i e) in
-      omega (arith, fitting_small (parameter_qualification s f.kind f.ty) line a, actual_small line f.mode f.kind (is_text_type f.ty) (close s m i e), close_small s m i e, close_actuals_small s m i line es fs)
+      let a = actual_term line f.mode f.kind (is_text_type f.ty) (close s m i e) (ActualOf i e) in
+      omega (arith, fitting_small (class_passed s f) line a, actual_small line f.mode f.kind (is_text_type f.ty) (close s m i e) i e, close_small s m i e, close_actuals_small s m i line es fs)
 
   -- those of a class, whose arrays by reference are kept
   close_kept_small : (s : Source) (m : Instances) (i line : ℕ) (es : Expressions) (fs : List Formal) → terms_weight (with_arrays_kept fs (close_actuals s m i line es fs)) ≤ expressions_weight es
@@ -423,6 +431,53 @@ mutual
   close_kept_small s m i line NoMore (f ∷ fs) = omega (arith, kept_small f.mode f.kind Unbuilt, none_kept fs)
   close_kept_small s m i line (Then e es) [] = omega arith
   close_kept_small s m i line (Then e es) (f ∷ fs) =
-      let a = actual_term line f.mode f.kind (is_text_type f.ty) (close s m i e) in
-      let b = fitting (parameter_qualification s f.kind f.ty) line a in
-      omega (arith, kept_small f.mode f.kind b, fitting_small (parameter_qualification s f.kind f.ty) line a, actual_small line f.mode f.kind (is_text_type f.ty) (close s m i e), close_small s m i e, close_kept_small s m i line es fs)
+      let a = actual_term line f.mode f.kind (is_text_type f.ty) (close s m i e) (ActualOf i e) in
+      let b = fitting (class_passed s f) line a in
+      omega (arith, kept_small f.mode f.kind b, fitting_small (class_passed s f) line a, actual_small line f.mode f.kind (is_text_type f.ty) (close s m i e) i e, close_small s m i e, close_kept_small s m i line es fs)
+
+-- ---- actual parameters by name, when they are evaluated
+
+qualified_small : (k : ℕ) (t : Term) → term_weight (qualified k t) ≤ term_weight t
+qualified_small k (Given p) = omega arith
+qualified_small k (Cell j key) = omega arith
+qualified_small k (PlaceOf j key) = omega arith
+qualified_small k (ImageOf n) = omega arith
+qualified_small k (One op line a) = omega arith
+qualified_small k (Two op line a b) = omega arith
+qualified_small k (Joined line a b) = omega arith
+qualified_small k (Either c a b) = omega arith
+qualified_small k (ElementOf line a ts) = omega arith
+qualified_small k (ValueAt a) = omega arith
+qualified_small k (CopyOf line a) = omega arith
+qualified_small k (CallOf j k' ts line) = omega arith
+qualified_small k (StandardOf name ts line) = omega arith
+qualified_small k (NewOf j k' ts line) = omega arith
+qualified_small k (AttributeOf k' key class line a) = omega arith
+qualified_small k (RemoteCallOf a k' ts line) = omega arith
+qualified_small k (QualifiedPlaceOf j key k') = omega arith
+qualified_small k (QualifiedElementOf line k' a ts) = omega arith
+qualified_small k (MemberOf member k' a) = omega arith
+qualified_small k (QuaOf k' line a) = omega arith
+qualified_small k (FitsOf k' line a) = omega arith
+qualified_small k (KeptOf a) = omega arith
+qualified_small k (NotNoneOf line a) = omega arith
+qualified_small k (TransferOf t line a) = omega arith
+qualified_small k (SetOf name ts) = omega arith
+qualified_small k (ProcessOf name line a) = omega arith
+qualified_small k (SimulationOf j name ts line) = omega arith
+qualified_small k (VirtualOf a v n line) = omega arith
+qualified_small k (ActualOf j e) = omega arith
+qualified_small k (NamedOf j key wanted) = omega arith
+qualified_small k Unbuilt = omega arith
+
+pub close_actual_small : (s : Source) (m : Instances) (i : ℕ) (e : Expression) → term_weight (close_actual s m i e) ≤ expression_weight e
+close_actual_small s m i e = by_place (is_placed s e)
+  where
+    of_class : (class : Option ℕ) (formal : Option DeclNo) → term_weight (qualified_if class formal (close_place s m i e)) ≤ term_weight (close_place s m i e)
+    of_class None formal = omega arith
+    of_class (Some k) (Some d) = omega arith
+    of_class (Some k) None = qualified_small k (close_place s m i e)
+
+    by_place : (placed : Bool) → term_weight (close_actual_by placed s m i e) ≤ expression_weight e
+    by_place true = omega (arith, of_class (qualification s (type_at s (typed_token e))) (by_name s e), close_place_small s m i e)
+    by_place false = close_small s m i e

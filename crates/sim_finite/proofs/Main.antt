@@ -7,12 +7,12 @@ use Rattle.sim_code.specs.Outcome.{Ended, Ending, Going, Run, World, after, firs
 use Rattle.sim_code.specs.Instances.{no_instances}
 use Rattle.sim_meaning.specs.Constants.{constants_of}
 use Rattle.sim_meaning.specs.Meaning.{do_chain, do_item, do_work, program_entered, step}
-use Rattle.sim_meaning.specs.Pending.{Activation, Configuration, Do, EndBlock, EndLevel, EndObject, EndPrefixed, EndProcedure, EndProgram, Instances, Item, Result, Val, cell}
+use Rattle.sim_meaning.specs.Pending.{Activation, Configuration, Do, EndBlock, EndEvaluation, EndLevel, EndObject, EndPrefixed, EndProcedure, EndProgram, Instances, Item, Result, Val, cell}
 use Rattle.sim_meaning.specs.Levels.{is_simulation_text, levels}
 use Rattle.sim_meaning.specs.Texts.{BlockText, PrefixedText, ProcedureText, Text, text}
 use Rattle.sim_finite.specs.Coming.{ComesToAnEnd}
-use Rattle.sim_finite.proofs.Lifts.{Goes, entering_goes, having_goes, none, stops, when_goes}
-use Rattle.sim_finite.proofs.Operators.{begun_ticks, leaving_falls, object_ended_falls, op_falls}
+use Rattle.sim_finite.proofs.Lifts.{Goes, entering_goes, having_goes, none, popping_goes, stops, when_goes}
+use Rattle.sim_finite.proofs.Operators.{begun_ticks, evaluated_falls, leaving_falls, object_ended_falls, op_falls}
 use Rattle.sim_finite.proofs.Weights.{Lower, chain_weight, item_weight, kept_weight, lighter, ticked, weight, work_weight}
 
 -- ---- one step
@@ -29,6 +29,7 @@ module _ (s : Source) (l : Limits) (o : World) where
   item_falls m i w vals rest (EndLevel k) = lighter refl (omega arith)
   item_falls m i w vals rest EndObject = object_ended_falls s l o m i (work_weight w) rest
   item_falls m i w vals rest EndPrefixed = leaving_falls s l o m i (work_weight w) rest None
+  item_falls m i w vals rest (EndEvaluation wanted) = popping_goes (From (1 + work_weight w + chain_weight rest + kept_weight m)) vals o _ (λ v vals. evaluated_falls s l o m (work_weight w) rest wanted v)
   item_falls m i w vals rest EndProgram = stops (From (1 + work_weight w + chain_weight rest + kept_weight m)) _ o
 
   work_falls : (m : Instances) (i : ℕ) (vals : List Val) (rest : List Activation) (w : List Item) → Goes (From (work_weight w + chain_weight rest + kept_weight m)) (do_work s l o m i vals rest w)

@@ -22,7 +22,7 @@ use Rattle.sim_values.specs.Texts.{same_text}
 use Rattle.sim_code.specs.Outcome.{ArrayOf, Run, World, Simulation}
 use Rattle.sim_code.specs.Events.{computing, having, image_moved, text_val, ticking}
 use Rattle.sim_code.specs.Arrays.{element, element_set_in, giving_back, handed_over, live_array, owned_by, pairs}
-use Rattle.sim_code.specs.Instances.{CellPlace, ElementPlace, ImagePlace, Instance, Place, cells_of, cells_put, ended_as, given, given_in, going_below, is_given_at_end, is_live, live, main_goes_on, object_ended, system_head, with_instance, encloser_of}
+use Rattle.sim_code.specs.Instances.{CellPlace, ElementPlace, ImagePlace, Instance, Place, cells_of, cells_put, encloser_of, ended_as, given, given_in, going_below, is_given_at_end, is_live, live, main_goes_on, object_ended, system_head, with_instance}
 use Rattle.sim_code.specs.Sets.{enrolled}
 use Rattle.sim_code.specs.Transfers.{Transfer, component_in, transferred, transferring}
 use Rattle.notices.specs.declared.next.Next.TheVariants as next
@@ -32,20 +32,21 @@ use Rattle.notices.specs.Scheduling.{next_of}
 use Rattle.sim_code.specs.Simulations.{begun_in, joined, joined_at, located, with_simulation}
 use Rattle.sim_code.specs.Scheduling.{component_of, deciding, going_to}
 use Rattle.sim_meaning.specs.Connections.{arm_tried, arms_tried, connected, object_connected}
-use Rattle.sim_meaning.specs.Levels.{class_at, has_procedure, is_in, levels, linkage_of_text, text_at, end_line, in_process, is_process_text, is_simulation_text, stands_in}
+use Rattle.sim_meaning.specs.Levels.{class_at, end_line, has_procedure, in_process, is_in, is_process_text, is_simulation_text, levels, linkage_of_text, stands_in, text_at}
 use Rattle.sim_meaning.specs.Objects.{cells_of_levels, filled_in, generated, inner_done, is_member, object_entered, prefix_done, prefixed_entered, putting_reference, with_inner, arrays_given, decided, no_line, process_begun, process_done, words_of_object}
 use Rattle.sim_meaning.specs.Entries.{arrays_among, arrays_by_value, arrays_declared, arrays_of, bounds_of, filled_behind, first_array, further_arrays, segments_of, first_cells, formals_of, words_of_cells}
-use Rattle.sim_meaning.specs.Meaning.{called, do_op, leaving, procedure_entered, sub_block_entered, value_called}
-use Rattle.sim_meaning.specs.Pending.{Activation, Address, AgainOp, array_in, ArrayOp, AttributeOf, AttributeOp, BackOp, BranchOp, CallOf, CallOp, CallValueOp, Cell, cell, cell_made, cell_set, CheckOp, ChooseOp, Configuration, Connection, ConnectOp, CopyOf, CopyOp, DeclareOp, Do, DropOp, Either, ElementOf, ElementOp, ElementsOp, EndLevel, EndPrefixed, EnterOp, Eval, Exec, Execs, FetchOp, FitsOf, FitsOp, Further, Given, GiveOp, Held, IfOp, ImageOf, InnerOp, instance_in, Instances, Item, Joined, JoinOp, KeepOp, KeptOf, Key, Level, LevelOp, Link, made_in, MemberOf, MemberOp, NewOf, NewOp, NoTerm, NotNoneOf, NotNoneOp, ObjectOp, Of, One, OneOp, Op, owner, PastOp, place_in, PlaceOf, plain, PrefixedOp, procedure_in, ProcedureValue, put_in, QualifiedElementOf, QualifiedElementOp, QualifiedPlaceOf, QuaOf, QuaOp, RaiseOp, ReferOp, RemoteCallOf, SetOf, SetOp, ShareOp, StandardOf, StandardOp, StepOp, StepTestOp, StoreOp, SwapOp, Target, Term, Terms, TestOp, ToAddress, ToCell, ToPlace, ToReference, ToReferenceAt, ToText, ToTextAt, ToTextOf, TransferOf, TransferOp, Tree, Two, TwoOp, Unbuilt, Val, ValueAt, VirtualOf, VirtualOp, WhenOp, WhileElementOp, variable_in, ActivateOp, BlockOp, EndProcessOp, ProcessOf, ProcessOp, SelfOp, SimulationOf, SimulationOp}
+use Rattle.sim_meaning.specs.Meaning.{admitted, called, do_op, evaluated, is_place, leaving, procedure_entered, sub_block_entered, value_called, value_given}
+use Rattle.sim_code.specs.Thunks.{locating}
+use Rattle.sim_meaning.specs.Pending.{ActivateOp, Activation, Actual, ActualOf, Address, AgainOp, ArrayOp, AttributeOf, AttributeOp, BackOp, BlockOp, BranchOp, CallOf, CallOp, CallValueOp, Cell, CheckOp, ChooseOp, CloseOp, Configuration, ConnectOp, Connection, CopyOf, CopyOp, DeclareOp, Do, DropOp, Either, ElementOf, ElementOp, ElementsOp, EndEvaluation, EndLevel, EndPrefixed, EndProcessOp, EnterOp, Eval, Exec, Execs, FetchOp, FitsOf, FitsOp, ForPlace, ForValue, Further, GiveOp, Given, Held, IfOp, ImageOf, InnerOp, Instances, Item, JoinOp, Joined, KeepOp, KeptOf, Key, Level, LevelOp, Link, MemberOf, MemberOp, NamedOf, NamedOp, NewOf, NewOp, NoTerm, NotNoneOf, NotNoneOp, ObjectOp, Of, One, OneOp, Op, PastOp, PlaceOf, PrefixedOp, ProcedureValue, ProcessOf, ProcessOp, QuaOf, QuaOp, QualifiedElementOf, QualifiedElementOp, QualifiedPlaceOf, RaiseOp, ReferOp, RemoteCallOf, SelfOp, SetOf, SetOp, ShareOp, SimulationOf, SimulationOp, StandardOf, StandardOp, StepOp, StepTestOp, StoreOp, SwapOp, Target, Term, Terms, TestOp, ToAddress, ToCell, ToNamed, ToPlace, ToReference, ToReferenceAt, ToText, ToTextAt, ToTextOf, TransferOf, TransferOp, Two, TwoOp, Unbuilt, Use, Val, ValueAt, VirtualOf, VirtualOp, WhenOp, WhileElementOp, actual_in, array_in, cell, cell_made, cell_set, instance_in, made_in, owner, place_in, plain, procedure_in, put_in, variable_in}
 use Rattle.sim_meaning.specs.Pending as pending
 use Rattle.sim_meaning.specs.Statements as statement
 use Rattle.sim_meaning.specs.Statements.{assigned, begin_of, compound, elements, entered_at, exec, execs, first_branch, inner_begun, levels_of_instance, looping, prefix_begun, raised, reading, activated, simulation_home}
-use Rattle.sim_meaning.specs.Steps.{count, each, eval, put_back, putting, stored, value_at}
+use Rattle.sim_meaning.specs.Steps.{count, each, eval, go, put_back, putting, stored, value_at}
 use Rattle.sim_meaning.specs.Texts.{BlockText, ProcedureText, declared_at, kind_named}
 use Rattle.sim_meaning.specs.Virtuals.{match_at}
 use Rattle.sim_meaning.specs.Texts as texts
-use Rattle.sim_finite.proofs.Closing.{close_small}
-use Rattle.sim_finite.proofs.Lifts.{Goes, assigning_goes, choosing_goes, copying_goes, counting_goes, entering_goes, finding_goes, having_goes, having_knows, integers_goes, joining_goes, keeping_goes, making_goes, many_goes, matching_goes, none, object_goes, one_goes, performing_goes, plain_goes, popping_goes, linkage_goes, qualifying_goes, step_goes, stops, ticking_goes, truth_goes, two_goes, when_goes, computing_goes, reference_goes}
+use Rattle.sim_finite.proofs.Closing.{close_actual_small, close_small}
+use Rattle.sim_finite.proofs.Lifts.{Goes, assigning_goes, choosing_goes, computing_goes, copying_goes, counting_goes, entering_goes, finding_goes, having_goes, having_knows, integers_goes, joining_goes, keeping_goes, linkage_goes, making_goes, many_goes, matching_goes, none, object_goes, one_goes, performing_goes, plain_goes, popping_goes, qualifying_goes, reference_goes, step_goes, stops, ticking_goes, truth_goes, two_goes, when_goes}
 use Rattle.sim_finite.proofs.Scheduling.{activation_goes, process_goes, simulation_goes}
 use Rattle.sim_finite.proofs.Transfers.{NotMore, NotMoreIn, transfer_small, given_small}
 use Rattle.sim_finite.proofs.Weights.{Lower, arms_weight, bounds_weight, chain_weight, declarations_weight, elements_weight, expression_weight, kept_weight, levels_weight, lighter, names_weight, op_weight, segments_weight, standings_weight, statements_weight, target_weight, term_weight, terms_weight, ticked, work_weight}
@@ -136,7 +137,7 @@ module _ (P : World → Configuration → Type 0) where
   back_goes (Link j) t o m f x = x o m refl refl
   back_goes (pending.ArrayValue a) t o m f x = x o m refl refl
   back_goes (ProcedureValue k j) t o m f x = x o m refl refl
-  back_goes (Tree e) t o m f x = x o m refl refl
+  back_goes (Actual j e) t o m f x = x o m refl refl
 
   pub putting_reference_goes : (s : Source) (line : ℕ) (p : Place Key (Option ℕ)) (v : Plain) (o : World) (m : Instances) (f : World → Instances → Run Configuration) → ((q : World) (n : Instances) → q.ticks ≡ o.ticks → kept_weight n ≡ kept_weight m → Goes P (f q n)) → Goes P (putting_reference s line p v o m f)
   unfolding putting_reference
@@ -158,6 +159,7 @@ reading_weight ToAddress w = omega arith
 reading_weight (ToText line) w = omega arith
 reading_weight (ToTextOf j key line) w = omega arith
 reading_weight (ToReference line) w = omega arith
+reading_weight (ToNamed k line) w = omega arith
 reading_weight (ToPlace a) w = omega arith
 reading_weight (ToTextAt a line) w = omega arith
 reading_weight (ToReferenceAt a line) w = omega arith
@@ -267,6 +269,8 @@ module _ (s : Source) (l : Limits) (o : World) (m : Instances) (i : ℕ) (w : Li
   eval_falls (ProcessOf name line a) = lighter refl (omega arith)
   eval_falls (SimulationOf j name ts line) = lighter refl (omega (arith, each_weight ts (Do (SimulationOp name line) ∷ w)))
   eval_falls (VirtualOf a v n line) = lighter refl (omega arith)
+  eval_falls (ActualOf j e) = lighter refl (omega arith)
+  eval_falls (NamedOf j key wanted) = lighter refl (omega arith)
   eval_falls Unbuilt = none (From 1) o
 
   store_falls : (t : Target) → Falls (target_weight t) (stored o m i w vals rest t)
@@ -276,6 +280,7 @@ module _ (s : Source) (l : Limits) (o : World) (m : Instances) (i : ℕ) (w : Li
   store_falls (ToText line) = assigning_goes (From 1) plain line vals o _ (λ p vals same. lighter same (omega arith))
   store_falls (ToTextOf j key line) = assigning_goes (From 1) plain line vals o _ (λ p vals same. lighter same (omega arith))
   store_falls (ToReference line) = lighter refl (omega arith)
+  store_falls (ToNamed k line) = lighter refl (omega arith)
   store_falls (ToPlace a) = lighter refl (omega arith)
   store_falls (ToTextAt a line) = assigning_goes (From (3 + term_weight a)) plain line vals o _ (λ p vals same. lighter same (omega arith))
   store_falls (ToReferenceAt a line) = lighter refl (omega arith)
@@ -488,6 +493,9 @@ module _ (s : Source) (l : Limits) (o : World) (m : Instances) (i : ℕ) (w : Li
   op_falls (VirtualOp v line) = object_goes (From 1) plain line vals o _ (λ j vals. matching_goes (From 1) line (match_at s m v j) o _ (λ k. lighter refl (omega arith)))
   op_falls (CheckOp n line) = popping_goes (From 1) vals o _ (λ v more. having_goes (From 1) (procedure_in v) o _ (λ q. counting_goes (From 1) line (length (formals_of s q.0)) n o _ (when_goes (From 1) (n == 0) o _ (lighter refl (omega arith)))))
   op_falls (CallValueOp line) = value_falls line
+  op_falls (NamedOp j key wanted) =
+      having_goes (From 0) (cell m j key) o _ (λ v. having_goes (From 0) (actual_in v) o _ (λ a. ticking_goes (From 0) l o _ (λ p more most. when_goes (From 0) (is_live m a.0) p (go p m a.0 (Do (CloseOp a.1) ∷ EndEvaluation wanted ∷ []) [] (record { instance = i; work = w; values = vals } ∷ rest)) (ticked (omega (arith, more)) most))))
+  op_falls (CloseOp e) = lighter refl (omega (arith, close_actual_small s m i e))
   op_falls DropOp = popping_goes (From 1) vals o _ (λ v vals. lighter refl (omega arith))
   op_falls AgainOp = popping_goes (From 1) vals o _ (λ v vals. lighter refl (omega arith))
   op_falls SwapOp = popping_goes (From 1) vals o _ (λ v vals. popping_goes (From 1) vals o _ (λ u vals. lighter refl (omega arith)))
@@ -529,6 +537,24 @@ pub leaving_falls : (s : Source) (l : Limits) (o : World) (m : Instances) (i n :
 unfolding leaving
 leaving_falls s l o m i n [] v = none (Lower l o.ticks (1 + n + 0 + kept_weight m)) o
 leaving_falls s l o m i n (a ∷ rest) v = lighter (back_ticks (is_given_at_end m i) o i _) (omega (arith, left_kept (is_given_at_end m i) m i))
+
+-- the evaluation of an actual parameter by name ends, and what is below gets what it asked for
+module _ (P : World → Configuration → Type 0) where
+  locating_goes : (line : ℕ) (place value_too : Bool) (o : World) (r : Run Configuration) → Goes P r → Goes P (locating line place value_too o r)
+  unfolding locating
+  locating_goes line true value_too o r x = x
+  locating_goes line false true o r x = x
+  locating_goes line false false o r x = stops P _ o
+
+  admitted_goes : (s : Source) (m : Instances) (class : Option ℕ) (line : ℕ) (v : Val) (o : World) (r : Run Configuration) → Goes P r → Goes P (admitted s m class line v o r)
+  admitted_goes s m None line v o r x = x
+  admitted_goes s m (Some k) line v o r x = having_goes P (plain v) o _ (λ p. qualifying_goes P line (stands_in s m k) p o _ x)
+
+pub evaluated_falls : (s : Source) (l : Limits) (o : World) (m : Instances) (n : ℕ) (rest : List Activation) (wanted : Use) (v : Val) → Goes (Lower l o.ticks (1 + n + chain_weight rest + kept_weight m)) (evaluated s o m rest wanted v)
+evaluated_falls s l o m n [] wanted v = none (Lower l o.ticks (1 + n + 0 + kept_weight m)) o
+evaluated_falls s l o m n (a ∷ rest) (ForValue class line) v =
+    having_goes (Lower l o.ticks (1 + n + chain_weight (a ∷ rest) + kept_weight m)) (value_given o m v) o _ (λ u. admitted_goes (Lower l o.ticks (1 + n + chain_weight (a ∷ rest) + kept_weight m)) s m class line u o _ (lighter refl (omega arith)))
+evaluated_falls s l o m n (a ∷ rest) (ForPlace value_too line) v = locating_goes (Lower l o.ticks (1 + n + chain_weight (a ∷ rest) + kept_weight m)) line (is_place v) value_too o _ (lighter refl (omega arith))
 
 -- an object ends, and what is below goes on
 pub object_ended_falls : (s : Source) (l : Limits) (o : World) (m : Instances) (i n : ℕ) (rest : List Activation) → Goes (Lower l o.ticks (1 + n + chain_weight rest + kept_weight m)) (ticking l o (λ p. object_ended owner p m i rest))

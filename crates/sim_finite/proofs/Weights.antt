@@ -6,7 +6,7 @@ use Rattle.sim_tree.specs.declared.expr.Identifier.{Identifier}
 use Rattle.sim_tree.specs.Syntax.{Also, Arms, Arrayed, Arrays, BoundPair, Declarations, DeclareClass, DeclareProcedure, Element, Expression, Expressions, NoArm, NoDeclaration, NoMore, NoStatement, Statements, Then, Variables, When, With}
 use Rattle.sim_tree.specs.Syntax as syntax
 use Rattle.sim_code.specs.Outcome.{World}
-use Rattle.sim_meaning.specs.Pending.{Activation, ActivateOp, AgainOp, ArrayOp, AttributeOf, AttributeOp, BackOp, BlockOp, BranchOp, CallOf, CallOp, CallValueOp, Cell, CheckOp, ChooseOp, Configuration, ConnectOp, CopyOf, CopyOp, DeclareOp, Do, DropOp, Either, ElementOf, ElementOp, ElementsOp, EndBlock, EndLevel, EndObject, EndPrefixed, EndProcedure, EndProcessOp, EndProgram, EnterOp, Eval, Exec, Execs, FetchOp, FitsOf, FitsOp, Further, Given, GiveOp, IfOp, ImageOf, InnerOp, Instances, Item, Joined, JoinOp, KeepOp, KeptOf, Level, LevelOp, MemberOf, MemberOp, NewOf, NewOp, NoTerm, NotNoneOf, NotNoneOp, ObjectOp, One, OneOp, Op, PastOp, PlaceOf, PrefixedOp, ProcessOf, ProcessOp, QualifiedElementOf, QualifiedElementOp, QualifiedPlaceOf, QuaOf, QuaOp, RaiseOp, ReferOp, RemoteCallOf, SelfOp, SetOf, SetOp, ShareOp, SimulationOf, SimulationOp, StandardOf, StandardOp, StepOp, StepTestOp, StoreOp, SwapOp, Target, Term, Terms, TestOp, ToAddress, ToCell, ToPlace, ToReference, ToReferenceAt, ToText, ToTextAt, ToTextOf, TransferOf, TransferOp, Two, TwoOp, Unbuilt, ValueAt, VirtualOf, VirtualOp, WhenOp, WhileElementOp}
+use Rattle.sim_meaning.specs.Pending.{ActivateOp, Activation, ActualOf, AgainOp, ArrayOp, AttributeOf, AttributeOp, BackOp, BlockOp, BranchOp, CallOf, CallOp, CallValueOp, Cell, CheckOp, ChooseOp, CloseOp, Configuration, ConnectOp, CopyOf, CopyOp, DeclareOp, Do, DropOp, Either, ElementOf, ElementOp, ElementsOp, EndBlock, EndEvaluation, EndLevel, EndObject, EndPrefixed, EndProcedure, EndProcessOp, EndProgram, EnterOp, Eval, Exec, Execs, FetchOp, FitsOf, FitsOp, Further, GiveOp, Given, IfOp, ImageOf, InnerOp, Instances, Item, JoinOp, Joined, KeepOp, KeptOf, Level, LevelOp, MemberOf, MemberOp, NamedOf, NamedOp, NewOf, NewOp, NoTerm, NotNoneOf, NotNoneOp, ObjectOp, One, OneOp, Op, PastOp, PlaceOf, PrefixedOp, ProcessOf, ProcessOp, QuaOf, QuaOp, QualifiedElementOf, QualifiedElementOp, QualifiedPlaceOf, RaiseOp, ReferOp, RemoteCallOf, SelfOp, SetOf, SetOp, ShareOp, SimulationOf, SimulationOp, StandardOf, StandardOp, StepOp, StepTestOp, StoreOp, SwapOp, Target, Term, Terms, TestOp, ToAddress, ToCell, ToNamed, ToPlace, ToReference, ToReferenceAt, ToText, ToTextAt, ToTextOf, TransferOf, TransferOp, Two, TwoOp, Unbuilt, ValueAt, VirtualOf, VirtualOp, WhenOp, WhileElementOp}
 
 -- the steps that a closed tree takes
 abbrev mutual
@@ -39,6 +39,8 @@ abbrev mutual
   term_weight (ProcessOf name line a) = 2 + term_weight a
   term_weight (SimulationOf j name ts line) = 2 + terms_weight ts
   term_weight (VirtualOf a v n line) = 4 + term_weight a
+  term_weight (ActualOf j e) = 1
+  term_weight (NamedOf j key wanted) = 1
   term_weight Unbuilt = 1
 
   pub terms_weight : Terms → ℕ
@@ -71,6 +73,7 @@ target_weight ToAddress = 1
 target_weight (ToText line) = 1
 target_weight (ToTextOf j key line) = 1
 target_weight (ToReference line) = 2
+target_weight (ToNamed k line) = 3
 target_weight (ToPlace a) = 3 + term_weight a
 target_weight (ToTextAt a line) = 3 + term_weight a
 target_weight (ToReferenceAt a line) = 3 + term_weight a
@@ -148,6 +151,8 @@ op_weight (SimulationOp name line) = 1
 op_weight (VirtualOp v line) = 1
 op_weight (CheckOp n line) = 1
 op_weight (CallValueOp line) = 1
+op_weight (NamedOp j key wanted) = 0
+op_weight (CloseOp e) = 1 + expression_weight e
 op_weight DropOp = 1
 op_weight AgainOp = 1
 op_weight SwapOp = 1
@@ -187,6 +192,7 @@ item_weight (EndProcedure has_result) = 1
 item_weight (EndLevel k) = 1
 item_weight EndObject = 1
 item_weight EndPrefixed = 1
+item_weight (EndEvaluation wanted) = 1
 item_weight EndProgram = 1
 
 abbrev pub work_weight : List Item → ℕ

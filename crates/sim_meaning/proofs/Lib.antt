@@ -5,3 +5,4 @@ pub mod WorkedSets
 pub mod TextsOfBodies
 pub mod WorkedSimulations
 pub mod WorkedVirtuals
+pub mod WorkedNames

@@ -40,13 +40,13 @@ use Rattle.sim_values.specs.Plain.{Character, Integer, Nothing, Object, Plain, T
 use Rattle.sim_values.specs.Standard.{is_image, moves_position, on_image}
 use Rattle.sim_values.specs.Texts.{notext}
 use Rattle.sim_code.specs.Instances.{at_level}
-use Rattle.sim_meaning.specs.Attributes.{attribute, attribute_formals, connected_object, connection_at, count_of, declared_attribute, detach_term, fitting, block_found, class_made, generation, if_any, membership_term, own_attribute, own_term, parameter_qualification, place_of_attribute, qua_term, qualified_place, this_term, transfer_at, transfer_term, with_arrays_kept}
+use Rattle.sim_meaning.specs.Attributes.{attribute, attribute_formals, connected_object, connection_at, count_of, declared_attribute, detach_term, fitting, block_found, class_made, generation, if_any, membership_term, own_attribute, own_term, parameter_qualification, place_of_attribute, qua_term, qualified, qualified_place, this_term, transfer_at, transfer_term, with_arrays_kept}
 use Rattle.sim_meaning.specs.Constants.{text_constant}
 use Rattle.sim_meaning.specs.Levels.{class_at, qualification}
 use Rattle.sim_meaning.specs.Names.{is_image_in, procedure_named, stream_named}
 use Rattle.sim_meaning.specs.Texts.{constant_of}
 use Rattle.sim_meaning.specs.Virtuals.{text_of_procedure}
-use Rattle.sim_meaning.specs.Pending.{Cell, CallOf, CopyOf, Declared, Either, ElementOf, Further, Given, ImageOf, Instances, Joined, Key, NoTerm, One, PlaceOf, Result, StandardOf, Term, Terms, Two, Unbuilt, ValueAt, VirtualOf}
+use Rattle.sim_meaning.specs.Pending.{ActualOf, Cell, CallOf, CopyOf, Declared, Either, ElementOf, Further, Given, ForPlace, ForValue, ImageOf, Instances, Joined, Key, NamedOf, NoTerm, One, PlaceOf, Result, StandardOf, Term, Terms, Two, Unbuilt, Use, ValueAt, VirtualOf}
 
 -- ---- operators
 
@@ -166,7 +166,20 @@ abbrev pub array_term : Source → Instances → ℕ → (line : ℕ) → DeclNo
 array_term s m i line d NoMore terms = in_instance (home_of s m i d) (λ j. Cell j (Declared d.0))
 array_term s m i line d (Then e es) terms = in_instance (home_of s m i d) (λ j. ValueAt (ElementOf line (Cell j (Declared d.0)) terms))
 
+-- a formal parameter by name is used in the instance of its procedure; a reference is held against its qualification
+abbrev pub name_term : Source → Instances → ℕ → DeclNo → Expressions → Use → Term
+name_term s m i d NoMore wanted = in_instance (home_of s m i d) (λ j. NamedOf j (Declared d.0) wanted)
+name_term s m i d (Then e es) wanted = Unbuilt
+
+abbrev pub type_of_formal : Option Entry → Option SimType
+type_of_formal (Some (entry.Formal f)) = f.ty
+type_of_formal _ = None
+
+abbrev pub class_of_formal : Source → DeclNo → Option ℕ
+class_of_formal s d = qualification s (type_of_formal (entry_of s.tables d))
+
 abbrev pub formal_term : Source → Instances → ℕ → (line : ℕ) → DeclNo → Mode → FormalKind → Expressions → Terms → Term
+formal_term s m i line d mode.ByName shape.Simple es terms = name_term s m i d es (ForValue (class_of_formal s d) line)
 formal_term s m i line d mode.ByName kind es terms = Unbuilt
 formal_term s m i line d mode shape.Simple es terms = variable_term s m i d es
 formal_term s m i line d mode shape.Array es terms = array_term s m i line d es terms
@@ -200,14 +213,14 @@ declared_term s m i line d (Some (entry.Virtual result own)) es terms actuals = 
 declared_term s m i line d _ es terms actuals = Unbuilt
 
 -- Names of both images are done on one of them: `image` is its text, and the others are names of texts.
-abbrev pub name_term : (is_image : Bool) → (on_image : Option Standard) → Standard → (image line : ℕ) → Terms → Term
-name_term true other name image line terms = ValueAt (ImageOf image)
-name_term false (Some of_text) name image line terms = StandardOf of_text (Further (ImageOf image) terms) line
-name_term false None name image line terms = StandardOf name terms line
+abbrev pub standard_name_term : (is_image : Bool) → (on_image : Option Standard) → Standard → (image line : ℕ) → Terms → Term
+standard_name_term true other name image line terms = ValueAt (ImageOf image)
+standard_name_term false (Some of_text) name image line terms = StandardOf of_text (Further (ImageOf image) terms) line
+standard_name_term false None name image line terms = StandardOf name terms line
 
 abbrev pub standard_term : Option Standard → (image line : ℕ) → Terms → Term
 standard_term None image line terms = Unbuilt
-standard_term (Some name) image line terms = name_term (is_image name) (on_image name) name image line terms
+standard_term (Some name) image line terms = standard_name_term (is_image name) (on_image name) name image line terms
 
 abbrev pub named_term : Source → Instances → ℕ → (line : ℕ) → Option Denotation → Expressions → Terms → (List Formal → Terms) → Term
 named_term s m i line None es terms actuals = Unbuilt
@@ -217,8 +230,8 @@ named_term s m i line (Some (denotation.Standard name)) es terms actuals = stand
 -- ---- variables, whose position the attributes of texts move
 
 abbrev pub is_variable_formal : Mode → FormalKind → Expressions → Bool
-is_variable_formal mode.ByName kind es = false
 is_variable_formal mode shape.Simple es = true
+is_variable_formal mode.ByName kind es = false
 is_variable_formal mode shape.Array es = true
 is_variable_formal mode shape.Procedure es = false
 
@@ -274,6 +287,7 @@ array_place s m i line d NoMore terms = Unbuilt
 array_place s m i line d (Then e es) terms = in_instance (home_of s m i d) (λ j. ElementOf line (Cell j (Declared d.0)) terms)
 
 abbrev pub formal_place : Source → Instances → ℕ → (line : ℕ) → DeclNo → Mode → FormalKind → Expressions → Terms → Term
+formal_place s m i line d mode.ByName shape.Simple es terms = name_term s m i d es (ForPlace true line)
 formal_place s m i line d mode.ByName kind es terms = Unbuilt
 formal_place s m i line d mode shape.Simple es terms = variable_place s m i d es
 formal_place s m i line d mode shape.Array es terms = array_place s m i line d es terms
@@ -312,15 +326,24 @@ abbrev pub dot_term : Option Denotation → (stream : Option ℕ) → (is_variab
 dot_term (Some (denotation.Standard name)) stream is_variable line variable text terms = behind_dot stream (procedure_named name) is_variable line variable text terms
 dot_term _ stream is_variable line variable text terms = Unbuilt
 
--- an actual parameter: an array and a text by value are copied; parameters by name and procedures are not built
-abbrev pub actual_term : (line : ℕ) → Mode → FormalKind → (text : Bool) → Term → Term
-actual_term line mode.ByValue shape.Array text a = CopyOf line a
-actual_term line mode.ByReference shape.Array text a = a
-actual_term line mode.ByValue shape.Simple true a = StandardOf name_of.Copy (Further a NoTerm) line
-actual_term line mode.ByValue shape.Simple false a = a
-actual_term line mode.ByReference shape.Simple text a = a
-actual_term line mode shape.Procedure text a = Unbuilt
-actual_term line mode.ByName kind text a = Unbuilt
+-- An actual parameter: an array and a text by value are copied; one by name is passed as it is. Arrays by name and procedures are not built.
+abbrev pub actual_term : (line : ℕ) → Mode → FormalKind → (text : Bool) → (value actual : Term) → Term
+actual_term line mode.ByValue shape.Array text a e = CopyOf line a
+actual_term line mode.ByReference shape.Array text a e = a
+actual_term line mode.ByValue shape.Simple true a e = StandardOf name_of.Copy (Further a NoTerm) line
+actual_term line mode.ByValue shape.Simple false a e = a
+actual_term line mode.ByReference shape.Simple text a e = a
+actual_term line mode.ByName shape.Simple text a e = e
+actual_term line mode.ByName kind text a e = Unbuilt
+actual_term line mode shape.Procedure text a e = Unbuilt
+
+-- a value is held against the qualification of its formal parameter; by name that is done at each use
+abbrev pub class_passed : Source → Formal → Option ℕ
+class_passed s f = by_mode f.mode (parameter_qualification s f.kind f.ty)
+  where
+    by_mode : Mode → Option ℕ → Option ℕ
+    by_mode mode.ByName class = None
+    by_mode mode class = class
 
 -- the formal parameters of a class, of all its levels
 abbrev pub class_parameters : Source → Option ℕ → List Formal
@@ -383,11 +406,48 @@ abbrev mutual
   close_actuals s m i line NoMore (f ∷ fs) = Further Unbuilt NoTerm
   close_actuals s m i line (Then e es) [] = Further Unbuilt NoTerm
   close_actuals s m i line (Then e es) (f ∷ fs) =
-      Further (fitting (parameter_qualification s f.kind f.ty) line (actual_term line f.mode f.kind (is_text_type f.ty) (close s m i e))) (close_actuals s m i line es fs)
+      Further (fitting (class_passed s f) line (actual_term line f.mode f.kind (is_text_type f.ty) (close s m i e) (ActualOf i e))) (close_actuals s m i line es fs)
 
 -- the actual parameters of a block prefix, whose class has these formal parameters
 abbrev pub close_parameters : Source → Instances → ℕ → (line : ℕ) → Expressions → List Formal → Terms
 close_parameters s m i line es fs = with_arrays_kept fs (close_actuals s m i line es fs)
+
+-- the formal parameter by name that an expression is
+abbrev pub named_formal : Mode → FormalKind → DeclNo → Option DeclNo
+named_formal mode.ByName shape.Simple d = Some d
+named_formal mode kind d = None
+
+abbrev pub formal_by_name : DeclNo → Option Entry → Option DeclNo
+formal_by_name d (Some (entry.Formal f)) = named_formal f.mode f.kind d
+formal_by_name d _ = None
+
+abbrev pub name_denoted : Source → Option Denotation → Option DeclNo
+name_denoted s (Some (denotation.Declared d)) = formal_by_name d (entry_of s.tables d)
+name_denoted s _ = None
+
+unfoldable pub by_name : Source → Expression → Option DeclNo
+by_name s (syntax.Named name NoMore) = name_denoted s (denoted s name.token.0)
+by_name s _ = None
+
+-- Whether an expression is a variable that is declared, or an element of such an array, seen with a dot or without. An image is none.
+unfoldable pub is_placed : Source → Expression → Bool
+is_placed s (syntax.Named name es) = is_attribute_denoted s (denoted s name.token.0) es
+is_placed s (syntax.Dot token a name es) = is_attribute_denoted s (denoted s name.token.0) es
+is_placed s _ = false
+
+-- The evaluation of an actual parameter by name gives where such a variable lies, or the value of any other expression. A formal parameter by name
+-- alone is handed on as it is.
+abbrev pub qualified_if : (class : Option ℕ) → (by_name : Option DeclNo) → (place : Term) → Term
+qualified_if None formal place = place
+qualified_if (Some k) (Some d) place = place
+qualified_if (Some k) None place = qualified k place
+
+abbrev pub close_actual_by : Bool → Source → Instances → ℕ → Expression → Term
+close_actual_by true s m i e = qualified_if (qualification s (type_at s (typed_token e))) (by_name s e) (close_place s m i e)
+close_actual_by false s m i e = close s m i e
+
+abbrev pub close_actual : Source → Instances → ℕ → Expression → Term
+close_actual s m i e = close_actual_by (is_placed s e) s m i e
 
 -- ---- left sides
 
@@ -397,6 +457,7 @@ pub data Left : Type 0 where
   LeftAddress : Term → Left
   LeftText : (line : ℕ) → Term → Left
   LeftReference : (line : ℕ) → Term → Left
+  LeftNamed : (class line : ℕ) → Term → Left
   LeftUnbuilt : Left
 
 abbrev pub left_in : Option ℕ → (ℕ → Left) → Left
@@ -501,8 +562,13 @@ abbrev pub result_or : Source → Instances → ℕ → Option ℕ → Term → 
 result_or s m i None text = text
 result_or s m i (Some block) text = in_instance (at_level m (level_of s block) i) (λ j. Cell j Result)
 
-abbrev pub left_text : Source → Instances → ℕ → Expression → Term
-left_text s m i e = result_or s m i (result_meant s e) (close s m i e)
+-- Through a formal parameter by name only a variable is assigned to, also by `:=` of texts.
+abbrev pub named_text : Source → Instances → ℕ → (line : ℕ) → Option DeclNo → Term → Term
+named_text s m i line None text = text
+named_text s m i line (Some d) text = ValueAt (name_term s m i d NoMore (ForPlace false line))
+
+abbrev pub left_text : Source → Instances → ℕ → (line : ℕ) → Expression → Term
+left_text s m i line e = named_text s m i line (by_name s e) (result_or s m i (result_meant s e) (close s m i e))
 
 -- A reference is assigned to a variable, an element of an array, an attribute, or the result of a procedure. The value is held against the
 -- qualification of the left side.
@@ -521,12 +587,25 @@ left_type s e = type_of_left s (own_match s e) (type_at s (typed_token e))
 abbrev pub reference_place : Source → Instances → ℕ → Expression → Term
 reference_place s m i e = qualified_place (qualification s (left_type s e)) (result_place s m i (result_meant s e) (close_place s m i e))
 
+abbrev pub left_plain : Source → Instances → ℕ → (line : ℕ) → Option DeclNo → Expression → Left
+left_plain s m i line None e = left_variable s m i e
+left_plain s m i line (Some d) e = LeftAddress (name_term s m i d NoMore (ForPlace false line))
+
+-- The actual of a formal parameter by name has a qualification of its own, so that what is assigned is held against both.
+abbrev pub left_named : (class : Option ℕ) → (line : ℕ) → Term → Left
+left_named None line place = LeftUnbuilt
+left_named (Some k) line place = LeftNamed k line place
+
+abbrev pub reference_left : Source → Instances → ℕ → (line : ℕ) → Option DeclNo → Expression → Left
+reference_left s m i line None e = LeftReference line (reference_place s m i e)
+reference_left s m i line (Some d) e = left_named (class_of_formal s d) line (name_term s m i d NoMore (ForPlace false line))
+
 -- `:=` assigns a text to a text, and any other value to a variable; `:-` assigns a text to a variable, and a reference
 abbrev pub close_left_of : (text : Bool) → Assignment → Source → Instances → ℕ → (line : ℕ) → Expression → Left
-close_left_of true assignment.Value s m i line e = LeftText line (left_text s m i e)
-close_left_of true assignment.Reference s m i line e = left_variable s m i e
-close_left_of false assignment.Value s m i line e = left_variable s m i e
-close_left_of false assignment.Reference s m i line e = LeftReference line (reference_place s m i e)
+close_left_of true assignment.Value s m i line e = LeftText line (left_text s m i line e)
+close_left_of true assignment.Reference s m i line e = left_plain s m i line (by_name s e) e
+close_left_of false assignment.Value s m i line e = left_plain s m i line (by_name s e) e
+close_left_of false assignment.Reference s m i line e = reference_left s m i line (by_name s e) e
 
 -- a left side, with the line of its sign
 abbrev pub close_left : Source → Instances → ℕ → Assignment → (line : ℕ) → Expression → Left

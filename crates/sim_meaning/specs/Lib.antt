@@ -20,3 +20,4 @@ pub mod CoroutineExamples
 pub mod SetExamples
 pub mod SimulationExamples
 pub mod VirtualExamples
+pub mod NameExamples

@@ -6,18 +6,19 @@ use Rattle.sim_tree.specs.declared.stmt.TypeName.{TypeName}
 use Rattle.sim_tree.specs.Syntax.{Declarations, Statements}
 use Rattle.sim_values.specs.Plain.{Object}
 use Rattle.sim_code.specs.Outcome.{Going, Normal, Run, World, after, first_world}
-use Rattle.sim_code.specs.Events.{applying_one, applying_two, choosing, entering, having, joining, no_rule, performing, pop_integers, pop_many, pop_object, pop_truth, popping, stopping, testing_step, ticking, when}
+use Rattle.sim_code.specs.Events.{applying_one, applying_two, choosing, entering, having, joining, no_rule, performing, pop_integers, pop_many, pop_object, pop_truth, popping, qualifying, stopping, testing_step, ticking, when}
 use Rattle.sim_code.specs.Arrays.{giving_back, handed_over, making_array, pairs}
 use Rattle.sim_code.specs.Instances.{Instance, given, is_given_at_end, is_live, no_instances, object_ended}
 use Rattle.sim_code.specs.Sets.{performing_set}
+use Rattle.sim_code.specs.Thunks.{locating}
 use Rattle.sim_code.specs.Virtuals.{counting, matching}
-use Rattle.sim_meaning.specs.Pending.{Activation, ActivateOp, AgainOp, ArrayOp, ArrayValue, AttributeOp, BackOp, BlockOp, BranchOp, CallOp, CallValueOp, CheckOp, ChooseOp, Configuration, ConnectOp, CopyOp, DeclareOp, Do, DropOp, ElementOp, ElementsOp, EndBlock, EndLevel, EndObject, EndPrefixed, EndProcedure, EndProcessOp, EndProgram, EnterOp, Eval, Exec, Execs, FetchOp, FitsOp, GiveOp, Held, IfOp, InnerOp, Instances, Item, JoinOp, KeepOp, LevelOp, Link, MemberOp, NewOp, NotNoneOp, ObjectOp, Of, OneOp, Op, PastOp, PrefixedOp, ProcedureValue, ProcessOp, QuaOp, QualifiedElementOp, RaiseOp, ReferOp, Result, SelfOp, SetOp, SimulationOp, ShareOp, StandardOp, StepOp, StepTestOp, StoreOp, SwapOp, TestOp, TransferOp, TwoOp, Val, VirtualOp, WhenOp, WhileElementOp, cell, instance_in, owner, plain, procedure_in}
+use Rattle.sim_meaning.specs.Pending.{Activation, ActivateOp, Address, AgainOp, ArrayOp, ArrayValue, AttributeOp, BackOp, BlockOp, BranchOp, CallOp, CallValueOp, CheckOp, ChooseOp, CloseOp, Configuration, ConnectOp, CopyOp, DeclareOp, Do, DropOp, ElementOp, ElementsOp, EndBlock, EndEvaluation, EndLevel, EndObject, EndPrefixed, EndProcedure, EndProcessOp, EndProgram, EnterOp, Eval, Exec, Execs, FetchOp, FitsOp, ForPlace, ForValue, GiveOp, Held, IfOp, InnerOp, Instances, Item, JoinOp, KeepOp, Key, LevelOp, Link, MemberOp, NamedOp, NewOp, NotNoneOp, ObjectOp, Of, OneOp, Op, PastOp, PrefixedOp, ProcedureValue, ProcessOp, QuaOp, QualifiedElementOp, RaiseOp, ReferOp, Result, SelfOp, SetOp, SimulationOp, ShareOp, StandardOp, StepOp, StepTestOp, StoreOp, SwapOp, TestOp, TransferOp, TwoOp, Use, Val, VirtualOp, WhenOp, WhileElementOp, actual_in, cell, instance_in, owner, plain, procedure_in}
 use Rattle.sim_meaning.specs.Constants.{constants_of}
 use Rattle.sim_meaning.specs.Texts.{BlockText, PrefixedText, ProcedureText, Text, text}
-use Rattle.sim_meaning.specs.Levels.{levels}
-use Rattle.sim_meaning.specs.Closing.{close}
+use Rattle.sim_meaning.specs.Levels.{levels, stands_in}
+use Rattle.sim_meaning.specs.Closing.{close, close_actual}
 use Rattle.sim_meaning.specs.Virtuals.{match_at}
-use Rattle.sim_meaning.specs.Steps.{copied, element_found, eval, fetched, given_to, go, operand, put_back, stored, with_value}
+use Rattle.sim_meaning.specs.Steps.{copied, element_found, eval, fetched, given_to, go, operand, put_back, stored, value_at, with_value}
 use Rattle.sim_meaning.specs.Statements.{elements, exec, execs, first_branch, raised, step_tested, while_element}
 use Rattle.sim_meaning.specs.Objects.{activation_done, attribute_found, block_begun, cells_of_levels, fitted, generated, inner_done, kept, member_tested, levels_work, not_none, object_found, prefix_done, process_ended, process_told, qua_tested, qualified_element_found, referred, simulation_done, transfer_done}
 use Rattle.sim_meaning.specs.Connections.{inspected, inspected_when}
@@ -69,6 +70,34 @@ abbrev pub value_called : Source → Limits → World → Instances → ℕ → 
 value_called s l o m i w vals rest line =
     popping vals o (λ v vals. having (procedure_in v) o (λ q. when (is_live m q.1) o (
     procedure_entered s l o m i w vals rest q.0 line [] q.1 (text s q.0))))
+
+-- ---- parameters by name
+
+-- A use takes its tick, and then the actual is evaluated for the instance in which it stands. It is closed there, and not before.
+abbrev pub name_used : Limits → World → Instances → ℕ → List Item → List Val → List Activation → (instance : ℕ) → Key → Use → Run Configuration
+name_used l o m i w vals rest j key wanted =
+    having (cell m j key) o (λ v. having (actual_in v) o (λ a. ticking l o (λ p. when (is_live m a.0) p (
+    go p m a.0 (Do (CloseOp a.1) ∷ EndEvaluation wanted ∷ []) [] (record { instance = i; work = w; values = vals } ∷ rest)))))
+
+-- the value that an actual gave: itself, or what is where it lies
+abbrev pub value_given : World → Instances → Val → Option Val
+value_given o m (Address p) = value_at o m p
+value_given o m v = Some v
+
+abbrev pub is_place : Val → Bool
+is_place (Address p) = true
+is_place _ = false
+
+-- goes on with a value that may stand where references of a class stand
+abbrev pub admitted : Source → Instances → (class : Option ℕ) → (line : ℕ) → Val → World → Run Configuration → Run Configuration
+admitted s m None line v o r = r
+admitted s m (Some k) line v o r = having (plain v) o (λ p. qualifying line (stands_in s m k) p o r)
+
+-- what an evaluation gave goes to the activation below, which asked for its value or for where it lies
+abbrev pub evaluated : Source → World → Instances → List Activation → Use → Val → Run Configuration
+evaluated s o m [] wanted v = no_rule o
+evaluated s o m (a ∷ rest) (ForValue class line) v = having (value_given o m v) o (λ v. admitted s m class line v o (go o m a.instance a.work (v ∷ a.values) rest))
+evaluated s o m (a ∷ rest) (ForPlace value_too line) v = locating line (is_place v) value_too o (go o m a.instance a.work (v ∷ a.values) rest)
 
 -- ---- ends
 
@@ -129,6 +158,8 @@ do_op s l o m i w vals rest (SimulationOp name line) = simulation_done s o m i w
 do_op s l o m i w vals rest (VirtualOp v line) = match_taken s o m i w vals rest v line
 do_op s l o m i w vals rest (CheckOp n line) = number_checked s o m i w vals rest n line
 do_op s l o m i w vals rest (CallValueOp line) = value_called s l o m i w vals rest line
+do_op s l o m i w vals rest (NamedOp j key wanted) = name_used l o m i w vals rest j key wanted
+do_op s l o m i w vals rest (CloseOp e) = go o m i (Do (Eval (close_actual s m i e)) ∷ w) vals rest
 do_op s l o m i w vals rest (SetOp name) = performing_set plain name vals o (λ p value vals. go p m i w (with_value value vals) rest)
 -- values in hand, and assignments
 do_op s l o m i w vals rest DropOp = popping vals o (λ v vals. go o m i w vals rest)
@@ -174,6 +205,7 @@ do_item s l o m i w vals rest (EndLevel k) = go o m i w vals rest
 -- each object that ends takes its tick
 do_item s l o m i w vals rest EndObject = ticking l o (λ p. object_ended owner p m i rest)
 do_item s l o m i w vals rest EndPrefixed = leaving s rest None i o m
+do_item s l o m i w vals rest (EndEvaluation wanted) = popping vals o (λ v vals. evaluated s o m rest wanted v)
 do_item s l o m i w vals rest EndProgram = stopping Normal o
 
 abbrev pub do_work : Source → Limits → World → Instances → ℕ → List Val → List Activation → List Item → Run Configuration

@@ -17,6 +17,11 @@ pub data Key : Type 0 where
   Result : Key
   Connection : (token : ℕ) → Key
 
+-- What a use of a parameter by name asks for: a value, held against a class; or where a variable lies, and whether a value is enough too.
+pub data Use : Type 0 where
+  ForValue : (class : Option ℕ) → (line : ℕ) → Use
+  ForPlace : (value_too : Bool) → (line : ℕ) → Use
+
 -- A closed tree has no identifiers: each is a cell of an instance, or a text with the instance in which it is declared. So it means the
 -- same wherever it is evaluated. The line is that of its errors.
 mutual
@@ -63,6 +68,10 @@ mutual
     SimulationOf : (block : ℕ) → Standard → (actuals : Terms) → (line : ℕ) → Term
     -- a call of what matches a virtual procedure in the class of an object, with so many actual parameters
     VirtualOf : (object : Term) → (virtual actuals line : ℕ) → Term
+    -- An actual parameter by name, for the instance in which it stands. And what a formal parameter by name gives: its value, held against its
+    -- qualification, or where it lies, or else its value where that is enough.
+    ActualOf : (home : ℕ) → Expression → Term
+    NamedOf : (instance : ℕ) → Key → Use → Term
     -- a form that is not built
     Unbuilt : Term
 
@@ -71,14 +80,14 @@ mutual
     Further : Term → Terms → Terms
 
 -- A value in hand or in a cell: a plain value; an instance in which a procedure is declared; where a variable lies, with the class of a
--- reference there; an array; a procedure with that instance; the closed tree of an actual by name.
+-- reference there; an array; a procedure with that instance; an actual by name, with the instance in which it stands.
 pub data Val : Type 0 where
   Of : Plain → Val
   Link : (instance : ℕ) → Val
   Address : Place Key (Option ℕ) → Val
   ArrayValue : (array : ℕ) → Val
   ProcedureValue : (text instance : ℕ) → Val
-  Tree : Term → Val
+  Actual : (home : ℕ) → Expression → Val
 
 abbrev pub plain : Val → Option Plain
 plain (Of p) = Some p
@@ -103,6 +112,10 @@ abbrev pub procedure_in : Val → Option (ℕ × ℕ)
 procedure_in (ProcedureValue k j) = Some (k, j)
 procedure_in _ = None
 
+abbrev pub actual_in : Val → Option (ℕ × Expression)
+actual_in (Actual j e) = Some (j, e)
+actual_in _ = None
+
 abbrev pub instance_in : Val → Option ℕ
 instance_in (Link j) = Some j
 instance_in _ = None
@@ -116,6 +129,8 @@ pub data Target : Type 0 where
   ToText : (line : ℕ) → Target
   ToTextOf : (instance : ℕ) → Key → (line : ℕ) → Target
   ToReference : (line : ℕ) → Target
+  -- where a parameter by name lies, which has a class of its own
+  ToNamed : (class line : ℕ) → Target
   ToPlace : (place : Term) → Target
   ToTextAt : (place : Term) → (line : ℕ) → Target
   ToReferenceAt : (place : Term) → (line : ℕ) → Target
@@ -159,6 +174,9 @@ pub data Op : Type 0 where
   VirtualOp : (virtual line : ℕ) → Op
   CheckOp : (actuals line : ℕ) → Op
   CallValueOp : (line : ℕ) → Op
+  -- a parameter by name that is in a cell is used; its actual is closed, in the instance in which that stands
+  NamedOp : (instance : ℕ) → Key → Use → Op
+  CloseOp : Expression → Op
   -- the value in hand is dropped, or there once more; the last two change places
   DropOp : Op
   AgainOp : Op
@@ -214,16 +232,30 @@ pub data Item : Type 0 where
   EndLevel : (text : ℕ) → Item
   EndObject : Item
   EndPrefixed : Item
+  -- of the evaluation of an actual parameter by name
+  EndEvaluation : Use → Item
   EndProgram : Item
 
--- An instance on a chain, with its pending work and its values in hand, the last one first.
+-- An instance on a chain, with its pending work and its values in hand, the last one first; or the evaluation of an actual parameter by name for
+-- the instance in which that stands. Its end tells which.
 pub record Activation : Type 0 where
   pub instance : ℕ
   pub work : List Item
   pub values : List Val
 
+abbrev pub is_evaluation : Item → Bool
+is_evaluation (EndEvaluation wanted) = true
+is_evaluation _ = false
+
+-- whether work is that of an evaluation, which it ends
+abbrev pub evaluates : List Item → Bool
+evaluates [] = false
+evaluates (x ∷ []) = is_evaluation x
+evaluates (x ∷ y ∷ w) = evaluates (y ∷ w)
+
+-- an evaluation is no instance
 abbrev pub owner : Activation → Option ℕ
-owner a = Some a.instance
+owner a = if evaluates a.work then None else Some a.instance
 
 -- a cell and what it holds, which may be nothing yet
 pub record Held : Type 0 where

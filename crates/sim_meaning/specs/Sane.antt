@@ -1,6 +1,6 @@
 -- What the code of a program may count on at each moment of the program's run: the instance that operates lives with its enclosers, and
 -- stands at no other place of the chains; and the components are as transfers of control leave them.
-use Rattle.std.specs.Prelude.{◌≡◌, ⊤, ℕ, true, List, [], ◌∷◌, slice_get, Some, None}
+use Rattle.std.specs.Prelude.{◌≡◌, ⊤, ℕ, true, List, [], ◌∷◌, slice_get, Option, Some, None}
 use Rattle.sim_base.specs.declared.limits.Limits.{Limits}
 use Rattle.sim_chains.specs.Components.{DetachedObject, NoObject, Standing}
 use Rattle.sim_chains.specs.WellFormed.{IsWellFormed}
@@ -9,7 +9,7 @@ use Rattle.sim_values.specs.Plain.{MainOf, Object}
 use Rattle.sim_code.specs.Outcome.{Ended, Going, NoRule, World}
 use Rattle.sim_code.specs.Instances.{Instance, Memory, components, live, system_head}
 use Rattle.sim_meaning.specs.Levels.{has_levels, is_simulation_text}
-use Rattle.sim_meaning.specs.Meaning.{run}
+use Rattle.sim_meaning.specs.Meaning.{run, value_given}
 use Rattle.sim_meaning.specs.Pending.{Activation, Configuration, Held, Instances, Val}
 use Rattle.sim_meaning.specs.Pending as pending
 use Rattle.sim_meaning.specs.Texts.{text}
@@ -37,9 +37,27 @@ AllKept Of m = (j : ℕ) (x : Standing Activation) → slice_get m.standings j �
 abbrev pub Other : (instance : ℕ) → ℕ → Type 0
 Other instance j = j ≡ instance → ⊥
 
+-- what stands on a chain as an instance itself, and is no evaluation
+abbrev pub OwnerOf : (Of : ℕ → Type 0) → Option ℕ → Type 0
+OwnerOf Of None = ⊤
+OwnerOf Of (Some j) = Of j
+
+-- each instance that stands on a chain as itself
+abbrev pub OwnersOf : (Of : ℕ → Type 0) → List Activation → Type 0
+OwnersOf Of [] = ⊤
+OwnersOf Of (a ∷ rest) = OwnerOf Of (pending.owner a) × OwnersOf Of rest
+
+abbrev pub OwnersKeptOf : (Of : ℕ → Type 0) → Standing Activation → Type 0
+OwnersKeptOf Of (NoObject (Some chain)) = OwnersOf Of chain
+OwnersKeptOf Of (DetachedObject chain) = OwnersOf Of chain
+OwnersKeptOf Of _ = ⊤
+
+abbrev pub OwnersKept : (Of : ℕ → Type 0) → Instances → Type 0
+OwnersKept Of m = (j : ℕ) (x : Standing Activation) → slice_get m.standings j ≡ Some x → OwnersKeptOf Of x
+
 abbrev pub SaneOn : Instances → List Activation → Type 0
 SaneOn m [] = ⊤
-SaneOn m (a ∷ rest) = Lives m a.instance × AllOf (Other a.instance) rest × AllKept (Other a.instance) m × IsWellFormed pending.owner (system_head m) (components (record { chain = a ∷ rest; memory = m }))
+SaneOn m (a ∷ rest) = Lives m a.instance × OwnerOf (λ j. OwnersOf (Other j) rest × OwnersKept (Other j) m) (pending.owner a) × IsWellFormed pending.owner (system_head m) (components (record { chain = a ∷ rest; memory = m }))
 
 abbrev pub Sane : Configuration → Type 0
 Sane c = SaneOn c.memory c.chain
@@ -76,10 +94,19 @@ abbrev pub AllName : Source → Instances → List Val → Type 0
 AllName s m [] = ⊤
 AllName s m (v ∷ vals) = Names s m v × AllName s m vals
 
-abbrev pub NamesOn : Source → Instances → List Activation → Type 0
-NamesOn s m [] = ⊤
-NamesOn s m (a ∷ rest) = AllName s m a.values
+-- what is given where a value was asked for: itself, or what lies where it leads
+abbrev pub Leads : Source → World → Instances → Val → Type 0
+Leads s o m v = (x : Val) → value_given o m v ≡ Some x → Names s m x
 
--- Each reference that the operating instance has in hand names an object, at each moment of a run.
+abbrev pub AllLead : Source → World → Instances → List Val → Type 0
+AllLead s o m [] = ⊤
+AllLead s o m (v ∷ vals) = Leads s o m v × AllLead s o m vals
+
+abbrev pub NamesOn : Source → World → Instances → List Activation → Type 0
+NamesOn s o m [] = ⊤
+NamesOn s o m (a ∷ rest) = AllName s m a.values × AllLead s o m a.values
+
+-- Each reference that the operating instance has in hand names an object, at each moment of a run; and so does what lies where a value in hand
+-- leads.
 abbrev pub NamesObjects : Source → Type 0
-NamesObjects s = (l : Limits) (input : List ℕ) (n : ℕ) (o : World) (c : Configuration) → run s l input n ≡ Going o c → NamesOn s c.memory c.chain
+NamesObjects s = (l : Limits) (input : List ℕ) (n : ℕ) (o : World) (c : Configuration) → run s l input n ≡ Going o c → NamesOn s o c.memory c.chain

@@ -29,8 +29,8 @@ use Rattle.sim_code.specs.Instances.{at_level}
 use Rattle.sim_code.specs.Scheduling.{AtTime, Beside, Directly, Timing, WithDelay}
 use Rattle.sim_meaning.specs.Levels.{levels, levels_inside, text_at}
 use Rattle.sim_meaning.specs.Names.{procedure_named}
-use Rattle.sim_meaning.specs.Pending.{Activation as Waiting, ActivateOp, AgainOp, BlockOp, BackOp, BranchOp, Cell, ChooseOp, Configuration, ConnectOp, Do, DropOp, ElementsOp, EnterOp, Eval, Exec, Execs, InnerOp, Instances, Item, Level, Op, PastOp, PrefixedOp, RaiseOp, ShareOp, StepOp, StepTestOp, StoreOp, Key, Target, Term, Terms, TestOp, ToAddress, ToCell, ToPlace, ToReference, ToReferenceAt, ToText, ToTextAt, ToTextOf, TwoOp, Val, ValueAt, WhenOp, WhileElementOp}
-use Rattle.sim_meaning.specs.Closing.{Left, LeftAddress, LeftCell, LeftReference, LeftText, class_parameters, close, close_left, close_parameters, has_type, is_text, left_variable, reference_place}
+use Rattle.sim_meaning.specs.Pending.{Activation as Waiting, ActivateOp, AgainOp, BlockOp, BackOp, BranchOp, Cell, ChooseOp, Configuration, ConnectOp, Do, DropOp, ElementsOp, EnterOp, Eval, Exec, Execs, InnerOp, Instances, Item, Level, Op, PastOp, PrefixedOp, RaiseOp, ShareOp, StepOp, StepTestOp, StoreOp, Key, Target, Term, Terms, TestOp, ToAddress, ToCell, ToNamed, ToPlace, ToReference, ToReferenceAt, ToText, ToTextAt, ToTextOf, TwoOp, Val, ValueAt, WhenOp, WhileElementOp}
+use Rattle.sim_meaning.specs.Closing.{Left, LeftAddress, LeftCell, LeftNamed, LeftReference, LeftText, class_parameters, close, close_left, close_parameters, has_type, is_text, left_variable, reference_place}
 use Rattle.sim_meaning.specs.Steps.{count, each, go}
 
 -- ---- calls
@@ -75,6 +75,7 @@ before (LeftCell j key) (Some x) = Some (record { work = x.work; targets = ToCel
 before (LeftAddress t) (Some x) = Some (record { work = Do (Eval t) ∷ x.work; targets = ToAddress ∷ x.targets })
 before (LeftText line t) (Some x) = Some (record { work = Do (Eval t) ∷ x.work; targets = ToText line ∷ x.targets })
 before (LeftReference line t) (Some x) = Some (record { work = Do (Eval t) ∷ x.work; targets = ToReference line ∷ x.targets })
+before (LeftNamed k line t) (Some x) = Some (record { work = Do (Eval t) ∷ x.work; targets = ToNamed k line ∷ x.targets })
 before _ _ = None
 
 abbrev pub lefts : Source → Instances → ℕ → List LeftSide → Option Lefts
@@ -161,6 +162,7 @@ reading ToAddress w = w
 reading (ToText line) w = w
 reading (ToTextOf j key line) w = Do (Eval (Cell j key)) ∷ w
 reading (ToReference line) w = w
+reading (ToNamed k line) w = w
 reading (ToPlace a) w = Do (Eval (ValueAt a)) ∷ w
 reading (ToTextAt a line) w = Do (Eval (ValueAt a)) ∷ w
 reading (ToReferenceAt a line) w = Do (Eval (ValueAt a)) ∷ w
@@ -171,6 +173,7 @@ finding ToAddress w = w
 finding (ToText line) w = w
 finding (ToTextOf j key line) w = Do (Eval (Cell j key)) ∷ w
 finding (ToReference line) w = w
+finding (ToNamed k line) w = w
 finding (ToPlace a) w = w
 finding (ToTextAt a line) w = Do (Eval (ValueAt a)) ∷ w
 finding (ToReferenceAt a line) w = w

@@ -7,7 +7,7 @@ use Rattle.sim_code.specs.Outcome.{Going, Run, World}
 use Rattle.sim_code.specs.Events.{assigning, having, image_set, image_value, no_rule, only_text, popping}
 use Rattle.sim_code.specs.Arrays.{copying_array, element, element_set, finding_element}
 use Rattle.sim_code.specs.Instances.{CellPlace, ElementPlace, ImagePlace, Place}
-use Rattle.sim_meaning.specs.Pending.{Address, Activation, ArrayValue, AttributeOf, AttributeOp, Cell, CallOf, CallOp, CallValueOp, CheckOp, Configuration, CopyOf, CopyOp, Do, Either, ElementOf, ElementOp, Eval, FetchOp, FitsOf, FitsOp, Further, GiveOp, Given, IfOp, ImageOf, Instances, Item, JoinOp, Joined, KeepOp, KeptOf, Key, Link, MemberOf, MemberOp, NewOf, NewOp, NoTerm, NotNoneOf, NotNoneOp, ObjectOp, Of, One, OneOp, PlaceOf, ProcessOf, ProcessOp, QualifiedElementOf, QualifiedElementOp, QualifiedPlaceOf, QuaOf, QuaOp, ReferOp, RemoteCallOf, SetOf, SetOp, SimulationOf, SimulationOp, StandardOf, StandardOp, StoreOp, SwapOp, Target, Term, Terms, ToAddress, ToCell, ToPlace, ToReference, ToReferenceAt, ToText, ToTextAt, ToTextOf, TransferOf, TransferOp, Two, TwoOp, Unbuilt, Val, ValueAt, VirtualOf, VirtualOp, array_in, cell, cell_set, place_in, plain, variable_in}
+use Rattle.sim_meaning.specs.Pending.{Actual, ActualOf, Address, Activation, ArrayValue, AttributeOf, AttributeOp, Cell, CallOf, CallOp, CallValueOp, CheckOp, Configuration, CopyOf, CopyOp, Do, Either, ElementOf, ElementOp, Eval, FetchOp, FitsOf, FitsOp, Further, GiveOp, Given, IfOp, ImageOf, Instances, Item, JoinOp, Joined, KeepOp, KeptOf, Key, Link, MemberOf, MemberOp, NamedOf, NamedOp, NewOf, NewOp, NoTerm, NotNoneOf, NotNoneOp, ObjectOp, Of, One, OneOp, PlaceOf, ProcessOf, ProcessOp, QualifiedElementOf, QualifiedElementOp, QualifiedPlaceOf, QuaOf, QuaOp, ReferOp, RemoteCallOf, SetOf, SetOp, SimulationOf, SimulationOp, StandardOf, StandardOp, StoreOp, SwapOp, Target, Term, Terms, ToAddress, ToCell, ToNamed, ToPlace, ToReference, ToReferenceAt, ToText, ToTextAt, ToTextOf, TransferOf, TransferOp, Two, TwoOp, Unbuilt, Val, ValueAt, VirtualOf, VirtualOp, array_in, cell, cell_set, place_in, plain, variable_in}
 
 -- the innermost instance goes on with this work and these values in hand
 abbrev pub go : World → Instances → ℕ → List Item → List Val → List Activation → Run Configuration
@@ -58,6 +58,9 @@ eval o m i w vals rest (SetOf name ts) = go o m i (each ts (Do (SetOp name) ∷ 
 eval o m i w vals rest (ProcessOf name line a) = go o m i (Do (Eval a) ∷ Do (ProcessOp name line) ∷ w) vals rest
 eval o m i w vals rest (SimulationOf b name ts line) = go o m i (each ts (Do (SimulationOp name line) ∷ w)) (Link b ∷ vals) rest
 eval o m i w vals rest (VirtualOf a v n line) = go o m i (Do (Eval a) ∷ Do (VirtualOp v line) ∷ Do (CheckOp n line) ∷ Do (CallValueOp line) ∷ w) vals rest
+-- parameters by name
+eval o m i w vals rest (ActualOf j e) = go o m i w (Actual j e ∷ vals) rest
+eval o m i w vals rest (NamedOf j key wanted) = go o m i (Do (NamedOp j key wanted) ∷ w) vals rest
 eval o m i w vals rest Unbuilt = no_rule o
 
 -- the value that lies somewhere
@@ -113,6 +116,7 @@ stored o m i w vals rest ToAddress = popping vals o (λ v vals. popping vals o (
 stored o m i w vals rest (ToText line) = text_assigned o m i w vals rest line
 stored o m i w vals rest (ToTextOf j key line) = text_assigned o m i w vals rest line
 stored o m i w vals rest (ToReference line) = go o m i (Do (ReferOp line) ∷ w) vals rest
+stored o m i w vals rest (ToNamed k line) = go o m i (Do (FitsOp k line) ∷ Do (ReferOp line) ∷ w) vals rest
 -- a variable that is found anew, when its value is there
 stored o m i w vals rest (ToPlace a) = go o m i (Do (Eval a) ∷ Do SwapOp ∷ Do (StoreOp ToAddress) ∷ w) vals rest
 stored o m i w vals rest (ToTextAt a line) = text_assigned o m i w vals rest line

@@ -17,15 +17,9 @@ use Rattle.sim_tree.specs.declared.stmt.Decl.{Decl}
 use Rattle.sim_tree.specs.declared.stmt.Decl.TheOpen.{Stmt-F, Decl-F}
 use Rattle.sim_tree.specs.declared.stmt.ForElement.{ForElement}
 use Rattle.sim_tree.specs.declared.stmt.ForElement.TheVariants as for_element
-use Rattle.sim_tree.specs.declared.stmt.Mode.{Mode}
-use Rattle.sim_tree.specs.declared.stmt.Mode.TheVariants as mode
-use Rattle.sim_tree.specs.declared.stmt.ModePart.{ModePart}
 use Rattle.sim_tree.specs.declared.stmt.Protection.{Protection}
 use Rattle.sim_tree.specs.declared.stmt.ReferenceElement.{ReferenceElement}
 use Rattle.sim_tree.specs.declared.stmt.ReferenceElement.TheVariants as reference_element
-use Rattle.sim_tree.specs.declared.stmt.Specification.{Specification}
-use Rattle.sim_tree.specs.declared.stmt.Specifier.{Specifier}
-use Rattle.sim_tree.specs.declared.stmt.Specifier.TheVariants as specifier
 use Rattle.sim_tree.specs.declared.stmt.Stmt.{Stmt}
 use Rattle.sim_tree.specs.declared.stmt.Timing.{Timing}
 use Rattle.sim_tree.specs.declared.stmt.Timing.TheVariants as timing
@@ -39,7 +33,7 @@ use Rattle.sim_tree.specs.Derivation.{derivation_of, raise, row, expression}
 use Rattle.sim_tree.specs.ProgramDerivation as d
 use Rattle.sim_tree.specs.ProgramDerivation.{Declared, Prefixed, acted, assigned_derivation, begun, block_derivation, contents, declaration_derivation, joined, next_statement, program_derivation, statement_derivation, when_derivation}
 use Rattle.sim_tree.specs.Syntax as s
-use Rattle.sim_tree.specs.Syntax.{Declaration, Declarations, Statement, declarations, statements}
+use Rattle.sim_tree.specs.Syntax.{Declaration, Declarations, Heading, Moded, Specification as SpecificationOf, Statement, declarations, statements}
 use Rattle.sim_tree.specs.Syntax.{Block as BlockSyntax}
 use Rattle.sim_tree.specs.SyntaxOf.{syntax_of}
 use Rattle.sim_tree.specs.SyntaxOfProgram as t
@@ -52,10 +46,10 @@ use Rattle.sim_tree.proofs.ReadStatements.{acted_full}
 use Rattle.sim_scope.specs.declared.types.Position.{Position}
 use Rattle.sim_scope.specs.declared.types.Position.TheVariants.{ClassBody, ClassStatement, Inside}
 use Rattle.sim_scope.specs.Walk.{arms_events, block_events, declaration_events, declarations_events, enclosed, program_events, statement_events, statements_events, whole_events}
-use Rattle.sim_static.specs.UnbuiltForms.{forms, has_code, has_unbuilt_form, is_by_name, is_name, is_of_procedures, is_procedure, yes}
+use Rattle.sim_static.specs.UnbuiltForms.{forms, has_code, has_unbuilt_form, is_unbuilt, yes}
 use Rattle.sim_static.specs.UnbuiltNames.{has_unbuilt_name, is_new}
 use Rattle.sim_plain.specs.Clean.{Clean, CleanBehind}
-use Rattle.sim_agree.specs.Plain.{Each, Plain, PlainArms, PlainBlock, PlainBounds, PlainDeclaration, PlainDeclarations, PlainElement, PlainExpression, PlainHeading, PlainMode, PlainSchedule, PlainSegment, PlainSide, PlainSpecification, PlainSpecified, PlainStart, PlainStatement, PlainStatements, PlainWord}
+use Rattle.sim_agree.specs.Plain.{Each, Plain, PlainArms, PlainBlock, PlainBounds, PlainDeclaration, PlainDeclarations, PlainElement, PlainExpression, PlainHeading, PlainSchedule, PlainSegment, PlainSide, PlainSpecification, PlainStart, PlainStatement, PlainStatements}
 use Rattle.sim_plain.proofs.Expressions.{operand_plain, plain_expr, valued, arguments_given}
 use Rattle.sim_plain.proofs.Tokens.{none_spells, reads_clean}
 
@@ -216,27 +210,12 @@ assigned_plain e (x ∷ xs) token full c =
 
 -- ---- headings
 
-plain_word : (w : Mode) → is_name w ≡ false → PlainWord w
-plain_word mode.Value h = tt
-plain_word mode.Name h = absurd (no h)
+plain_specifications : (modes : List Moded) (xs : List SpecificationOf) → list_any (is_unbuilt modes) xs ≡ false → Each (PlainSpecification modes) xs
+plain_specifications modes [] h = tt
+plain_specifications modes (x ∷ xs) h = let both = either (is_unbuilt modes x) (list_any (is_unbuilt modes) xs) h in (both.0, plain_specifications modes xs both.1)
 
-plain_modes : (ms : List ModePart) → list_any is_by_name (map t.mode_syntax ms) ≡ false → Each PlainMode (map t.mode_syntax ms)
-plain_modes [] h = tt
-plain_modes (m ∷ ms) h = let both = either (is_name m.mode) (list_any is_by_name (map t.mode_syntax ms)) h in (plain_word m.mode both.0, plain_modes ms both.1)
-
-plain_specifier : (x : Specifier) → is_procedure (t.specifier_syntax x) ≡ false → PlainSpecified (t.specifier_syntax x)
-plain_specifier (specifier.Simple n) h = tt
-plain_specifier (specifier.Array n i) h = tt
-plain_specifier (specifier.Procedure n i) h = absurd (no h)
-
-plain_specifications : (xs : List Specification) → list_any is_of_procedures (map t.specification_syntax xs) ≡ false → Each PlainSpecification (map t.specification_syntax xs)
-plain_specifications [] h = tt
-plain_specifications (x ∷ xs) h =
-    let both = either (is_procedure (t.specifier_syntax x.specifier)) (list_any is_of_procedures (map t.specification_syntax xs)) h in
-    (plain_specifier x.specifier both.0, plain_specifications xs both.1)
-
-plain_heading : (name : Identifier) (ps : List Identifier) (ms : List ModePart) (xs : List Specification) → has_code (t.heading_syntax name ps ms xs) ≡ false → PlainHeading (t.heading_syntax name ps ms xs)
-plain_heading name ps ms xs h = let both = either (list_any is_by_name (map t.mode_syntax ms)) (list_any is_of_procedures (map t.specification_syntax xs)) h in (plain_modes ms both.0, plain_specifications xs both.1)
+plain_heading : (h : Heading) → has_code h ≡ false → PlainHeading h
+plain_heading h e = plain_specifications h.modes h.specifications e
 
 -- ---- blocks
 
@@ -374,7 +353,7 @@ class_step q full c prefix i free =
     let code = has_code (t.heading_syntax q.name q.parameters.items q.modes.items q.specifications.items) in
     let both = free_first code (body ++ []) free in
     let inside = past_interface q.protections.items q.virtuals.items (node g.Statement (statement_derivation q.body.value.0) (place q.end.0 done)) full.2 c.1.1 in (
-      plain_heading q.name q.parameters.items q.modes.items q.specifications.items both.0,
+      plain_heading (t.heading_syntax q.name q.parameters.items q.modes.items q.specifications.items) both.0,
       q.body.value.1 inside.0.0 inside.0.1 inside.1.0 ClassBody (free_both body [] both.1).0,
     )
 
@@ -383,7 +362,7 @@ procedure_step p full c result i free =
     let body = statement_events forms Inside (statement_syntax p.body.value.0) in
     let h = has_code (t.heading_syntax p.name p.parameters.items p.modes.items p.specifications.items) in
     let both = free_first h (body ++ []) free in (
-      plain_heading p.name p.parameters.items p.modes.items p.specifications.items both.0,
+      plain_heading (t.heading_syntax p.name p.parameters.items p.modes.items p.specifications.items) both.0,
       p.body.value.1 full.2.0 full.2.1 c.1.1.0 Inside (free_both body [] both.1).0,
     )
 

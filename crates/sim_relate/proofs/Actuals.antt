@@ -26,7 +26,7 @@ use Rattle.sim_meaning.specs.Texts.{is_class_free, text}
 use Rattle.codegen.specs.Compiled.{RecordOf, code_formal, parameters_of, type_of_name}
 use Rattle.sim_relate.proofs.Ends.{is_typed}
 use Rattle.sim_relate.proofs.Heads.{kept_standings}
-use Rattle.sim_relate.proofs.Known.{Any, Every, Kind, StackAt, ValAt, anys, array_at, element_at, image_at, link_at, more_at, plain_at}
+use Rattle.sim_relate.proofs.Known.{actual_at, Any, Every, Kind, StackAt, ValAt, anys, array_at, element_at, image_at, link_at, more_at, plain_at}
 use Rattle.sim_relate.proofs.Relation.{Changed, StoreAt}
 use Rattle.sim_relate.proofs.Slots.{results}
 use Rattle.sim_relate.proofs.Stores.{SameOwners, keeps_kept, kept_long, later_kept, store_kept, unchanged}
@@ -61,35 +61,36 @@ array_by mode.ByReference shape.Procedure f em ek = rw em
 
 -- ---- actual parameters
 
-array_same : (v : Val) (x : Value) (rest : List ℕ) → ValAt v x → machine.with_array_of x rest ≡ with_array_of v rest
+array_same : {s : Source} {code : CodeOf} {m : Instances} (v : Val) (x : Value) (rest : List ℕ) → ValAt s code m v x → machine.with_array_of x rest ≡ with_array_of v rest
 array_same _ _ rest plain_at = refl
 array_same _ _ rest link_at = refl
 array_same _ _ rest array_at = refl
 array_same _ _ rest element_at = refl
 array_same _ _ rest image_at = refl
+array_same _ _ rest (actual_at h) = refl
 
-pub arrays_same : (fs : List Formal) (vs : List Val) (xs : List Value) → EachAt ValAt vs xs → machine.arrays_by_value (map code_formal fs) xs ≡ arrays_by_value fs vs
-arrays_same [] vs xs e = refl
-arrays_same (f ∷ fs) [] [] e = refl
-arrays_same (f ∷ fs) [] (x ∷ xs) e = absurd e
-arrays_same (f ∷ fs) (v ∷ vs) [] e = absurd e
-arrays_same (f ∷ fs) (v ∷ vs) (x ∷ xs) e =
-    let more = arrays_same fs vs xs e.1 in
+pub arrays_same : (s : Source) (code : CodeOf) (m : Instances) (fs : List Formal) (vs : List Val) (xs : List Value) → EachAt (ValAt s code m) vs xs → machine.arrays_by_value (map code_formal fs) xs ≡ arrays_by_value fs vs
+arrays_same s code m [] vs xs e = refl
+arrays_same s code m (f ∷ fs) [] [] e = refl
+arrays_same s code m (f ∷ fs) [] (x ∷ xs) e = absurd e
+arrays_same s code m (f ∷ fs) (v ∷ vs) [] e = absurd e
+arrays_same s code m (f ∷ fs) (v ∷ vs) (x ∷ xs) e =
+    let more = arrays_same s code m fs vs xs e.1 in
     ap (λ b. if b then machine.with_array_of x (machine.arrays_by_value (map code_formal fs) xs) else machine.arrays_by_value (map code_formal fs) xs) (array_by f.mode f.kind f refl refl) ∙
     ap (λ z. if is_array_by_value f.mode f.kind then machine.with_array_of x z else z) more ∙
     ap (λ z. if is_array_by_value f.mode f.kind then z else arrays_by_value fs vs) (array_same v x (arrays_by_value fs vs) e.0)
 
-pub among_same : (vs : List Val) (xs : List Value) → EachAt ValAt vs xs → machine.arrays_among xs ≡ arrays_among vs
-among_same [] [] e = refl
-among_same [] (x ∷ xs) e = absurd e
-among_same (v ∷ vs) [] e = absurd e
-among_same (v ∷ vs) (x ∷ xs) e = ap (machine.with_array_of x) (among_same vs xs e.1) ∙ array_same v x (arrays_among vs) e.0
+pub among_same : (s : Source) (code : CodeOf) (m : Instances) (vs : List Val) (xs : List Value) → EachAt (ValAt s code m) vs xs → machine.arrays_among xs ≡ arrays_among vs
+among_same s code m [] [] e = refl
+among_same s code m [] (x ∷ xs) e = absurd e
+among_same s code m (v ∷ vs) [] e = absurd e
+among_same s code m (v ∷ vs) (x ∷ xs) e = ap (machine.with_array_of x) (among_same s code m vs xs e.1) ∙ array_same v x (arrays_among vs) e.0
 
-pub each_length : (vs : List Val) (xs : List Value) → EachAt ValAt vs xs → length xs ≡ length vs
-each_length [] [] e = refl
-each_length [] (x ∷ xs) e = absurd e
-each_length (v ∷ vs) [] e = absurd e
-each_length (v ∷ vs) (x ∷ xs) e = ap suc (each_length vs xs e.1)
+pub each_length : (s : Source) (code : CodeOf) (m : Instances) (vs : List Val) (xs : List Value) → EachAt (ValAt s code m) vs xs → length xs ≡ length vs
+each_length s code m [] [] e = refl
+each_length s code m [] (x ∷ xs) e = absurd e
+each_length s code m (v ∷ vs) [] e = absurd e
+each_length s code m (v ∷ vs) (x ∷ xs) e = ap suc (each_length s code m vs xs e.1)
 
 -- as many values of either side, and how many they are
 pub counted_many : (S M : Type 0) (R : S → M → Type 0) (W : Kind → Val → Value → Type 0) (m total : ℕ) (left : List Kind) (got : List Val) (got' : List Value) (vals : List Val) (stack : List Value) (o : World) (r : List Val → List Val → Run S) (q : List Value → List Value → Run M) → StackAt W (anys m left) vals stack → EachAt (W Any) got got' → m + length got ≡ total

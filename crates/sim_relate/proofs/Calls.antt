@@ -17,7 +17,7 @@ use Rattle.sim_code.specs.Rows.{has_room, on_top, room_for, standard_of}
 use Rattle.sim_code.specs.Rows as rows
 use Rattle.sim_code.specs.Sets.{is_set_name}
 use Rattle.sim_code.specs.Simulations.{is_process_name, is_simulation_name}
-use Rattle.sim_code.proofs.Lifts.{alike_found, Both, alike_having, alike_no_rule, alike_same, alike_stopping, alike_taking}
+use Rattle.sim_code.proofs.Lifts.{alike_unruled, alike_found, Both, alike_having, alike_no_rule, alike_same, alike_stopping, alike_taking}
 use Rattle.sim_code.proofs.Simulation.{Alike, unruled}
 use Rattle.sim_meaning.specs.Meaning.{do_op}
 use Rattle.sim_meaning.specs.Pending.{Activation, Configuration, Instances, Item, StandardOp, Val, Key, cell, cell_set}
@@ -26,7 +26,7 @@ use Rattle.sim_meaning.specs.Statements.{has_value}
 use Rattle.sim_meaning.specs.Steps.{go, with_value, of_plain, operand, plain_in, put_back, putting}
 use Rattle.sim_meaning.specs.Texts.{text}
 use Rattle.codegen_expr.specs.Sites.{HasCell, slot_of, frame_text}
-use Rattle.sim_relate.proofs.Known.{FixedOf, OwnerOf, Refers, is_declared, is_fixed, Every, HandAt, Kind, StackAt, given, more_at, plain_at, site_at, AllRead, Any, IsRead, LinkTo, Located, Stands, ValAt, array_at, element_at, image_at, link_at, Runs, Settled, LinkOf, MatchOf}
+use Rattle.sim_relate.proofs.Known.{Named, NamedAt, PlaceIs, RefersAt, actual_at, named_place, named_reference, named_value, refers_cell, refers_element, FixedOf, OwnerOf, Refers, is_declared, is_fixed, Every, HandAt, Kind, StackAt, given, more_at, plain_at, site_at, AllRead, Any, IsRead, LinkTo, Located, Stands, ValAt, array_at, element_at, image_at, link_at, Runs, Settled, LinkOf, MatchOf}
 use Rattle.sim_relate.proofs.Relation.{ChainAt, Changed, OpAt, StateAt, WorkAt}
 use Rattle.sim_relate.proofs.Hands.{stack_length, FirstAt, hand_operands}
 use Rattle.sim_relate.proofs.Here.{Here, act, at_row, kinds_as}
@@ -65,25 +65,39 @@ module _ (s : Source) (code : CodeOf) (l : Limits) (o : World) (m : Instances) (
   plain_same None = refl
   plain_same (Some p) = refl
 
-  both_plain : (v : Option Val) (x : Option Value) → Both ValAt v x → plain_in v ≡ machine.plain_in x
+  both_plain : (v : Option Val) (x : Option Value) → Both (ValAt s code m) v x → plain_in v ≡ machine.plain_in x
   both_plain None None h = refl
   both_plain None (Some x) h = absurd h
   both_plain (Some v) None h = absurd h
   both_plain (Some v) (Some x) h = same_plain v x h
 
-  operand_same : (v : Val) (x : Value) → ValAt v x → operand o m v ≡ machine.operand o fs x
+  operand_same : (v : Val) (x : Value) → ValAt s code m v x → operand o m v ≡ machine.operand o fs x
   operand_same _ _ plain_at = refl
   operand_same _ _ link_at = refl
   operand_same _ _ array_at = refl
   operand_same _ _ (element_at {a} {n}) = plain_same (element o a n)
   operand_same _ _ (image_at {n}) = plain_same (image_value o n)
+  operand_same _ _ (actual_at h) = refl
 
-  reads_same : (k : Kind) → IsRead k → (v : Val) (x : Value) → HandAt s code m k v x → operand o m v ≡ machine.operand o fs x
-  reads_same Any r v x h = operand_same v x h
-  reads_same Located r v x h =
+  refers_same : (k : ℕ) (v : Val) (x : Value) → RefersAt s code m k v x → operand o m v ≡ machine.operand o fs x
+  refers_same k _ _ (refers_cell {j} {t = z} {key} st own has varies declared) = ap only_text (both_plain (cell m j key) (machine.cell fs j (slot_of s code z key)) (cell_read s code m fs j z key here.store st own has varies))
+  refers_same k _ _ (refers_element {a} {n}) = plain_same (element o a n)
+
+  place_same : (v : Val) (x : Value) → PlaceIs s code m v x → operand o m v ≡ machine.operand o fs x
+  place_same v x h =
       ap (operand o m) h.is_val ∙
       ap only_text (both_plain (cell m h.instance h.key) (machine.cell fs h.instance (slot_of s code h.text h.key)) (cell_read s code m fs h.instance h.text h.key here.store h.stands h.own h.has h.varies)) ∙
       ap (machine.operand o fs) (sym h.is_value)
+
+  named_same : (v : Val) (x : Value) → NamedAt s code m v x → operand o m v ≡ machine.operand o fs x
+  named_same v x (named_value h) = operand_same v x h
+  named_same v x (named_place h) = place_same v x h
+  named_same v x (named_reference k class h) = refers_same k v x h
+
+  reads_same : (k : Kind) → IsRead k → (v : Val) (x : Value) → HandAt s code m k v x → operand o m v ≡ machine.operand o fs x
+  reads_same Any r v x h = operand_same v x h
+  reads_same Located r v x h = place_same v x h
+  reads_same Named r v x h = named_same v x h
   reads_same (LinkTo text) r v x h = absurd r
   reads_same (OwnerOf text) r v x h = absurd r
   reads_same (LinkOf j) r v x h = absurd r
@@ -93,13 +107,14 @@ module _ (s : Source) (code : CodeOf) (l : Limits) (o : World) (m : Instances) (
 
   -- it goes back to an element, an image or a cell, or is dropped
   module _ (t2 : TextVal) (p : World) (r : World → Instances → Run Configuration) (y : World → Frames → Run Machine) (as_is : (p : World) → Alike R (r p m) (y p fs)) (after : (p : World) (m' : Instances) (fs' : Frames) → Changed s code Every m fs m' fs' → Alike R (r p m') (y p fs')) where
-    value_back : (v : Val) (x : Value) → ValAt v x → Alike R (put_back v t2 p m r) (rows.put_back x t2 p fs y)
+    value_back : (v : Val) (x : Value) → ValAt s code m v x → Alike R (put_back v t2 p m r) (rows.put_back x t2 p fs y)
     unfolding put_back rows.put_back putting rows.putting having
     value_back _ _ plain_at = as_is p
     value_back _ _ link_at = as_is p
     value_back _ _ array_at = as_is p
     value_back _ _ (element_at {a} {n}) = alike_same Configuration Machine R World (element_set p a n (Text t2)) p _ _ (λ p. as_is p)
     value_back _ _ (image_at {n}) = alike_same Configuration Machine R World (image_set p n (Text t2)) p _ _ (λ p. as_is p)
+    value_back _ _ (actual_at h) = as_is p
 
     cell_back : (j u : ℕ) (key : Key) → Stands s m j u → frame_text s u ≡ u → HasCell s u key → is_fixed s key ≡ false → is_declared key ≡ true → Alike R (put_back (meaning.Address (CellPlace j key None)) t2 p m r) (rows.put_back (machine.Address (CellPlace j (slot_of s code u key) 0)) t2 p fs y)
     unfolding put_back rows.put_back putting rows.putting
@@ -107,11 +122,26 @@ module _ (s : Source) (code : CodeOf) (l : Limits) (o : World) (m : Instances) (
         alike_having Configuration Machine R Instances Frames (Changed s code Every m fs) (cell_set m j key (meaning.Of (Text t2))) (machine.cell_set fs j (slot_of s code u key) (machine.Of (Text t2))) p _ _
         (cell_write s code m fs j u key (meaning.Of (Text t2)) (machine.Of (Text t2)) here.store stands own has varies declared plain_at) (λ m' fs' em efs w. after p m' fs' w)
 
-    back : (k : Kind) → IsRead k → (v : Val) (x : Value) → HandAt s code m k v x → Alike R (put_back v t2 p m r) (rows.put_back x t2 p fs y)
-    back Any i v x h = value_back v x h
-    back Located i v x h =
+    place_back : (v : Val) (x : Value) → PlaceIs s code m v x → Alike R (put_back v t2 p m r) (rows.put_back x t2 p fs y)
+    place_back v x h =
         subst (λ z. Alike R (put_back z t2 p m r) (rows.put_back x t2 p fs y)) (sym h.is_val)
         (subst (λ z. Alike R (put_back (meaning.Address (CellPlace h.instance h.key None)) t2 p m r) (rows.put_back z t2 p fs y)) (sym h.is_value) (cell_back h.instance h.text h.key h.stands h.own h.has h.varies h.declared))
+
+    -- a reference is no text
+    reference_back : (k : ℕ) (v : Val) (x : Value) → RefersAt s code m k v x → Alike R (put_back v t2 p m r) (rows.put_back x t2 p fs y)
+    unfolding put_back putting
+    reference_back k _ _ (refers_cell st own has varies declared) = alike_unruled Configuration Machine R p _
+    reference_back k _ _ refers_element = alike_unruled Configuration Machine R p _
+
+    named_back : (v : Val) (x : Value) → NamedAt s code m v x → Alike R (put_back v t2 p m r) (rows.put_back x t2 p fs y)
+    named_back v x (named_value h) = value_back v x h
+    named_back v x (named_place h) = place_back v x h
+    named_back v x (named_reference k class h) = reference_back k v x h
+
+    back : (k : Kind) → IsRead k → (v : Val) (x : Value) → HandAt s code m k v x → Alike R (put_back v t2 p m r) (rows.put_back x t2 p fs y)
+    back Any i v x h = value_back v x h
+    back Located i v x h = place_back v x h
+    back Named i v x h = named_back v x h
     back (LinkTo text) i v x h = absurd i
     back (OwnerOf text) i v x h = absurd i
     back (LinkOf j) i v x h = absurd i
@@ -134,7 +164,7 @@ module _ (s : Source) (code : CodeOf) (l : Limits) (o : World) (m : Instances) (
   left_with None result left vals' stack' e out h = kinds_as s code (sym (out ∙ ap (λ g. given g left) (sym e))) h
   left_with (Some v) result left vals' stack' e out h = kinds_as s code (sym (out ∙ ap (λ g. given g left) (sym e))) (more_at plain_at h)
 
-  roomy : (name : Standard) (many : ℕ) (left : List Kind) → many ≡ length (operands_of (row_of name).function) → AllRead many ks left → (has_value (row_of name).result ≡ true → length left < b.block.room) → room_for name a_top ≡ true
+  roomy : (name : Standard) (many : ℕ) (left : List Kind) → many ≡ length (operands_of (row_of name).function) → AllRead many ks left → (has_value (row_of name).result ≡ true → length left < b.limit) → room_for name a_top ≡ true
   roomy name many left counts e fits =
       let deep : length stack ≡ length (operands_of (row_of name).function) + length left = sym (stack_length ks vals stack here.values) ∙ read_length many ks left e ∙ ap (λ n. n + length left) counts in
       let fits_on : has_value (row_of name).result ≡ true → length left < b.room = λ e.

@@ -1,6 +1,6 @@
 -- What is related stays so in later stores.
-use Rattle.std.proofs.Common.{◌≡◌, ◌<◌, ◌≤◌, ℕ, suc, Bool, false, List, [], ◌∷◌, length, Option, Some, None, refl, sym, ap, subst, ◌∙◌, arith}
-use Rattle.std.specs.Prelude.{slice_get}
+use Rattle.std.proofs.Common.{◌≡◌, ◌+◌, ◌<◌, ◌≤◌, ℕ, suc, Bool, List, [], ◌∷◌, length, Option, Some, None, refl, sym, ap, subst, ◌∙◌, arith}
+use Rattle.std.specs.Prelude.{if◌then◌else◌, slice_get}
 use Rattle.sim_chains.specs.Components.{AttachedObject, DetachedObject, NoObject, ResumedObject, Standing, TerminatedObject}
 use Rattle.sim_scope.specs.Source.{Source, level_of}
 use Rattle.sim_values.specs.Plain.{Character, Integer, Nothing, Object, Plain, Text, Truth, MainOf}
@@ -9,42 +9,45 @@ use Rattle.sim_code.specs.declared.stage.Stage.{Stage}
 use Rattle.sim_code.specs.Code.{BlockOf, CodeOf}
 use Rattle.sim_code.specs.Machine.{Frames, Value}
 use Rattle.sim_code.specs.Machine as machine
-use Rattle.sim_meaning.specs.Pending.{Activation, AttributeOf, BackOp, BranchOp, CallOf, Cell, CopyOf, Do, Either, ElementOf, ElementsOp, EndBlock, EndLevel, EndObject, EndPrefixed, EndProcedure, EndProgram, Eval, FitsOf, Further, Given, GiveOp, IfOp, ImageOf, Instances, Item, Joined, KeptOf, Key, MemberOf, NewOf, NoTerm, NotNoneOf, One, Op, PlaceOf, QuaOf, QualifiedElementOf, QualifiedPlaceOf, RaiseOp, RemoteCallOf, SetOf, ShareOp, StandardOf, StepTestOp, StoreOp, Target, Term, Terms, ToAddress, ToCell, ToPlace, ToReference, ToReferenceAt, ToText, ToTextAt, ToTextOf, TransferOf, Two, Unbuilt, Val, ValueAt, WhileElementOp, BlockOp, ProcessOf, SimulationOf, SimulationOp, ActivateOp, VirtualOf}
-use Rattle.sim_meaning.specs.Sane.{AllKept, AllOf, KeptOf as KeptChains}
-use Rattle.codegen_expr.specs.Sites.{Site, class_number, frame_text, own_end}
+use Rattle.sim_meaning.specs.Pending.{Activation, ActualOf, AttributeOf, BackOp, BranchOp, CallOf, Cell, CopyOf, Do, Either, ElementOf, ElementsOp, EndBlock, EndEvaluation, EndLevel, EndObject, EndPrefixed, EndProcedure, EndProgram, Eval, FitsOf, Further, Given, GiveOp, IfOp, ImageOf, Instances, Item, Joined, KeptOf, Key, MemberOf, NamedOf, NamedOp, NewOf, NoTerm, NotNoneOf, One, Op, PlaceOf, QuaOf, QualifiedElementOf, QualifiedPlaceOf, RaiseOp, RemoteCallOf, SetOf, ShareOp, StandardOf, StepTestOp, StoreOp, Target, Term, Terms, ToAddress, ToCell, ToNamed, ToPlace, ToReference, ToReferenceAt, ToText, ToTextAt, ToTextOf, TransferOf, Two, Unbuilt, Val, ValueAt, WhileElementOp, BlockOp, ProcessOf, SimulationOf, SimulationOp, ActivateOp, Use, VirtualOf, evaluates, is_evaluation, owner}
+use Rattle.sim_meaning.specs.Sane.{OwnerOf, OwnersKept, OwnersKeptOf, OwnersOf}
+use Rattle.codegen_expr.specs.Sites.{Site, class_number, expression_temps, frame_text, own_end}
 use Rattle.codegen.specs.CodeFor.{OfCell, OfPlace, OfReference, Variable}
-use Rattle.sim_relate.proofs.Known.{Any, Every, FixedOf, HandAt, Keeps, Kind, Later, LinkTo, Located, OwnerOf, Reaches, Refers, RefersAt, Runs, Spot, StackAt, Stands, more_at, none_at, placed, refers_cell, refers_element, site_at, LinkOf, MatchOf}
-use Rattle.sim_relate.proofs.Trees.{CellPlaceIs, GivenIs, OperandAt, ReadsAt, TermAt, TermsAt}
-use Rattle.sim_relate.proofs.Waiting.{GetsIs, demand, suspended, suspended_in}
+use Rattle.sim_relate.proofs.Known.{Any, Every, FixedOf, HandAt, Keeps, Kind, Later, LinkTo, Located, Low, Named, NamedAt, OwnerOf as OwnerKind, PlaceIs, Reaches, Refers, RefersAt, Runs, Spot, StackAt, Stands, is_frame_in_use, is_some, low_same, more_at, named_place, named_reference, named_value, none_at, owner_of, placed, refers_cell, refers_element, site_at, LinkOf, MatchOf}
+use Rattle.sim_relate.proofs.Trees.{CellPlaceIs, GivenIs, OperandAt, ReadsAt, TermAt, TermsAt, UseIs}
+use Rattle.sim_relate.proofs.Values.{value_later}
+use Rattle.sim_relate.proofs.Waiting.{GetsIs, NoValue, OfName, Wait, demand, suspended, suspended_by, suspended_in, value_if}
 use Rattle.sim_relate.proofs.Operations.{GivesIs, PlaceStoreIs, StoreIs, TargetAt}
 use Rattle.sim_relate.proofs.Relation.{AtLevel, Bottom, ChainAt, ChainOn, Changed, ComesTo, DeclaredTo, EndAt, InStage, LevelEnds, ObjectIs, OpAt, StandingAt, StandingsAt, VariableIs, WorkAt, at_level, declares, inner_here, inner_last, over, returning, stays, there, to_first, to_next, with_inner, ends_process}
 
-end_later : (s : Source) (code : CodeOf) (Below Below' : Bool → Type 0) → ((v : Bool) → Below v → Below' v) → (t : ℕ) (b : Runs) (x : Item) (p : ℕ) (ks : List Kind) → EndAt s code Below t b x p ks → EndAt s code Below' t b x p ks
-end_later s code Below Below' f t b (Do op) p ks a = absurd a
-end_later s code Below Below' f t b EndBlock p ks a = (a.0, let x = a.1 in record { last = x.last; at = x.at; heads = x.heads; none = x.none; below = f false x.below })
-end_later s code Below Below' f t b (EndProcedure v) p ks a =
-    record { result = a.result; heading = a.heading; body = a.body; is = a.is; same = a.same; ends = let x = a.ends in record { last = x.last; at = x.at; heads = x.heads; none = x.none; below = f v x.below } }
-end_later s code Below Below' f t b EndProgram p ks a = record { first = a.first; last = a.last; at = a.at; none = a.none; below = f false a.below }
-end_later s code Below Below' f t b EndObject p ks a =
-    record { levels = a.levels; not_first = a.not_first; was = a.was; block = a.block; found = a.found; ends = let x = a.ends in record { last = x.last; at = x.at; heads = x.heads; none = x.none; below = f false x.below } }
-end_later s code Below Below' f t b EndPrefixed p ks a =
-    record { levels = a.levels; not_first = a.not_first; was = a.was; block = a.block; found = a.found; ends = let x = a.ends in record { last = x.last; at = x.at; heads = x.heads; none = x.none; below = f false x.below } }
-end_later s code Below Below' f t b _ p ks a = absurd a
+end_later : (s : Source) (code : CodeOf) (Below Below' : Wait → Type 0) → ((v : Wait) → Below v → Below' v) → (t : ℕ) (b : Runs) (x : Item) (w : List Item) (p : ℕ) (ks : List Kind) → EndAt s code Below t b x w p ks → EndAt s code Below' t b x w p ks
+end_later s code Below Below' f t b (Do op) w p ks a = absurd a
+end_later s code Below Below' f t b EndBlock w p ks a = (a.0, let x = a.1 in record { base = x.base; last = x.last; at = x.at; heads = x.heads; none = x.none; below = f NoValue x.below })
+end_later s code Below Below' f t b (EndProcedure v) w p ks a =
+    record { result = a.result; heading = a.heading; body = a.body; is = a.is; same = a.same; ends = let x = a.ends in record { base = x.base; last = x.last; at = x.at; heads = x.heads; none = x.none; below = f (value_if v) x.below } }
+end_later s code Below Below' f t b EndProgram w p ks a = record { base = a.base; first = a.first; last = a.last; at = a.at; none = a.none; below = f NoValue a.below }
+end_later s code Below Below' f t b EndObject w p ks a =
+    record { levels = a.levels; not_first = a.not_first; was = a.was; block = a.block; found = a.found; ends = let x = a.ends in record { base = x.base; last = x.last; at = x.at; heads = x.heads; none = x.none; below = f NoValue x.below } }
+end_later s code Below Below' f t b EndPrefixed w p ks a =
+    record { levels = a.levels; not_first = a.not_first; was = a.was; block = a.block; found = a.found; ends = let x = a.ends in record { base = x.base; last = x.last; at = x.at; heads = x.heads; none = x.none; below = f NoValue x.below } }
+end_later s code Below Below' f t b (EndEvaluation wanted) w p ks a =
+    record { number = a.number; is_thunk = a.is_thunk; alone = a.alone; last = a.last; at = a.at; kind = a.kind; given = a.given; one = a.one; below = f (OfName wanted) a.below }
+end_later s code Below Below' f t b _ w p ks a = absurd a
 
--- the temps of an instance that are in use
+-- the temps of the statements of an instance that are in use; an evaluation has none
 abbrev pub TempsKept : Source → CodeOf → Frames → Frames → (inst t : ℕ) → Runs → (used : ℕ) → Type 0
-TempsKept s code fs fs' inst t b used = (c : ℕ) → own_end s code (frame_text s t) ≤ c → c < length b.block.types → c < used → placed fs' inst c ≡ placed fs inst c
+TempsKept s code fs fs' inst t b used = b.thunk ≡ None → (c : ℕ) → own_end s code (frame_text s t) + expression_temps ≤ c → c < length b.block.types → c < used → placed fs' inst c ≡ placed fs inst c
 
 -- the same where the work behind an operator goes on
 module _ (s : Source) (code : CodeOf) (fs fs' : Frames) (inst : ℕ) where
   abbrev SpotKept : Spot → Type 0
   SpotKept c = TempsKept s code fs fs' inst c.text c.runs c.used
 
-  -- at the start of a level no temp is in use
+  -- at the start of a level no temp of statements is in use
   level_kept : (b : Runs) (k : ℕ) (block : BlockOf) (stage : Stage) → frame_text s k ≡ k → (c : Spot) → c ≡ at_level s code b k block stage → SpotKept c
-  level_kept b k block stage f c e = subst (λ z. SpotKept z) (sym e) (λ n behind within in_use.
-      let low : own_end s code k ≤ n = subst (λ z. own_end s code z ≤ n) f behind in
-      let high : n < own_end s code k = in_use in
+  level_kept b k block stage f c e = subst (λ z. SpotKept z) (sym e) (λ frame n behind within in_use.
+      let low : own_end s code k + expression_temps ≤ n = subst (λ z. own_end s code z + expression_temps ≤ n) f behind in
+      let high : n < own_end s code k + expression_temps = in_use in
       absurd (omega (arith, low, high)))
 
   declared_kept : (b : Runs) (place : ℕ) (c : Spot) (q : ℕ) → DeclaredTo s code b place c q → SpotKept c
@@ -73,12 +76,21 @@ module _ (s : Source) (code : CodeOf) (m m' : Instances) (e : Later s m m') wher
   refers_later k _ _ (refers_cell {j} {t} st own has varies declared) = refers_cell (e.stands j t st) own has varies declared
   refers_later k _ _ refers_element = refers_element
 
+  place_is_later : (v : Val) (x : Value) → PlaceIs s code m v x → PlaceIs s code m' v x
+  place_is_later v x h = record { instance = h.instance; text = h.text; key = h.key; is_val = h.is_val; is_value = h.is_value; stands = e.stands h.instance h.text h.stands; own = h.own; has = h.has; varies = h.varies; declared = h.declared }
+
+  named_later : (v : Val) (x : Value) → NamedAt s code m v x → NamedAt s code m' v x
+  named_later v x (named_value h) = named_value (value_later s code m m' e v x h)
+  named_later v x (named_place h) = named_place (place_is_later v x h)
+  named_later v x (named_reference k c h) = named_reference k c (refers_later k v x h)
+
   pub hand_later : (k : Kind) (v : Val) (x : Value) → HandAt s code m k v x → HandAt s code m' k v x
-  hand_later Any v x h = h
-  hand_later Located v x h = record { instance = h.instance; text = h.text; key = h.key; is_val = h.is_val; is_value = h.is_value; stands = e.stands h.instance h.text h.stands; own = h.own; has = h.has; varies = h.varies; declared = h.declared }
+  hand_later Any v x h = value_later s code m m' e v x h
+  hand_later Located v x h = place_is_later v x h
+  hand_later Named v x h = named_later v x h
   hand_later (LinkTo u) v x h = record { instance = h.instance; is_val = h.is_val; is_value = h.is_value; stands = e.stands h.instance u h.stands }
   hand_later (LinkOf j) v x h = h
-  hand_later (OwnerOf u) v x h = record { instance = h.instance; is_val = h.is_val; is_value = h.is_value; stands = e.stands h.instance u h.stands }
+  hand_later (OwnerKind u) v x h = record { instance = h.instance; is_val = h.is_val; is_value = h.is_value; stands = e.stands h.instance u h.stands }
   hand_later (Refers k) v x h = refers_later k v x h
   hand_later (MatchOf d) v x h = record { own = h.own; text = h.text; instance = h.instance; is_val = h.is_val; is_value = h.is_value; there = h.there; stands = e.stands h.instance (h.there).around h.stands }
   hand_later (FixedOf d) v x h = record { instance = h.instance; text = h.text; is_val = h.is_val; is_value = h.is_value; stands = e.stands h.instance h.text h.stands; own = h.own; has = h.has; fixed = h.fixed }
@@ -99,6 +111,9 @@ module _ (s : Source) (code : CodeOf) (m m' : Instances) (e : Later s m m') wher
 
     place_later : (site : Site) (n j : ℕ) (key : Key) (class p q : ℕ) → CellPlaceIs s code m inst site n j key class p q → CellPlaceIs s code m' inst site n j key class p q
     place_later site n j key class p q a = record { text = a.text; address = a.address; reaches = reaches_later inst t a.text j st a.reaches; own = a.own; has = a.has; varies = a.varies; declared = a.declared }
+
+    use_later : (site : Site) (n j : ℕ) (key : Key) (wanted : Use) (p q : ℕ) → UseIs s code m inst site n j key wanted p q → UseIs s code m' inst site n j key wanted p q
+    use_later site n j key wanted p q a = record { text = a.text; use_is = a.use_is; fits = a.fits; reaches = reaches_later inst t a.text j st a.reaches; own = a.own; has = a.has; varies = a.varies; classed = a.classed }
 
     mutual
       pub term_later : (site : Site) (n : ℕ) (x : Term) (p q : ℕ) → TermAt s code m inst site n x p q → TermAt s code m' inst site n x p q
@@ -193,6 +208,8 @@ module _ (s : Source) (code : CodeOf) (m m' : Instances) (e : Later s m m') wher
         checked = a.checked;
         called = a.called;
       }
+      term_later site n (ActualOf home x) p q a = a
+      term_later site n (NamedOf j key wanted) p q a = use_later site n j key wanted p q a
       term_later site n Unbuilt p q a = a
 
       pub terms_later : (site : Site) (n : ℕ) (xs : Terms) (p q : ℕ) → TermsAt s code m inst site n xs p q → TermsAt s code m' inst site n xs p q
@@ -206,13 +223,14 @@ module _ (s : Source) (code : CodeOf) (m m' : Instances) (e : Later s m m') wher
     operand_later : (site : Site) (n : ℕ) (x : Term) (p q : ℕ) → OperandAt s code m inst site n x p q → OperandAt s code m' inst site n x p q
     operand_later site n x p q a = (term_later site n x p q a.0, a.1)
 
-    target_later : (x : Target) (p q : ℕ) (ks ks' : List Kind) → TargetAt s code m inst x p q ks ks' → TargetAt s code m' inst x p q ks ks'
-    target_later (ToCell j key) p q ks ks' a = (let c = a.0 in record { text = c.text; is = c.is; reaches = reaches_later inst t c.text j st c.reaches; own = c.own; has = c.has; varies = c.varies; declared = c.declared }, a.1)
-    target_later ToAddress p q ks ks' a = a
-    target_later (ToText line) p q ks ks' a = a
-    target_later (ToTextOf j key line) p q ks ks' a = a
-    target_later (ToReference line) p q ks ks' a = a
-    target_later _ p q ks ks' a = absurd a
+    target_later : (site : Site) (x : Target) (p q : ℕ) (ks ks' : List Kind) → TargetAt s code m inst site x p q ks ks' → TargetAt s code m' inst site x p q ks ks'
+    target_later site (ToCell j key) p q ks ks' a = (let c = a.0 in record { text = c.text; is = c.is; reaches = reaches_later inst t c.text j st c.reaches; own = c.own; has = c.has; varies = c.varies; declared = c.declared }, a.1)
+    target_later site ToAddress p q ks ks' a = a
+    target_later site (ToText line) p q ks ks' a = a
+    target_later site (ToTextOf j key line) p q ks ks' a = a
+    target_later site (ToReference line) p q ks ks' a = a
+    target_later site (ToNamed k line) p q ks ks' a = a
+    target_later site _ p q ks ks' a = absurd a
 
     place_stored : (site : Site) (x : Term) (kind : Kind) (Put : ℕ → ℕ → Type 0) (p q : ℕ) (ks ks' : List Kind) → PlaceStoreIs s code m inst site x kind Put p q ks ks' → PlaceStoreIs s code m' inst site x kind Put p q ks ks'
     place_stored site x kind Put p q ks ks' a = record { x = a.x; y = a.y; place = term_later site (suc (length ks')) x p a.x a.place; is_place = a.is_place; under = a.under; put = a.put; «in» = a.«in» }
@@ -221,15 +239,16 @@ module _ (s : Source) (code : CodeOf) (m m' : Instances) (e : Later s m m') wher
     store_later site (ToPlace x) p q ks ks' a = (a.0, a.1, place_stored site x a.0 _ p q ks ks' a.2)
     store_later site (ToTextAt x line) p q ks ks' a = a
     store_later site (ToReferenceAt x line) p q ks ks' a = (a.0, a.1, place_stored site x (Refers a.0) _ p q ks ks' a.2)
-    store_later site (ToCell j key) p q ks ks' a = target_later (ToCell j key) p q ks ks' a
+    store_later site (ToCell j key) p q ks ks' a = target_later site (ToCell j key) p q ks ks' a
     store_later site ToAddress p q ks ks' a = a
     store_later site (ToText line) p q ks ks' a = a
     store_later site (ToTextOf j key line) p q ks ks' a = a
     store_later site (ToReference line) p q ks ks' a = a
+    store_later site (ToNamed k line) p q ks ks' a = a
 
     gives_later : (site : Site) (temp : ℕ) (ts : List Target) (p q : ℕ) (ks ks' : List Kind) → GivesIs s code m inst site temp ts p q ks ks' → GivesIs s code m' inst site temp ts p q ks ks'
     gives_later site temp [] p q ks ks' a = a
-    gives_later site temp (x ∷ xs) p q ks ks' a = (a.0, a.1, a.2, a.3, target_later x a.0 a.1 (Any ∷ ks) a.2 a.4, gives_later site temp xs a.1 q a.2 ks' a.5)
+    gives_later site temp (x ∷ xs) p q ks ks' a = (a.0, a.1, a.2, a.3, target_later site x a.0 a.1 (Any ∷ ks) a.2 a.4, gives_later site temp xs a.1 q a.2 ks' a.5)
 
     variable_later : (site : Site) (v : Variable) (x : Target) → VariableIs s code m inst site v x → VariableIs s code m' inst site v x
     variable_later site (OfCell text key assigned) x v = record { instance = v.instance; is = v.is; reaches = reaches_later inst t text v.instance st v.reaches; own = v.own; has = v.has; varies = v.varies; declared = v.declared }
@@ -237,9 +256,9 @@ module _ (s : Source) (code : CodeOf) (m m' : Instances) (e : Later s m m') wher
     variable_later site (OfReference y line) x v = record { place = v.place; is = v.is; anew = λ u n p q h. let r = v.anew u n p q h in record { class = r.class; is_class = r.is_class; term = term_later (record site { used = u }) n v.place p q r.term; leaves = r.leaves } }
 
     module _ (fs fs' : Frames) (text : ℕ) where
-      pub op_later : (b : Runs) (used : ℕ) → TempsKept s code fs fs' inst text b used → (op : Op) (p q : ℕ) (ks ks' : List Kind) → OpAt s code m fs inst (site_at text b used) op p q ks ks' → OpAt s code m' fs' inst (site_at text b used) op p q ks ks'
-      op_later b used keeps (Eval x) p q ks ks' a = (term_later (site_at text b used) (length ks) x p q a.0, a.1)
-      op_later b used keeps (IfOp x y) p q ks ks' a =
+      pub op_later : (b : Runs) (used : ℕ) → Low s code text b used → TempsKept s code fs fs' inst text b used → (op : Op) (p q : ℕ) (ks ks' : List Kind) → OpAt s code m fs inst (site_at text b used) op p q ks ks' → OpAt s code m' fs' inst (site_at text b used) op p q ks ks'
+      op_later b used low keeps (Eval x) p q ks ks' a = (term_later (site_at text b used) (length ks) x p q a.0, a.1)
+      op_later b used low keeps (IfOp x y) p q ks ks' a =
           let c = a.choice in
           record {
             left = a.left;
@@ -257,8 +276,8 @@ module _ (s : Source) (code : CodeOf) (m m' : Instances) (e : Later s m m') wher
             «in» = a.«in»;
             out = a.out;
           }
-      op_later b used keeps (StoreOp x) p q ks ks' a = store_later (site_at text b used) x p q ks ks' a
-      op_later b used keeps (ShareOp ts) p q ks ks' a = record {
+      op_later b used low keeps (StoreOp x) p q ks ks' a = store_later (site_at text b used) x p q ks ks' a
+      op_later b used low keeps (ShareOp ts) p q ks ks' a = record {
         temp = a.temp;
         unused = a.unused;
         is_temp = a.is_temp;
@@ -268,41 +287,44 @@ module _ (s : Source) (code : CodeOf) (m m' : Instances) (e : Later s m m') wher
         gives = gives_later (record (site_at text b used) { used = suc a.temp }) a.temp ts a.x q a.left ks' a.gives;
         «in» = a.«in»;
       }
-      op_later b used keeps (GiveOp v ts) p q ks ks' a = record {
+      op_later b used low keeps (GiveOp v ts) p q ks ks' a = record {
         temp = a.temp;
         x = a.x;
-        like = a.like;
-        «in_use» = a.«in_use»;
+        like = value_later s code m m' e v a.x a.like;
+        last = a.last;
         is_temp = a.is_temp;
-        holds = keeps a.temp a.is_temp.behind a.is_temp.within a.«in_use» ∙ a.holds;
+        holds =
+            let lt : a.temp < used = let e = a.last in omega (arith, e) in
+            keeps (is_frame_in_use s code text b used a.temp low a.last a.is_temp.within) a.temp a.is_temp.behind a.is_temp.within lt ∙ a.holds;
         gives = gives_later (site_at text b used) a.temp ts p q ks ks' a.gives;
       }
-      op_later b used keeps (BranchOp x next) p q ks ks' a = record { z = a.z; w = a.w; jump = a.jump; leads = a.leads; turn = a.turn; next = op_later b used keeps next a.w q ks' ks' a.next; «in» = a.«in» }
-      op_later b used keeps (BackOp op) p q ks ks' a = record { t = a.t; x = a.x; u = a.u; jump = a.jump; back = a.back; tick = a.tick; next = op_later b used keeps op a.t q ks ks' a.next }
-      op_later b used keeps (ElementsOp x es y) p q ks ks' a = record { variable = a.variable; v = variable_later (site_at text b used) a.variable x a.v; number = a.number; elements = a.elements; out = a.out }
-      op_later b used keeps (WhileElementOp x f c y) p q ks ks' a = record { variable = a.variable; v = variable_later (site_at text b used) a.variable x a.v; element = a.element; out = a.out }
-      op_later b used keeps (StepTestOp x line f c y) p q ks ks' a = (let r = a.0 in record { variable = r.variable; v = variable_later (site_at text b used) r.variable x r.v; start = r.start; at = r.at; element = r.element }, a.1, a.2)
-      op_later b used keeps (RaiseOp x line f c y) p q ks ks' a = (let r = a.0 in record { variable = r.variable; v = variable_later (site_at text b used) r.variable x r.v; start = r.start; at = r.at; element = r.element }, a.1, a.2)
-      op_later b used keeps (SimulationOp name line) p q ks ks' a = record { many = a.many; is = a.is; text = a.text; block = a.block; reaches = reaches_later inst t a.text a.block st a.reaches; left = a.left; «in» = a.«in»; out = a.out }
-      op_later b used keeps (ActivateOp again timing line) p q ks ks' a = record { is = a.is; text = a.text; block = a.block; reaches = reaches_later inst t a.text a.block st a.reaches; «in» = a.«in» }
-      op_later b used keeps (BlockOp j) p q ks ks' a = record { text = a.text; link = a.link; reaches = reaches_later inst t a.text j st a.reaches; out = a.out }
-      op_later b used keeps _ p q ks ks' a = a
+      op_later b used low keeps (BranchOp x next) p q ks ks' a = record { z = a.z; w = a.w; jump = a.jump; leads = a.leads; turn = a.turn; next = op_later b used low keeps next a.w q ks' ks' a.next; «in» = a.«in» }
+      op_later b used low keeps (BackOp op) p q ks ks' a = record { t = a.t; x = a.x; u = a.u; jump = a.jump; back = a.back; tick = a.tick; next = op_later b used low keeps op a.t q ks ks' a.next }
+      op_later b used low keeps (ElementsOp x es y) p q ks ks' a = record { variable = a.variable; v = variable_later (site_at text b used) a.variable x a.v; number = a.number; elements = a.elements; out = a.out }
+      op_later b used low keeps (WhileElementOp x f c y) p q ks ks' a = record { variable = a.variable; v = variable_later (site_at text b used) a.variable x a.v; element = a.element; out = a.out }
+      op_later b used low keeps (StepTestOp x line f c y) p q ks ks' a = (let r = a.0 in record { variable = r.variable; v = variable_later (site_at text b used) r.variable x r.v; start = r.start; at = r.at; element = r.element }, a.1, a.2)
+      op_later b used low keeps (RaiseOp x line f c y) p q ks ks' a = (let r = a.0 in record { variable = r.variable; v = variable_later (site_at text b used) r.variable x r.v; start = r.start; at = r.at; element = r.element }, a.1, a.2)
+      op_later b used low keeps (SimulationOp name line) p q ks ks' a = record { many = a.many; is = a.is; text = a.text; block = a.block; reaches = reaches_later inst t a.text a.block st a.reaches; left = a.left; «in» = a.«in»; out = a.out }
+      op_later b used low keeps (ActivateOp again timing line) p q ks ks' a = record { is = a.is; text = a.text; block = a.block; reaches = reaches_later inst t a.text a.block st a.reaches; «in» = a.«in» }
+      op_later b used low keeps (NamedOp j key wanted) p q ks ks' a = record { is = use_later (site_at text b used) (length ks) j key wanted p q a.is; out = a.out }
+      op_later b used low keeps (BlockOp j) p q ks ks' a = record { text = a.text; link = a.link; reaches = reaches_later inst t a.text j st a.reaches; out = a.out }
+      op_later b used low keeps _ p q ks ks' a = a
 
       comes_later : (b : Runs) (used : ℕ) → TempsKept s code fs fs' inst text b used → (n q p : ℕ) → ComesTo s code fs inst text b used n q p → ComesTo s code fs' inst text b used n q p
       comes_later b used keeps n q _ (there e) = there e
       comes_later b used keeps n q _ (over {p} {p'} jump ahead more) = over jump ahead (comes_later b used keeps n q p' more)
       comes_later b used keeps n q _ (returning {p} {p'} r more) =
-          returning (record { temp = r.temp; number = r.number; first = r.first; returns = r.returns; was = r.was; «in_use» = r.«in_use»; is_temp = r.is_temp; holds = keeps r.temp r.is_temp.behind r.is_temp.within r.«in_use» ∙ r.holds; leads = r.leads; back = r.back }) (comes_later b used keeps n q p' more)
+          returning (record { temp = r.temp; number = r.number; first = r.first; returns = r.returns; was = r.was; frame = r.frame; «in_use» = r.«in_use»; is_temp = r.is_temp; holds = keeps r.frame r.temp r.is_temp.behind r.is_temp.within r.«in_use» ∙ r.holds; leads = r.leads; back = r.back }) (comes_later b used keeps n q p' more)
 
-      stage_later : (b : Runs) (used : ℕ) → TempsKept s code fs fs' inst text b used → (op : Op) (c : Spot) (p q : ℕ) (ks ks' : List Kind) → InStage s code (OpAt s code m fs inst (site_at text b used)) (site_at text b used) op b c p q ks ks' → InStage s code (OpAt s code m' fs' inst (site_at text b used)) (site_at text b used) op b c p q ks ks'
-      stage_later b used keeps op c p q ks ks' (stays a calm g) = stays (op_later b used keeps op p q ks ks' a) calm g
-      stage_later b used keeps op c p q ks ks' (declares k e a) = declares k e a
-      stage_later b used keeps op c p q ks ks' (inner_last xs e a) = inner_last xs e a
-      stage_later b used keeps op c p q ks ks' (inner_here token e a) = inner_here token e a
-      stage_later b used keeps op c p q ks ks' (with_inner ss e a) = with_inner ss e a
-      stage_later b used keeps op c p q ks ks' (ends_process e a) = ends_process e a
+      stage_later : (b : Runs) (used : ℕ) → Low s code text b used → TempsKept s code fs fs' inst text b used → (op : Op) (c : Spot) (p q : ℕ) (ks ks' : List Kind) → InStage s code (OpAt s code m fs inst (site_at text b used)) (site_at text b used) op b c p q ks ks' → InStage s code (OpAt s code m' fs' inst (site_at text b used)) (site_at text b used) op b c p q ks ks'
+      stage_later b used low keeps op c p q ks ks' (stays a calm g) = stays (op_later b used low keeps op p q ks ks' a) calm g
+      stage_later b used low keeps op c p q ks ks' (declares k e a) = declares k e a
+      stage_later b used low keeps op c p q ks ks' (inner_last xs e a) = inner_last xs e a
+      stage_later b used low keeps op c p q ks ks' (inner_here token e a) = inner_here token e a
+      stage_later b used low keeps op c p q ks ks' (with_inner ss e a) = with_inner ss e a
+      stage_later b used low keeps op c p q ks ks' (ends_process e a) = ends_process e a
 
-module _ (s : Source) (code : CodeOf) (m m' : Instances) (e : Later s m m') (inst : ℕ) (fs fs' : Frames) (Below Below' : Bool → Type 0) (f : (v : Bool) → Below v → Below' v) where
+module _ (s : Source) (code : CodeOf) (m m' : Instances) (e : Later s m m') (inst : ℕ) (fs fs' : Frames) (Below Below' : Wait → Type 0) (f : (v : Wait) → Below v → Below' v) where
   -- the work of an instance, at whatever level it goes on
   module _ (home : ℕ) (st : Stands s m inst home) where
     rest_later : (t : ℕ) (b : Runs) (used : ℕ) → TempsKept s code fs fs' inst t b used → (w : List Item) (p : ℕ) (ks : List Kind) → WorkAt s code m fs Below inst t b used w p ks → WorkAt s code m' fs' Below' inst t b used w p ks
@@ -310,7 +332,7 @@ module _ (s : Source) (code : CodeOf) (m m' : Instances) (e : Later s m m') (ins
     rest_later t b used keeps (Do op ∷ w) p ks a =
         let le = a.8 in
         let c = a.5 in
-        let fewer : TempsKept s code fs fs' inst a.4 b a.1 = λ n behind within lt. keeps n (subst (λ z. own_end s code z ≤ n) (a.6).frame behind) within (omega (arith, lt, le)) in (
+        let fewer : TempsKept s code fs fs' inst a.4 b a.1 = λ frame n behind within lt. keeps frame n (subst (λ z. own_end s code z + expression_temps ≤ n) (a.6).frame behind) within (omega (arith, lt, le)) in (
           a.0,
           a.1,
           a.2,
@@ -321,14 +343,15 @@ module _ (s : Source) (code : CodeOf) (m m' : Instances) (e : Later s m m') (ins
           comes_later s code m m' e inst home st fs fs' t b used keeps (length ks) a.0 p a.7,
           a.8,
           a.9,
-          stage_later s code m m' e inst home st fs fs' a.4 b a.1 fewer op c a.0 a.2 ks a.3 a.10,
+          stage_later s code m m' e inst home st fs fs' a.4 b a.1 (low_same s code a.4 t b a.1 a.6 a.9) fewer op c a.0 a.2 ks a.3 a.10,
           rest_later c.text c.runs c.used (stage_kept s code fs fs' inst (OpAt s code m fs inst (site_at a.4 b a.1)) a.4 b a.1 op c a.0 a.2 ks a.3 a.10 fewer) w a.2 a.3 a.11,
         )
-    rest_later t b used keeps (EndBlock ∷ w) p ks a = (a.0, comes_later s code m m' e inst home st fs fs' t b used keeps (length ks) a.0 p a.1, end_later s code Below Below' f (frame_text s t) b EndBlock a.0 ks a.2)
-    rest_later t b used keeps (EndProcedure v ∷ w) p ks a = (a.0, comes_later s code m m' e inst home st fs fs' t b used keeps (length ks) a.0 p a.1, end_later s code Below Below' f (frame_text s t) b (EndProcedure v) a.0 ks a.2)
-    rest_later t b used keeps (EndProgram ∷ w) p ks a = (a.0, comes_later s code m m' e inst home st fs fs' t b used keeps (length ks) a.0 p a.1, end_later s code Below Below' f (frame_text s t) b EndProgram a.0 ks a.2)
-    rest_later t b used keeps (EndObject ∷ w) p ks a = (a.0, comes_later s code m m' e inst home st fs fs' t b used keeps (length ks) a.0 p a.1, end_later s code Below Below' f (frame_text s t) b EndObject a.0 ks a.2)
-    rest_later t b used keeps (EndPrefixed ∷ w) p ks a = (a.0, comes_later s code m m' e inst home st fs fs' t b used keeps (length ks) a.0 p a.1, end_later s code Below Below' f (frame_text s t) b EndPrefixed a.0 ks a.2)
+    rest_later t b used keeps (EndBlock ∷ w) p ks a = (a.0, comes_later s code m m' e inst home st fs fs' t b used keeps (length ks) a.0 p a.1, end_later s code Below Below' f (frame_text s t) b EndBlock w a.0 ks a.2)
+    rest_later t b used keeps (EndProcedure v ∷ w) p ks a = (a.0, comes_later s code m m' e inst home st fs fs' t b used keeps (length ks) a.0 p a.1, end_later s code Below Below' f (frame_text s t) b (EndProcedure v) w a.0 ks a.2)
+    rest_later t b used keeps (EndProgram ∷ w) p ks a = (a.0, comes_later s code m m' e inst home st fs fs' t b used keeps (length ks) a.0 p a.1, end_later s code Below Below' f (frame_text s t) b EndProgram w a.0 ks a.2)
+    rest_later t b used keeps (EndObject ∷ w) p ks a = (a.0, comes_later s code m m' e inst home st fs fs' t b used keeps (length ks) a.0 p a.1, end_later s code Below Below' f (frame_text s t) b EndObject w a.0 ks a.2)
+    rest_later t b used keeps (EndPrefixed ∷ w) p ks a = (a.0, comes_later s code m m' e inst home st fs fs' t b used keeps (length ks) a.0 p a.1, end_later s code Below Below' f (frame_text s t) b EndPrefixed w a.0 ks a.2)
+    rest_later t b used keeps (EndEvaluation wanted ∷ w) p ks a = (a.0, comes_later s code m m' e inst home st fs fs' t b used keeps (length ks) a.0 p a.1, end_later s code Below Below' f (frame_text s t) b (EndEvaluation wanted) w a.0 ks a.2)
     rest_later t b used keeps (EndLevel k ∷ w) p ks a =
         let c = a.2 in
         (a.0, a.1, a.2, comes_later s code m m' e inst home st fs fs' t b used keeps (length ks) a.0 p a.3, a.4, rest_later c.text c.runs c.used (ended_kept s code fs fs' inst b c a.0 a.1 ks a.4) w a.1 [] a.5)
@@ -336,14 +359,87 @@ module _ (s : Source) (code : CodeOf) (m m' : Instances) (e : Later s m m') (ins
   pub work_later : (t : ℕ) → Stands s m inst t → (b : Runs) (used : ℕ) → TempsKept s code fs fs' inst t b used → (w : List Item) (p : ℕ) (ks : List Kind) → WorkAt s code m fs Below inst t b used w p ks → WorkAt s code m' fs' Below' inst t b used w p ks
   work_later t st b used keeps w p ks a = rest_later t st t b used keeps w p ks a
 
--- an instance on a chain, which may get what it did not get before
-pub top_later : (s : Source) (code : CodeOf) (m m' : Instances) (fs fs' : Frames) (e : Later s m m') (Ground Ground' : Bool → List machine.Activation → Type 0) (a : Activation) (rest : List Activation) (v v' : Bool) (x : machine.Activation) (below : List machine.Activation) (c : ChainOn s code Ground m fs (a ∷ rest) v (x ∷ below)) → TempsKept s code fs fs' a.instance c.text c.block c.used
-    → GetsIs (suspended m' a.instance) v' c.gets → ((w : Bool) → ChainOn s code Ground m fs rest w below → ChainOn s code Ground' m' fs' rest w below) → ChainOn s code Ground' m' fs' (a ∷ rest) v' (x ∷ below)
+-- ---- which activations are evaluations
+
+module _ (s : Source) (code : CodeOf) where
+  -- control stays in the evaluation, or in the instance
+  pub stage_thunk : (Stays : Op → (p q : ℕ) → (before behind : List Kind) → Type 0) (site : Site) (op : Op) (b : Runs) (c : Spot) (p q : ℕ) (ks ks' : List Kind) → InStage s code Stays site op b c p q ks ks' → c.runs.thunk ≡ b.thunk
+  stage_thunk Stays site op b c p q ks ks' (stays a calm g) = ap (λ z. z.runs.thunk) g
+  stage_thunk Stays site op b c p q ks ks' (declares k e a) = by_place a.to
+    where
+      by_place : DeclaredTo s code b a.place c q → c.runs.thunk ≡ b.thunk
+      by_place (to_next x) = ap (λ z. z.runs.thunk) x.goes_on
+      by_place (to_first x) = ap (λ z. z.runs.thunk) x.goes_on
+  stage_thunk Stays site op b c p q ks ks' (inner_last xs e a) = ap (λ z. z.runs.thunk) (a.at).goes_on
+  stage_thunk Stays site op b c p q ks ks' (inner_here token e a) = ap (λ z. z.runs.thunk) (a.at).goes_on
+  stage_thunk Stays site op b c p q ks ks' (with_inner ss e a) = ap (λ z. z.runs.thunk) (a.at).goes_on
+  stage_thunk Stays site op b c p q ks ks' (ends_process e a) = ap (λ z. z.runs.thunk) a.goes_on
+
+  -- the work of an evaluation ends as such
+  pub behind_op : (w : List Item) (x : Item) (b : Bool) → (w ≡ [] → ⊥) → evaluates w ≡ b → evaluates (x ∷ w) ≡ b
+  behind_op [] x b some e = absurd (some refl)
+  behind_op (y ∷ w) x b some e = e
+
+  pub last_is : (w : List Item) (x : Item) (b : Bool) → w ≡ [] → is_evaluation x ≡ b → evaluates (x ∷ w) ≡ b
+  last_is w x b e f = ap (λ z. evaluates (x ∷ z)) e ∙ f
+
+  pub work_some : (m : Instances) (fs : Frames) (Below : Wait → Type 0) (inst t : ℕ) (b : Runs) (used : ℕ) (w : List Item) (p : ℕ) (ks : List Kind) → WorkAt s code m fs Below inst t b used w p ks → w ≡ [] → ⊥
+  work_some m fs Below inst t b used [] p ks a e = a
+  work_some m fs Below inst t b used (x ∷ w) p ks a e = absurd (cc)
+
+  pub work_flag : (m : Instances) (fs : Frames) (Below : Wait → Type 0) (inst t : ℕ) (b : Runs) (used : ℕ) (w : List Item) (p : ℕ) (ks : List Kind) → WorkAt s code m fs Below inst t b used w p ks → evaluates w ≡ is_some b.thunk
+  work_flag m fs Below inst t b used [] p ks a = absurd a
+  work_flag m fs Below inst t b used (Do op ∷ w) p ks a =
+      let c = a.5 in
+      behind_op w (Do op) (is_some b.thunk) (work_some m fs Below inst c.text c.runs c.used w a.2 a.3 a.11) (work_flag m fs Below inst c.text c.runs c.used w a.2 a.3 a.11 ∙ ap is_some (stage_thunk (OpAt s code m fs inst (site_at a.4 b a.1)) (site_at a.4 b a.1) op b c a.0 a.2 ks a.3 a.10))
+  work_flag m fs Below inst t b used (EndBlock ∷ w) p ks a = let x = (a.2).1 in last_is w EndBlock (is_some b.thunk) (x.base).1 (sym (ap is_some (x.base).0))
+  work_flag m fs Below inst t b used (EndProcedure v ∷ w) p ks a = let x = (a.2).ends in last_is w (EndProcedure v) (is_some b.thunk) (x.base).1 (sym (ap is_some (x.base).0))
+  work_flag m fs Below inst t b used (EndProgram ∷ w) p ks a = let x = a.2 in last_is w EndProgram (is_some b.thunk) (x.base).1 (sym (ap is_some (x.base).0))
+  work_flag m fs Below inst t b used (EndObject ∷ w) p ks a = let x = (a.2).ends in last_is w EndObject (is_some b.thunk) (x.base).1 (sym (ap is_some (x.base).0))
+  work_flag m fs Below inst t b used (EndPrefixed ∷ w) p ks a = let x = (a.2).ends in last_is w EndPrefixed (is_some b.thunk) (x.base).1 (sym (ap is_some (x.base).0))
+  work_flag m fs Below inst t b used (EndEvaluation wanted ∷ w) p ks a = let x = a.2 in last_is w (EndEvaluation wanted) (is_some b.thunk) x.alone (sym (ap is_some x.is_thunk))
+  work_flag m fs Below inst t b used (EndLevel k ∷ w) p ks a =
+      let c = a.2 in
+      behind_op w (EndLevel k) (is_some b.thunk) (work_some m fs Below inst c.text c.runs c.used w a.1 [] a.5) (work_flag m fs Below inst c.text c.runs c.used w a.1 [] a.5 ∙ ap (λ z. is_some z.runs.thunk) (a.4).goes_on)
+
+  pub owner_if : (o : Option ℕ) (f : Bool) (j : ℕ) → f ≡ is_some o → (if f then None else Some j) ≡ owner_of o j
+  owner_if None f j e = ap (λ z. if z then None else Some j) e
+  owner_if (Some n) f j e = ap (λ z. if z then None else Some j) e
+
+  -- who stands on a chain, on both sides
+  pub owner_is : (b : Runs) (inst : ℕ) (w : List Item) (vals : List Val) → evaluates w ≡ is_some b.thunk → owner (record { instance = inst; work = w; values = vals }) ≡ owner_of b.thunk inst
+  owner_is b inst w vals e = owner_if b.thunk (evaluates w) inst e
+
+  module _ (Ground : Wait → List machine.Activation → Type 0) (m : Instances) (fs : Frames) (a : Activation) (rest : List Activation) (v : Wait) (x : machine.Activation) (below : List machine.Activation) (c : ChainOn s code Ground m fs (a ∷ rest) v (x ∷ below)) where
+    pub top_flag : evaluates a.work ≡ is_some c.block.thunk
+    top_flag = work_flag m fs (λ w. ChainOn s code Ground m fs rest w below) a.instance c.text c.block c.used a.work x.pc _ c.goes
+
+    pub top_owner : owner a ≡ owner_of c.block.thunk a.instance
+    top_owner = owner_if c.block.thunk (evaluates a.work) a.instance top_flag
+
+    by_thunk : (o : Option ℕ) (j : ℕ) → machine.owner (record { thunk = o; home = j; pc = x.pc; stack = x.stack; room = x.room; stage = x.stage }) ≡ owner_of o j
+    by_thunk None j = refl
+    by_thunk (Some n) j = refl
+
+    pub frame_owner : machine.owner x ≡ owner_of c.block.thunk a.instance
+    frame_owner = by_thunk x.thunk x.home ∙ ap (λ z. owner_of z x.home) c.base ∙ ap (owner_of c.block.thunk) c.home
+
+    -- both sides tell the same
+    pub same_owner : machine.owner x ≡ owner a
+    same_owner = frame_owner ∙ sym top_owner
+
+pub of_owner : (Of : ℕ → Type 0) (o : Option ℕ) (j : ℕ) → o ≡ Some j → OwnerOf Of o → Of j
+of_owner Of None j e a = absurd (cc (e))
+of_owner Of (Some k) j e a = let same : k ≡ j = cc (e) in subst Of same a
+
+-- an activation on a chain, which may get what it did not get before
+pub top_later : (s : Source) (code : CodeOf) (m m' : Instances) (fs fs' : Frames) (e : Later s m m') (Ground Ground' : Wait → List machine.Activation → Type 0) (a : Activation) (rest : List Activation) (v v' : Wait) (x : machine.Activation) (below : List machine.Activation) (c : ChainOn s code Ground m fs (a ∷ rest) v (x ∷ below)) → TempsKept s code fs fs' a.instance c.text c.block c.used
+    → GetsIs (suspended_by m' (owner_of c.block.thunk a.instance)) v' c.gets → ((w : Wait) → ChainOn s code Ground m fs rest w below → ChainOn s code Ground' m' fs' rest w below) → ChainOn s code Ground' m' fs' (a ∷ rest) v' (x ∷ below)
 top_later s code m m' fs fs' e Ground Ground' a rest v v' x below c kept gets f = record {
-  base = c.base;
   home = c.home;
   text = c.text;
   block = c.block;
+  base = c.base;
   found = c.found;
   stands = e.stands a.instance c.text c.stands;
   own = e.texts a.instance c.block.own c.own;
@@ -355,35 +451,42 @@ top_later s code m m' fs fs' e Ground Ground' a rest v v' x below c kept gets f 
   gets = c.gets;
   gets_is = gets;
   fits = c.fits;
+  asked = c.asked;
   used = c.used;
   goes = work_later s code m m' e a.instance fs fs' (λ w. ChainOn s code Ground m fs rest w below) (λ w. ChainOn s code Ground' m' fs' rest w below) f c.text c.stands c.block c.used kept a.work x.pc _ c.goes;
 }
 
 module _ (s : Source) (code : CodeOf) (m m' : Instances) (fs fs' : Frames) (e : Later s m m') (Of : ℕ → Type 0) (k : Keeps s code m fs fs' Of) (same : (j : ℕ) → Of j → suspended m' j ≡ suspended m j) where
-  pub chain_on_later : (Ground Ground' : Bool → List machine.Activation → Type 0) → ((v : Bool) (below : List machine.Activation) → Ground v below → Ground' v below) → (chain : List Activation) → AllOf Of chain → (v : Bool) (below : List machine.Activation) → ChainOn s code Ground m fs chain v below → ChainOn s code Ground' m' fs' chain v below
+  same_by : (o : Option ℕ) → OwnerOf Of o → suspended_by m' o ≡ suspended_by m o
+  same_by None all = refl
+  same_by (Some j) all = same j all
+
+  pub chain_on_later : (Ground Ground' : Wait → List machine.Activation → Type 0) → ((v : Wait) (below : List machine.Activation) → Ground v below → Ground' v below) → (chain : List Activation) → OwnersOf Of chain → (v : Wait) (below : List machine.Activation) → ChainOn s code Ground m fs chain v below → ChainOn s code Ground' m' fs' chain v below
   chain_on_later Ground Ground' g [] all v below c = g v below c
   chain_on_later Ground Ground' g (a ∷ rest) all v [] c = absurd c
   chain_on_later Ground Ground' g (a ∷ rest) all v (x ∷ below) c =
-      top_later s code m m' fs fs' e Ground Ground' a rest v v x below c (λ n behind within lt. k.temps a.instance c.text n c.block.block all.0 c.stands c.found (record { behind = behind; within = within }))
-      (subst (λ z. GetsIs z v c.gets) (sym (same a.instance all.0)) c.gets_is) (λ w b. chain_on_later Ground Ground' g rest all.1 w below b)
+      let own = top_owner s code Ground m fs a rest v x below c in
+      top_later s code m m' fs fs' e Ground Ground' a rest v v x below c
+      (λ frame n behind within lt. k.temps a.instance c.text n c.block.block (of_owner Of (owner a) a.instance (own ∙ ap (λ z. owner_of z a.instance) frame) all.0) c.stands c.found (record { behind = behind; within = within }))
+      (subst (λ z. GetsIs z v c.gets) (sym (same_by (owner_of c.block.thunk a.instance) (subst (OwnerOf Of) own all.0))) c.gets_is) (λ w b. chain_on_later Ground Ground' g rest all.1 w below b)
 
-  pub chain_later : (chain : List Activation) → AllOf Of chain → (v : Bool) (below : List machine.Activation) → ChainAt s code m fs chain v below → ChainAt s code m' fs' chain v below
-  chain_later chain all v below c = chain_on_later (Bottom s code false) (Bottom s code false) (λ w b g. g) chain all v below c
+  pub chain_later : (chain : List Activation) → OwnersOf Of chain → (v : Wait) (below : List machine.Activation) → ChainAt s code m fs chain v below → ChainAt s code m' fs' chain v below
+  chain_later chain all v below c = chain_on_later (Bottom s code NoValue) (Bottom s code NoValue) (λ w b g. g) chain all v below c
 
   object_later : (j : ℕ) → ObjectIs s code m j → ObjectIs s code m' j
   object_later j x = record { own = x.own; is = e.texts j x.own x.is; class = x.class }
 
   -- the chains that are kept
-  standing_later : (j : ℕ) (x : Standing Activation) (y : Standing machine.Activation) → KeptChains Of x → StandingAt s code m fs j x y → StandingAt s code m' fs' j x y
+  standing_later : (j : ℕ) (x : Standing Activation) (y : Standing machine.Activation) → OwnersKeptOf Of x → StandingAt s code m fs j x y → StandingAt s code m' fs' j x y
   standing_later j (NoObject None) (NoObject None) all a = a
-  standing_later j (NoObject (Some chain)) (NoObject (Some below)) all a = chain_on_later (Bottom s code (demand false chain)) (Bottom s code (demand false chain)) (λ w b g. g) chain all false below a
+  standing_later j (NoObject (Some chain)) (NoObject (Some below)) all a = chain_on_later (Bottom s code (demand NoValue chain)) (Bottom s code (demand NoValue chain)) (λ w b g. g) chain all NoValue below a
   standing_later j AttachedObject AttachedObject all a = object_later j a
-  standing_later j (DetachedObject chain) (DetachedObject below) all a = (object_later j a.0, chain_later chain all false below a.1)
+  standing_later j (DetachedObject chain) (DetachedObject below) all a = (object_later j a.0, chain_later chain all NoValue below a.1)
   standing_later j ResumedObject ResumedObject all a = object_later j a
   standing_later j TerminatedObject TerminatedObject all a = a
   standing_later j _ _ all a = absurd a
 
-  pub both_later : (j : ℕ) (x : Option (Standing Activation)) (y : Option (Standing machine.Activation)) → ((z : Standing Activation) → x ≡ Some z → KeptChains Of z) → Both (StandingAt s code m fs j) x y → Both (StandingAt s code m' fs' j) x y
+  pub both_later : (j : ℕ) (x : Option (Standing Activation)) (y : Option (Standing machine.Activation)) → ((z : Standing Activation) → x ≡ Some z → OwnersKeptOf Of z) → Both (StandingAt s code m fs j) x y → Both (StandingAt s code m' fs' j) x y
   both_later j None None o a = a
   both_later j None (Some y) o a = absurd a
   both_later j (Some x) None o a = absurd a
@@ -394,10 +497,14 @@ module _ (s : Source) (code : CodeOf) {Of : ℕ → Type 0} {m m' : Instances} {
   pub suspended_same : (j : ℕ) → suspended m' j ≡ suspended m j
   suspended_same j = ap (λ z. suspended_in z j) x.standings
 
-  pub chain_changed : (chain : List Activation) → AllOf Of chain → (v : Bool) (below : List machine.Activation) → ChainAt s code m fs chain v below → ChainAt s code m' fs' chain v below
+  pub suspended_by_same : (o : Option ℕ) → suspended_by m' o ≡ suspended_by m o
+  suspended_by_same None = refl
+  suspended_by_same (Some j) = suspended_same j
+
+  pub chain_changed : (chain : List Activation) → OwnersOf Of chain → (v : Wait) (below : List machine.Activation) → ChainAt s code m fs chain v below → ChainAt s code m' fs' chain v below
   chain_changed chain all v below c = chain_later s code m m' fs fs' x.later Of x.keeps (λ j of. suspended_same j) chain all v below c
 
-  pub parked_changed : AllKept Of m → StandingsAt s code m fs → StandingsAt s code m' fs'
+  pub parked_changed : OwnersKept Of m → StandingsAt s code m fs → StandingsAt s code m' fs'
   parked_changed all a = record {
     each = λ j.
         subst (λ z. Both (StandingAt s code m' fs' j) (slice_get z j) (slice_get fs'.standings j)) (sym x.standings)
@@ -418,11 +525,15 @@ module _ (s : Source) (code : CodeOf) {Of : ℕ → Type 0} {m m' : Instances} {
   }
 
 -- each chain is one of any instances
-pub all_every : (chain : List Activation) → AllOf Every chain
-all_every [] = tt
-all_every (a ∷ rest) = (tt, all_every rest)
+owner_every : (o : Option ℕ) → OwnerOf Every o
+owner_every None = tt
+owner_every (Some j) = tt
 
-pub kept_every : (m : Instances) → AllKept Every m
+pub all_every : (chain : List Activation) → OwnersOf Every chain
+all_every [] = tt
+all_every (a ∷ rest) = (owner_every (owner a), all_every rest)
+
+pub kept_every : (m : Instances) → OwnersKept Every m
 kept_every m j (NoObject None) e = tt
 kept_every m j (NoObject (Some chain)) e = all_every chain
 kept_every m j AttachedObject e = tt

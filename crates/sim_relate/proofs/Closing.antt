@@ -33,29 +33,30 @@ use Rattle.sim_code.specs.declared.instr.Instr.TheVariants as i
 use Rattle.sim_code.specs.Code.{CodeOf}
 use Rattle.sim_code.specs.Instances.{at_level}
 use Rattle.sim_code.specs.Transfers.{Transfer}
-use Rattle.sim_meaning.specs.Attributes.{array_attribute, attribute, attribute_place, block_found, cell_of_connection, class_made, connected_object, connection_at, declared_attribute, detach_term, entry_at, entry_attribute, fitting, generation, if_any, is_connection, kept_if, membership_term, own_attribute, own_term, parameter_at, parameter_attribute, parameter_qualification, place_of_attribute, qua_term, qualified, qualified_place, this_instance, this_term, transfer_at, transfer_term, variable_attribute, with_arrays_kept, count_of}
+use Rattle.sim_meaning.specs.Attributes.{array_attribute, attribute, attribute_place, block_found, cell_of_connection, class_made, connected_object, connection_at, declared_attribute, detach_term, entry_at, entry_attribute, generation, if_any, is_connection, membership_term, own_attribute, own_term, parameter_at, parameter_attribute, place_of_attribute, qua_term, qualified, qualified_place, this_instance, this_term, transfer_at, transfer_term, variable_attribute, with_arrays_kept, count_of}
 use Rattle.sim_meaning.specs.Attributes as attributes
-use Rattle.sim_meaning.specs.Closing.{Joining, Lazily, Negated, Plainly, Sort, actual_term, array_place, array_term, attribute_term, behind_dot, class_parameters, close, close_actuals, close_all, close_parameters, close_place, constant_term, declared_place, declared_term, dot_term, formal_place, formal_term, formals_at, given_term, home_of, home_of_class, image_place, in_instance, is_attribute, is_text, is_text_type, is_variable, literal_term, name_term, named_place, named_term, object_term, reference_place, result_meant, result_place, signed_term, sort_of, standard_term, stream_denoted, stream_of, sysout, two_term, variable_place, variable_term, left_type, has_type}
+use Rattle.sim_meaning.specs.Closing.{class_of_formal, type_of_formal, Joining, Lazily, Negated, Plainly, Sort, array_place, array_term, attribute_term, behind_dot, class_parameters, close, close_actuals, close_all, close_parameters, close_place, constant_term, declared_place, declared_term, dot_term, formal_place, formal_term, formals_at, given_term, home_of, home_of_class, image_place, in_instance, is_attribute, is_text, is_variable, literal_term, name_term, named_place, named_term, object_term, reference_place, result_meant, result_place, signed_term, sort_of, standard_name_term, standard_term, stream_denoted, stream_of, sysout, two_term, variable_place, variable_term, left_type, has_type}
 use Rattle.sim_meaning.specs.Constants.{text_constant}
 use Rattle.sim_meaning.specs.Levels.{class_at, class_denoted, qualification}
 use Rattle.sim_meaning.specs.Names.{procedure_named, stream_named}
-use Rattle.sim_meaning.specs.Pending.{CallOf, Cell, Declared, ElementOf, Further, ImageOf, Instances, Key, NoTerm, PlaceOf, RemoteCallOf, Result, Term, Terms, Unbuilt, ValueAt, VirtualOf, Given}
+use Rattle.sim_meaning.specs.Pending.{CallOf, Cell, Declared, ElementOf, ForPlace, ForValue, Further, ImageOf, Instances, Key, NamedOf, NoTerm, PlaceOf, RemoteCallOf, Result, Term, Terms, Unbuilt, Use, ValueAt, VirtualOf, Given}
 use Rattle.sim_meaning.specs.Statements.{has_value, standard_leaves}
 use Rattle.sim_meaning.specs.Steps.{count}
 use Rattle.sim_meaning.specs.Texts.{constant_of, text}
 use Rattle.codegen_expr.specs.Sites.{At, HasCell, Inside, Is, LevelOf, Pushes, Site, block_number, class_number, frame_text, is_constant, slot_of}
-use Rattle.codegen_expr.specs.CodeExpr.{ActualAt, ActualsAt, ArrayAt, ArrayOfAt, ArrayPlaceAt, ArrayPlaceOfAt, AttributeAt, AttributePlaceAt, BehindDotAt, CallAt, CellAt, ConnectedAt, ConnectedNameAt, ConstantAt, ConstantAttributeAt, DeclaredAt, DeclaredPlaceAt, DotAt, ElementAt, ElementOfAt, ExprAt, ExprsAt, FittingAt, FormalAt, FormalPlaceAt, GenerationAt, GivenAt, LiteralAt, MemberAt, NameAt, NamedAt, NamedPlaceAt, ObjectAt, OfObjectAt, OwnAt, OwnNameAt, ParameterOfAt, ParameterPlaceOfAt, PlaceAt, PlaceBehindAt, PlaceOfObjectAt, PlaceOrResultAt, PlainAt, QuaAt, QualifiedPlaceAt, ReferencePlaceAt, RemoteCallAt, SignedAt, StandardAt, StandardIs, StreamPlaceAt, ThisFoundAt, ThisOfAt, ThroughAt, TwoAt, VariableAt, VariableOfAt, VariablePlaceAt, VariablePlaceOfAt, gives_entry, operands, VirtualAt, ThisAt, list_of}
+use Rattle.codegen_expr.specs.CodeExpr.{ActualsAt, ByNameAt, ArrayAt, ArrayOfAt, ArrayPlaceAt, ArrayPlaceOfAt, AttributeAt, AttributePlaceAt, BehindDotAt, CallAt, CellAt, ConnectedAt, ConnectedNameAt, ConstantAt, ConstantAttributeAt, DeclaredAt, DeclaredPlaceAt, DotAt, ElementAt, ElementOfAt, ExprAt, ExprsAt, FormalAt, FormalPlaceAt, GenerationAt, GivenAt, LiteralAt, MemberAt, NameAt, NamedAt, NamedPlaceAt, ObjectAt, OfObjectAt, OwnAt, OwnNameAt, ParameterOfAt, ParameterPlaceOfAt, PlaceAt, PlaceBehindAt, PlaceOfObjectAt, PlaceOrResultAt, PlainAt, QuaAt, QualifiedPlaceAt, ReferencePlaceAt, RemoteCallAt, SignedAt, StandardAt, StandardIs, StreamPlaceAt, ThisFoundAt, ThisOfAt, ThroughAt, TwoAt, VariableAt, VariableOfAt, VariablePlaceAt, VariablePlaceOfAt, gives_entry, operands, VirtualAt, ThisAt, list_of}
 use Rattle.codegen_expr.specs.CodeExpr as code_gives
 use Rattle.codegen.specs.Agrees.{Agrees}
 use Rattle.sim_relate.proofs.AttributeTerms.{object_attribute_at, own_name_at}
-use Rattle.sim_relate.proofs.ClassNames.{class_found, class_is, declared_class, denoted_classed, made_class, parameter_classed, qualification_classed}
+use Rattle.sim_relate.proofs.ClassNames.{class_found, class_is, declared_class, denoted_classed, made_class, qualification_classed}
+use Rattle.sim_relate.proofs.ActualTrees.{given_for}
 use Rattle.sim_relate.proofs.Formals.{actuals_counted, formals_same}
 use Rattle.sim_relate.proofs.Frames.{frame_idem, frame_level, own_frame}
 use Rattle.sim_relate.proofs.Known.{Any, Finds, FixedOf, IsImage, Kind, LeavesIs, Located, Refers, Stands, attribute_kind, gives, inside, is_process_in, is_read, kind_unless, of_input, of_output, outermost, read_given, reads, seen_at, text_gives}
 use Rattle.sim_relate.proofs.Roomy.{FitsWhere, connected_fits, expression_fits, this_fits}
 use Rattle.sim_relate.proofs.OwnNames.{own_denoted}
 use Rattle.sim_relate.proofs.TransferNames.{no_transfer}
-use Rattle.sim_relate.proofs.Trees.{Classed, CellIs, CellPlaceIs, FoundIs, GivenIs, OperandAt, ReadsAt, TermAt, TermsAt, empty, listed, list_number}
+use Rattle.sim_relate.proofs.Trees.{Classed, CellIs, CellPlaceIs, UseClassed, UseIs, FoundIs, GivenIs, OperandAt, ReadsAt, TermAt, TermsAt, empty, listed, list_number}
 
 module _ (s : Source) (code : CodeOf) (m : Instances) (inst : ℕ) (site : Site) (agrees : Agrees s) (reach : (u : ℕ) → Inside s.tables site.text u → Finds s m inst u) where
   -- the tree evaluates, and leaves a value just where g says so
@@ -135,7 +136,7 @@ module _ (s : Source) (code : CodeOf) (m : Instances) (inst : ℕ) (site : Site)
   two_at (Negated op) line n A B C x y p q f g h a = ((a.2, ((a.0, a.1, f p a.0 a.3, h a.0 a.1 a.4, a.5), refl), a.6), refl)
   two_at (Lazily true) line n A B C x y p q f g h a = (record { y = a.y; z = a.z; w = a.w; x = a.x; test = f p a.y a.test; jump = a.jump; leads = a.leads; first = (a.first, refl); over = a.over; past = a.past; second = g a.x q a.second }, refl)
   two_at (Lazily false) line n A B C x y p q f g h a = (record { y = a.y; z = a.z; w = a.w; x = a.x; test = f p a.y a.test; jump = a.jump; leads = a.leads; first = g a.z a.w a.first; over = a.over; past = a.past; second = (a.second, refl) }, refl)
-  two_at Joining line n A B C x y p q f g h a = ((a.x, a.y, f p a.x a.left, h a.x a.y a.right, record { temp = a.temp; unused = a.behind; within = a.within; room = a.room; joins = a.joins }), refl)
+  two_at Joining line n A B C x y p q f g h a = ((a.x, a.y, f p a.x a.left, h a.x a.y a.right, record { within = a.within; room = a.room; joins = a.joins }), refl)
 
   signed_at : (k : Sign) (line n : ℕ) (A : ℕ → ℕ → Type 0) (x : Term) (p q : ℕ) → ((p q : ℕ) → A p q → OperandAt s code m inst site n x p q) → SignedAt code k line A p q → OperandAt s code m inst site n (signed_term k line x) p q
   signed_at sign.Plus line n A x p q f a = f p q a
@@ -184,8 +185,29 @@ module _ (s : Source) (code : CodeOf) (m : Instances) (inst : ℕ) (site : Site)
       there (home_of s m inst d) r.0 (λ j. ValueAt (ElementOf line (Cell j (Declared d.0)) terms)) n true p q r.2
       ((a.0, (x.x, x.y, (cell_is d n p x.x varies x.array, refl), f x.x x.y x.subscripts, subst (λ k. At code (i.Elem (pos k) (pos 0)) line x.y a.0) counts x.found), record { kind = Any; left = λ ks. refl; fetches = a.2 }), refl)
 
+  -- a use of a parameter by name
+  use_classed : (type : Option SimType) (o : Option ℕ) (line : ℕ) → qualification s type ≡ o → UseClassed s (ForValue o line)
+  use_classed type None line e = tt
+  use_classed type (Some k) line e = qualification_classed s type k e
+
+  pub used_at : (d : DeclNo) (es : Expressions) (wanted : Use) (n : ℕ) (P : Term → Type 0) (p q : ℕ) → is_constant (entry_of s.tables d) ≡ false → UseClassed s wanted → ((j : ℕ) → UseIs s code m inst site n j (Declared d.0) wanted p q → P (NamedOf j (Declared d.0) wanted)) → ByNameAt s code site n d es wanted p q → P (name_term s m inst d es wanted)
+  unfolding home_of
+  used_at d NoMore wanted n P p q varies classed f a =
+      let r = reach (block_of s d) a.inside in
+      subst (λ z. P (in_instance z (λ j. NamedOf j (Declared d.0) wanted))) (sym r.2)
+      (f r.0 (record { text = block_of s d; use_is = a.use_is; fits = a.fits; reaches = r.1; own = own d a.within; has = a.within; varies = varies; classed = classed }))
+  used_at d (Then e es) wanted n P p q varies classed f a = absurd a
+
+  -- where it lies, or else its value, has no class that is known
+  used_placed : (o : Option Qualified) (n line j : ℕ) (key : Key) (p q : ℕ) → UseIs s code m inst site n j key (ForPlace true line) p q → PlacedAt o n (NamedOf j key (ForPlace true line)) p q
+  used_placed None n line j key p q a = (a, refl)
+  used_placed (Some k) n line j key p q a = record { term = tt; leaves = λ ks. tt }
+
   formal_at : (d : DeclNo) (line n : ℕ) (by : Mode) (kind : FormalKind) (es : Expressions) (Inner : ℕ → ℕ → Type 0) (terms : Terms) → ((p q : ℕ) → Inner p q → TermsAt s code m inst site (suc n) terms p q) → operands es ≡ count terms → (p q : ℕ) → is_constant (entry_of s.tables d) ≡ false → FormalAt s code site n line d by kind es Inner p q → NamedIs n true (formal_term s m inst line d by kind es terms) p q
-  formal_at d line n mode.ByName kind es Inner terms f counts p q varies a = absurd a
+  formal_at d line n mode.ByName shape.Simple es Inner terms f counts p q varies a =
+      used_at d es (ForValue (class_of_formal s d) line) n (λ t. NamedIs n true t p q) p q varies (use_classed (type_of_formal (entry_of s.tables d)) (class_of_formal s d) line refl) (λ j b. (b, refl)) a
+  formal_at d line n mode.ByName shape.Array es Inner terms f counts p q varies a = absurd a
+  formal_at d line n mode.ByName shape.Procedure es Inner terms f counts p q varies a = absurd a
   formal_at d line n mode.ByValue shape.Simple es Inner terms f counts p q varies a = variable_at d es n p q varies a
   formal_at d line n mode.ByValue shape.Array es Inner terms f counts p q varies a = array_at d line n es Inner terms f counts p q varies a
   formal_at d line n mode.ByValue shape.Procedure es Inner terms f counts p q varies a = absurd a
@@ -285,7 +307,7 @@ module _ (s : Source) (code : CodeOf) (m : Instances) (inst : ℕ) (site : Site)
   on_image_gives _ x e = absurd (cc)
 
   name_at : (is : Bool) (on : Option Standard) (name : Standard) (image line n : ℕ) (es : Expressions) (Operands Inner : ℕ → ℕ → Type 0) (terms : Terms) → ((p q : ℕ) → Operands p q → TermsAt s code m inst site n terms p q) → ((p q : ℕ) → Inner p q → TermsAt s code m inst site (suc n) terms p q) → operands es ≡ count terms → IsImage image
-      → is_image name ≡ is → on_image name ≡ on → (p q : ℕ) → NameAt code site n line image is on name es Operands Inner p q → NamedIs n (has_value (row_of name).result) (name_term is on name image line terms) p q
+      → is_image name ≡ is → on_image name ≡ on → (p q : ℕ) → NameAt code site n line image is on name es Operands Inner p q → NamedIs n (has_value (row_of name).result) (standard_name_term is on name image line terms) p q
   name_at true on name image line n es Operands Inner terms f0 f counts known ei eo p q a = ((a.0, (known, a.1), record { kind = Any; left = λ ks. refl; fetches = a.2 }), sym (image_gives name ei))
   name_at false (Some x) name image line n es Operands Inner terms f0 f counts known ei eo p q a =
       ((a.1, (a.0, ((known, a.2), refl), reads_terms terms (suc n) a.0 a.1 (f a.0 a.1 a.3)), subst (λ c. StandardIs code site n line x c a.1 q) (ap suc counts) a.4), on_image_gives name x eo)
@@ -318,7 +340,9 @@ module _ (s : Source) (code : CodeOf) (m : Instances) (inst : ℕ) (site : Site)
   array_place_at o d line n (Then e es) Inner terms f counts p q varies a = element_at o d line n (Then e es) Inner terms f counts p q varies a
 
   formal_place_at : (o : Option Qualified) (d : DeclNo) (line n : ℕ) (by : Mode) (kind : FormalKind) (es : Expressions) (Inner : ℕ → ℕ → Type 0) (terms : Terms) → ((p q : ℕ) → Inner p q → TermsAt s code m inst site (suc n) terms p q) → operands es ≡ count terms → (p q : ℕ) → is_constant (entry_of s.tables d) ≡ false → FormalPlaceAt s code site n line (class_given o) d by kind es Inner p q → PlacedAt o n (formal_place s m inst line d by kind es terms) p q
-  formal_place_at o d line n mode.ByName kind es Inner terms f counts p q varies a = absurd a
+  formal_place_at o d line n mode.ByName shape.Simple es Inner terms f counts p q varies a = used_at d es (ForPlace true line) n (λ t. PlacedAt o n t p q) p q varies tt (λ j b. used_placed o n line j (Declared d.0) p q b) a
+  formal_place_at o d line n mode.ByName shape.Array es Inner terms f counts p q varies a = absurd a
+  formal_place_at o d line n mode.ByName shape.Procedure es Inner terms f counts p q varies a = absurd a
   formal_place_at o d line n mode.ByValue shape.Simple es Inner terms f counts p q varies a = variable_place_at o d es n p q varies a
   formal_place_at o d line n mode.ByValue shape.Array es Inner terms f counts p q varies a = array_place_at o d line n es Inner terms f counts p q varies a
   formal_place_at o d line n mode.ByValue shape.Procedure es Inner terms f counts p q varies a = absurd a
@@ -618,44 +642,9 @@ module _ (s : Source) (code : CodeOf) (m : Instances) (inst : ℕ) (site : Site)
 
   -- ---- actual parameters
 
-  fits : (class : Option ℕ) → ((k : ℕ) → class ≡ Some k → Classed s k) → (line n : ℕ) (A : ℕ → ℕ → Type 0) (x : Term) → ObjectIs n A x → (p q : ℕ) → FittingAt s code site n line class A p q → OperandAt s code m inst site n (fitting class line x) p q
-  fits None c line n A x f p q a = f p q a
-  fits (Some k) c line n A x f p q a =
-      ((a.x, f p a.x a.actual, record { x = a.y; y = a.z; z = a.w; temp = a.temp; is_class = c k refl; unused = a.behind; within = a.within; address = a.address; under = a.under; put = a.put; again = a.again }), refl)
-
-  abbrev pub kept_when : Bool → Mode → FormalKind → Term → Term
-  kept_when true by kind x = kept_if by kind x
-  kept_when false by kind x = x
-
   abbrev pub kept_all : Bool → List Formal → Terms → Terms
   kept_all true fs ts = with_arrays_kept fs ts
   kept_all false fs ts = ts
-
-  -- a value, a reference or a text
-  plain_actual : (by : Mode) (text : Bool) (line n : ℕ) (A : ℕ → ℕ → Type 0) (x : Term) → ObjectIs n A x → (keeps : Bool) (p q : ℕ) → ActualAt code site n line keeps by shape.Simple text A p q → OperandAt s code m inst site n (actual_term line by shape.Simple text x) p q
-  unfolding row_of
-  plain_actual mode.ByValue true line n A x f keeps p q a = let v = f p a.0 a.1 in ((a.0, (a.0, (v.0, read_given s x v.1), refl), a.2), refl)
-  plain_actual mode.ByValue false line n A x f keeps p q a = f p q a
-  plain_actual mode.ByReference text line n A x f keeps p q a = f p q a
-  plain_actual mode.ByName text line n A x f keeps p q a = absurd a
-
-  actual_at : (keeps : Bool) (by : Mode) (kind : FormalKind) (type : Option SimType) (text : Bool) (line n : ℕ) (A : ℕ → ℕ → Type 0) (x : Term) → ObjectIs n A x → (p q : ℕ) → FittingAt s code site n line (parameter_qualification s kind type) (ActualAt code site n line keeps by kind text A) p q
-      → OperandAt s code m inst site n (kept_when keeps by kind (fitting (parameter_qualification s kind type) line (actual_term line by kind text x))) p q
-  unfolding row_of
-  actual_at true mode.ByReference shape.Array type text line n A x f p q a = ((a.0, f p a.0 a.1, a.2), refl)
-  actual_at false mode.ByReference shape.Array type text line n A x f p q a = f p q a
-  actual_at true mode.ByValue shape.Array type text line n A x f p q a = ((a.0, f p a.0 a.1, a.2), refl)
-  actual_at false mode.ByValue shape.Array type text line n A x f p q a = ((a.0, f p a.0 a.1, a.2), refl)
-  actual_at true mode.ByValue shape.Simple type text line n A x f p q a = fits (parameter_qualification s shape.Simple type) (parameter_classed s shape.Simple type) line n (ActualAt code site n line true mode.ByValue shape.Simple text A) (actual_term line mode.ByValue shape.Simple text x) (λ p q. plain_actual mode.ByValue text line n A x f true p q) p q a
-  actual_at false mode.ByValue shape.Simple type text line n A x f p q a = fits (parameter_qualification s shape.Simple type) (parameter_classed s shape.Simple type) line n (ActualAt code site n line false mode.ByValue shape.Simple text A) (actual_term line mode.ByValue shape.Simple text x) (λ p q. plain_actual mode.ByValue text line n A x f false p q) p q a
-  actual_at true mode.ByReference shape.Simple type text line n A x f p q a = fits (parameter_qualification s shape.Simple type) (parameter_classed s shape.Simple type) line n (ActualAt code site n line true mode.ByReference shape.Simple text A) (actual_term line mode.ByReference shape.Simple text x) (λ p q. plain_actual mode.ByReference text line n A x f true p q) p q a
-  actual_at false mode.ByReference shape.Simple type text line n A x f p q a = fits (parameter_qualification s shape.Simple type) (parameter_classed s shape.Simple type) line n (ActualAt code site n line false mode.ByReference shape.Simple text A) (actual_term line mode.ByReference shape.Simple text x) (λ p q. plain_actual mode.ByReference text line n A x f false p q) p q a
-  actual_at keeps mode.ByValue shape.Procedure type text line n A x f p q a = absurd a
-  actual_at keeps mode.ByReference shape.Procedure type text line n A x f p q a = absurd a
-  actual_at true mode.ByName shape.Simple type text line n A x f p q a = fits (parameter_qualification s shape.Simple type) (parameter_classed s shape.Simple type) line n (ActualAt code site n line true mode.ByName shape.Simple text A) (actual_term line mode.ByName shape.Simple text x) (λ p q. plain_actual mode.ByName text line n A x f true p q) p q a
-  actual_at false mode.ByName shape.Simple type text line n A x f p q a = fits (parameter_qualification s shape.Simple type) (parameter_classed s shape.Simple type) line n (ActualAt code site n line false mode.ByName shape.Simple text A) (actual_term line mode.ByName shape.Simple text x) (λ p q. plain_actual mode.ByName text line n A x f false p q) p q a
-  actual_at keeps mode.ByName shape.Array type text line n A x f p q a = absurd a
-  actual_at keeps mode.ByName shape.Procedure type text line n A x f p q a = absurd a
 
   count_kept : (fs : List Formal) (ts : Terms) → count (with_arrays_kept fs ts) ≡ count ts
   count_kept [] ts = refl
@@ -784,9 +773,9 @@ module _ (s : Source) (code : CodeOf) (m : Instances) (inst : ℕ) (site : Site)
     close_actuals_at keeps line NoMore (f ∷ fs) n p q a = absurd a
     close_actuals_at keeps line (Then e es) [] n p q a = absurd a
     close_actuals_at true line (Then e es) (f ∷ fs) n p q a =
-        (a.0, actual_at true f.mode f.kind f.ty (is_text_type f.ty) line n (ExprAt s code site n e) (close s m inst e) (λ p q. close_at e n p q) p a.0 a.1, close_actuals_at true line es fs (suc n) a.0 q a.2)
+        (a.0, given_for s code m inst site e (close s m inst e) true f line n (ExprAt s code site n e) (λ p q. close_at e n p q) p a.0 a.1, close_actuals_at true line es fs (suc n) a.0 q a.2)
     close_actuals_at false line (Then e es) (f ∷ fs) n p q a =
-        (a.0, actual_at false f.mode f.kind f.ty (is_text_type f.ty) line n (ExprAt s code site n e) (close s m inst e) (λ p q. close_at e n p q) p a.0 a.1, close_actuals_at false line es fs (suc n) a.0 q a.2)
+        (a.0, given_for s code m inst site e (close s m inst e) false f line n (ExprAt s code site n e) (λ p q. close_at e n p q) p a.0 a.1, close_actuals_at false line es fs (suc n) a.0 q a.2)
 
   -- the actual parameters of a block prefix
   pub close_parameters_at : (line : ℕ) (es : Expressions) (fs : List Formal) (n p q : ℕ) → ActualsAt s code site n line true es fs p q → TermsAt s code m inst site n (close_parameters s m inst line es fs) p q × (operands es ≡ count (close_parameters s m inst line es fs))

@@ -1,9 +1,9 @@
 -- Components: what transfers of control and the ends of objects do on both sides.
-use Rattle.std.proofs.Common.{◌≡◌, ◌≢◌, ℕ, zero, suc, Bool, false, List, ◌∷◌, ◌++◌, Option, Some, None, refl, sym, ap, ◌∙◌, subst}
+use Rattle.std.proofs.Common.{◌≡◌, ◌≢◌, ℕ, zero, suc, false, List, ◌∷◌, ◌++◌, Option, Some, None, refl, sym, ap, ◌∙◌, subst}
 use Rattle.std.specs.Prelude.{◌||◌, if◌then◌else◌, slice_get, slice_index_or, slice_set, Result, Ok, Err}
 use Rattle.sim_base.specs.declared.run_error.RunError.{RunError}
 use Rattle.sim_base.specs.declared.run_error.RunError.TheVariants.{ComponentIsAttached, ComponentIsResumed, ComponentIsTerminated, NoneIsNoComponent, ObjectNotOperating, ResumedIsAttached, SystemNotOperating}
-use Rattle.sim_chains.specs.Chains.{Cut, cut_at, outermost, stands_on, under, upper}
+use Rattle.sim_chains.specs.Chains.{Cut, cut_at, is_instance, outermost, stands_on, under, upper}
 use Rattle.sim_chains.specs.Components.{AttachedObject, Components, DetachedObject, NoObject, ResumedObject, Standing, TerminatedObject, call, call_by, detach, detach_by, give_control_to, give_up_at, kept, kept_as, kept_by, leave_at, main_at, main_by, resume, resume_at, resume_by, resume_main, with_operating, with_standing}
 use Rattle.sim_chains.specs.Heads.{head_within}
 use Rattle.sim_chains.specs.WellFormed.{IsWellFormed, is_object}
@@ -28,17 +28,17 @@ use Rattle.sim_code.proofs.Lifts.{Both, alike_computing, alike_no_rule, alike_sa
 use Rattle.sim_code.proofs.Simulation.{Alike, unruled}
 use Rattle.sim_meaning.specs.Pending.{Activation, Configuration, Held, Instances, Item, Val}
 use Rattle.sim_meaning.specs.Pending as meaning
-use Rattle.sim_meaning.specs.Sane.{AllOf, KeptOf, Other}
+use Rattle.sim_meaning.specs.Sane.{Other, OwnersKeptOf, OwnersOf}
 use Rattle.codegen.specs.Compiled.{Compiled}
-use Rattle.sim_relate.proofs.Carried.{all_every, kept_every}
+use Rattle.sim_relate.proofs.Carried.{all_every, kept_every, top_owner}
 use Rattle.sim_relate.proofs.Chains.{CutIs, chain_cut, chain_join, object_leaves, outermost_same}
 use Rattle.sim_relate.proofs.Formed.{resumed_above, stands_once}
-use Rattle.sim_relate.proofs.Known.{Every}
+use Rattle.sim_relate.proofs.Known.{Every, owner_of}
 use Rattle.sim_relate.proofs.Lists.{read_or, read_there}
 use Rattle.sim_relate.proofs.Reach.{other_numbers}
 use Rattle.sim_relate.proofs.Relation.{Bottom, ChainAt, ChainOn, InstanceAt, ObjectIs, StandingAt, StandingsAt, StateAt, StoreAt}
 use Rattle.sim_relate.proofs.Standings.{goes_below, stands_one, stands_two, stood_head, stood_object, stood_on, stood_store}
-use Rattle.sim_relate.proofs.Waiting.{demand, free_gets, gets_free, gets_main, main_gets, set_alike, set_apart, set_here, set_none, suspended, suspended_in, suspends}
+use Rattle.sim_relate.proofs.Waiting.{NoValue, Wait, demand, free_gets, gets_free, gets_main, main_gets, set_alike, set_apart, set_here, set_none, suspended, suspended_by, suspended_in, suspends}
 
 module _ (s : Source) (code : CodeOf) (compiled : Compiled s code) (o : World) (m : Instances) (fs : Frames) (store : StoreAt s code m fs) (parked : StandingsAt s code m fs) where
   abbrev R : Configuration → Machine → Type 0
@@ -56,7 +56,7 @@ module _ (s : Source) (code : CodeOf) (compiled : Compiled s code) (o : World) (
 
   -- ---- system heads
 
-  same_encloser : (x : Option (Instance (List Held))) (y : Option (Instance Cells)) → Both (InstanceAt s code) x y → encloser_in y ≡ encloser_in x
+  same_encloser : (x : Option (Instance (List Held))) (y : Option (Instance Cells)) → Both (InstanceAt s code m) x y → encloser_in y ≡ encloser_in x
   same_encloser None None b = refl
   same_encloser None (Some y) b = absurd b
   same_encloser (Some x) None b = absurd b
@@ -100,26 +100,31 @@ module _ (s : Source) (code : CodeOf) (compiled : Compiled s code) (o : World) (
 
   -- ---- the main component goes on
 
+  -- the head itself, and no evaluation for it
+  head_is : (h : ℕ) (d : Wait) (k : Cut Activation) (k' : Cut machine.Activation) (b : ChainAt s code m fs (k.here ∷ k.below) d (k'.here ∷ k'.below)) → meaning.owner k.here ≡ Some h → owner_of b.block.thunk k.here.instance ≡ Some h
+  head_is h d k k' b e = sym (top_owner s code (Bottom s code NoValue) m fs k.here k.below d k'.here k'.below b) ∙ e
+
   -- Its chain stands on its head then, which gets what it waits for.
-  main_returns : (h : ℕ) (main : List Activation) (acts : List machine.Activation) (d : Bool) (k : Cut Activation) (k' : Cut machine.Activation) (xs : List (Standing Activation)) (ys : List (Standing machine.Activation)) (same : (j : ℕ) → Other h j → suspended_in xs j ≡ suspended m j) → suspended_in xs h ≡ None → standing h ≡ NoObject (Some main) → k.here.instance ≡ h
-      → ChainOn s code (Bottom s code (demand false main)) m fs main false acts → AllOf (Other h) main → ChainAt s code m fs (k.here ∷ k.below) d (k'.here ∷ k'.below) → AllOf (Other h) k.below → ChainAt s code (record m { standings = xs }) (record fs { standings = ys }) (main ++ k.here ∷ k.below) false (acts ++ k'.here ∷ k'.below)
+  main_returns : (h : ℕ) (main : List Activation) (acts : List machine.Activation) (d : Wait) (k : Cut Activation) (k' : Cut machine.Activation) (xs : List (Standing Activation)) (ys : List (Standing machine.Activation)) (same : (j : ℕ) → Other h j → suspended_in xs j ≡ suspended m j) → suspended_in xs h ≡ None → standing h ≡ NoObject (Some main) → meaning.owner k.here ≡ Some h
+      → ChainOn s code (Bottom s code (demand NoValue main)) m fs main NoValue acts → OwnersOf (Other h) main → ChainAt s code m fs (k.here ∷ k.below) d (k'.here ∷ k'.below) → OwnersOf (Other h) k.below → ChainAt s code (record m { standings = xs }) (record fs { standings = ys }) (main ++ k.here ∷ k.below) NoValue (acts ++ k'.here ∷ k'.below)
   main_returns h main acts d k k' xs ys same free is here c all b all_below =
-      let gets = gets_main (suspended m k.here.instance) d b.gets (demand false main) (ap (suspended m) here ∙ ap suspends is) b.gets_is in
-      let head = stood_head s code m fs store xs ys (Other h) same k.here k.below all_below d (demand false main) k'.here k'.below b (free_gets (suspended_in xs k.here.instance) (demand false main) b.gets (ap (suspended_in xs) here ∙ free) gets.1) in
-      chain_join s code (record m { standings = xs }) (record fs { standings = ys }) (demand false main) (k.here ∷ k.below) (k'.here ∷ k'.below) head main false acts (stood_on s code m fs store xs ys (Other h) same (demand false main) main all false acts c)
+      let at = head_is h d k k' b here in
+      let gets = gets_main (suspended_by m (owner_of b.block.thunk k.here.instance)) d b.gets (demand NoValue main) (ap (suspended_by m) at ∙ ap suspends is) b.gets_is in
+      let head = stood_head s code m fs store xs ys (Other h) same k.here k.below all_below d (demand NoValue main) k'.here k'.below b (free_gets (suspended_by (record m { standings = xs }) (owner_of b.block.thunk k.here.instance)) (demand NoValue main) b.gets (ap (suspended_by (record m { standings = xs })) at ∙ free) gets.1) in
+      chain_join s code (record m { standings = xs }) (record fs { standings = ys }) (demand NoValue main) (k.here ∷ k.below) (k'.here ∷ k'.below) head main NoValue acts (stood_on s code m fs store xs ys (Other h) same (demand NoValue main) main all NoValue acts c)
 
   -- ---- the ends of objects
 
-  pub attached_ends : (j : ℕ) (rest : List Activation) (below : List machine.Activation) → ChainAt s code m fs rest false below → slice_get m.standings j ≡ Some AttachedObject
+  pub attached_ends : (j : ℕ) (rest : List Activation) (below : List machine.Activation) → ChainAt s code m fs rest NoValue below → slice_get m.standings j ≡ Some AttachedObject
       → Alike R (going_below o rest (record m { standings = slice_set m.standings j TerminatedObject })) (going_below o below (record fs { standings = slice_set fs.standings j TerminatedObject }))
   attached_ends j rest below c e =
       let xs = slice_set m.standings j TerminatedObject in
       let ys = slice_set fs.standings j TerminatedObject in
       let same : (i : ℕ) → Every i → suspended_in xs i ≡ suspended m i = λ i of. set_alike m.standings j TerminatedObject (sym (ap suspends (read_there m.standings j AttachedObject (NoObject None) e))) i in
       goes_below s code o (record m { standings = xs }) (record fs { standings = ys }) (stood_store s code m fs store xs ys Every same)
-      (stands_one s code m fs store j TerminatedObject TerminatedObject Every same (kept_every m) parked tt) rest below (stood_on s code m fs store xs ys Every same false rest (all_every rest) false below c)
+      (stands_one s code m fs store j TerminatedObject TerminatedObject Every same (kept_every m) parked tt) rest below (stood_on s code m fs store xs ys Every same NoValue rest (all_every rest) NoValue below c)
 
-  module _ (j : ℕ) (rest : List Activation) (below : List machine.Activation) (c : ChainAt s code m fs rest false below) (w : List Item) (vals : List Val) (formed : IsWellFormed meaning.owner (system_head m) (record { operating = record { instance = j; work = w; values = vals } ∷ rest; standings = m.standings })) (is : slice_get m.standings j ≡ Some ResumedObject) where
+  module _ (j : ℕ) (rest : List Activation) (below : List machine.Activation) (c : ChainAt s code m fs rest NoValue below) (w : List Item) (vals : List Val) (own : meaning.owner (record { instance = j; work = w; values = vals }) ≡ Some j) (formed : IsWellFormed meaning.owner (system_head m) (record { operating = record { instance = j; work = w; values = vals } ∷ rest; standings = m.standings })) (is : slice_get m.standings j ≡ Some ResumedObject) where
     abbrev h : ℕ
     h = system_head m j
 
@@ -130,9 +135,9 @@ module _ (s : Source) (code : CodeOf) (compiled : Compiled s code) (o : World) (
     whole : (k : Cut Activation) → cut_at meaning.owner h rest ≡ Some k → j ≢ h → IsCut meaning.owner h (record { instance = j; work = w; values = vals } ∷ rest) (under (record { instance = j; work = w; values = vals }) k)
     whole k e apart =
         let cut = cut_is meaning.owner h rest k e in
-        record { chain = ap (λ z. record { instance = j; work = w; values = vals } ∷ z) cut.chain; here = cut.here; free = ap (λ b. b || stands_on meaning.owner h k.above) (other_numbers j h apart) ∙ cut.free }
+        record { chain = ap (λ z. record { instance = j; work = w; values = vals } ∷ z) cut.chain; here = cut.here; free = ap (λ o. is_instance h o || stands_on meaning.owner h k.above) own ∙ ap (λ b. b || stands_on meaning.owner h k.above) (other_numbers j h apart) ∙ cut.free }
 
-    main_after : (main : List Activation) (acts : List machine.Activation) (k : Cut Activation) (k' : Cut machine.Activation) → cut_at meaning.owner h rest ≡ Some k → CutIs s code m fs false k k' → slice_get m.standings h ≡ Some (NoObject (Some main)) → ChainOn s code (Bottom s code (demand false main)) m fs main false acts
+    main_after : (main : List Activation) (acts : List machine.Activation) (k : Cut Activation) (k' : Cut machine.Activation) → cut_at meaning.owner h rest ≡ Some k → CutIs s code m fs NoValue k k' → slice_get m.standings h ≡ Some (NoObject (Some main)) → ChainOn s code (Bottom s code (demand NoValue main)) m fs main NoValue acts
         → Alike R (going_below o (main ++ k.here ∷ k.below) (record m { standings = slice_set (slice_set m.standings h (NoObject None)) j TerminatedObject })) (going_below o (acts ++ k'.here ∷ k'.below) (record fs { standings = slice_set (slice_set fs.standings h (NoObject None)) j TerminatedObject }))
     main_after main acts k k' e r at_head a =
         let is_head : standing h ≡ NoObject (Some main) = read_there m.standings h (NoObject (Some main)) (NoObject None) at_head in
@@ -144,12 +149,12 @@ module _ (s : Source) (code : CodeOf) (compiled : Compiled s code) (o : World) (
         let ys = slice_set (slice_set fs.standings h (NoObject None)) j TerminatedObject in
         let at_j : suspended_in mid j ≡ None = set_apart m.standings h (NoObject None) j apart ∙ ap suspends resumed in
         let same : (i : ℕ) → Other h i → suspended_in xs i ≡ suspended m i = λ i other. set_alike mid j TerminatedObject (sym at_j) i ∙ set_apart m.standings h (NoObject None) i other in
-        let here : k.here.instance ≡ h = (let x = (cut_is meaning.owner h rest k e).here in cc (x)) in
+        let here = (cut_is meaning.owner h rest k e).here in
         goes_below s code o (record m { standings = xs }) (record fs { standings = ys }) (stood_store s code m fs store xs ys (Other h) same)
         (stands_two s code m fs store h (NoObject None) (NoObject None) j TerminatedObject TerminatedObject (Other h) same once.kept parked tt tt) (main ++ k.here ∷ k.below) (acts ++ k'.here ∷ k'.below)
-        (main_returns h main acts (demand false k.above) k k' xs ys same (set_alike mid j TerminatedObject (sym at_j) h ∙ set_none m.standings h) is_head here a (subst (KeptOf (Other h)) is_head (once.kept_at h)) r.1 once.below)
+        (main_returns h main acts (demand NoValue k.above) k k' xs ys same (set_alike mid j TerminatedObject (sym at_j) h ∙ set_none m.standings h) is_head here a (subst (OwnersKeptOf (Other h)) is_head (once.kept_at h)) r.1 once.below)
 
-    ends_by : (x : Option (Cut Activation)) (x' : Option (Cut machine.Activation)) → cut_at meaning.owner h rest ≡ x → Both (CutIs s code m fs false) x x' → (y : Option (Standing Activation)) (y' : Option (Standing machine.Activation)) → slice_get m.standings h ≡ y → Both (StandingAt s code m fs h) y y' → Alike R (main_goes_on meaning.owner o m j h x y) (main_goes_on machine.owner o fs j h x' y')
+    ends_by : (x : Option (Cut Activation)) (x' : Option (Cut machine.Activation)) → cut_at meaning.owner h rest ≡ x → Both (CutIs s code m fs NoValue) x x' → (y : Option (Standing Activation)) (y' : Option (Standing machine.Activation)) → slice_get m.standings h ≡ y → Both (StandingAt s code m fs h) y y' → Alike R (main_goes_on meaning.owner o m j h x y) (main_goes_on machine.owner o fs j h x' y')
     ends_by None x' e r y y' f a = unruled
     ends_by (Some k) None e r y y' f a = absurd r
     ends_by (Some k) (Some k') e r None y' f a = unruled
@@ -165,11 +170,11 @@ module _ (s : Source) (code : CodeOf) (compiled : Compiled s code) (o : World) (
     pub resumed_ends : Alike R (main_goes_on meaning.owner o m j (system_head m j) (cut_at meaning.owner (system_head m j) rest) (slice_get m.standings (system_head m j))) (main_goes_on machine.owner o fs j (system_head fs j) (cut_at machine.owner (system_head fs j) below) (slice_get fs.standings (system_head fs j)))
     resumed_ends =
         subst (λ z. Alike R (main_goes_on meaning.owner o m j h (cut_at meaning.owner h rest) (slice_get m.standings h)) (main_goes_on machine.owner o fs j z (cut_at machine.owner z below) (slice_get fs.standings z))) (sym (heads_same j))
-        (ends_by (cut_at meaning.owner h rest) (cut_at machine.owner h below) refl (chain_cut s code m fs h rest false below c) (slice_get m.standings h) (slice_get fs.standings h) refl (parked.each h))
+        (ends_by (cut_at meaning.owner h rest) (cut_at machine.owner h below) refl (chain_cut s code m fs h rest NoValue below c) (slice_get m.standings h) (slice_get fs.standings h) refl (parked.each h))
 
   -- ---- transfers of control
 
-  module _ (line : ℕ) (chain : List Activation) (acts : List machine.Activation) (c : ChainAt s code m fs chain false acts) (formed : IsWellFormed meaning.owner (system_head m) (record { operating = chain; standings = m.standings })) where
+  module _ (line : ℕ) (chain : List Activation) (acts : List machine.Activation) (c : ChainAt s code m fs chain NoValue acts) (formed : IsWellFormed meaning.owner (system_head m) (record { operating = chain; standings = m.standings })) where
     abbrev before : Components Activation
     before = record { operating = chain; standings = m.standings }
 
@@ -202,7 +207,7 @@ module _ (s : Source) (code : CodeOf) (compiled : Compiled s code) (o : World) (
         let same : (i : ℕ) → Every i → suspended_in xs i ≡ suspended m i = λ i of. set_alike m.standings j AttachedObject (sym (ap suspends e)) i in
         goes_below s code o (record m { standings = xs }) (record fs { standings = ys }) (stood_store s code m fs store xs ys Every same)
         (stands_one s code m fs store j AttachedObject AttachedObject Every same (kept_every m) parked (stood_object s code m fs store xs ys Every same j a.0)) (u ++ chain) (v ++ acts)
-        (chain_join s code (record m { standings = xs }) (record fs { standings = ys }) false chain acts (stood_on s code m fs store xs ys Every same false chain (all_every chain) false acts c) u false v (stood_on s code m fs store xs ys Every same false u (all_every u) false v a.1))
+        (chain_join s code (record m { standings = xs }) (record fs { standings = ys }) NoValue chain acts (stood_on s code m fs store xs ys Every same NoValue chain (all_every chain) NoValue acts c) u NoValue v (stood_on s code m fs store xs ys Every same NoValue u (all_every u) NoValue v a.1))
     called_by j (NoObject None) (NoObject None) e a = refused ComponentIsAttached
     called_by j (NoObject (Some u)) (NoObject (Some v)) e a = refused ComponentIsAttached
     called_by j AttachedObject AttachedObject e a = refused ComponentIsAttached
@@ -216,7 +221,7 @@ module _ (s : Source) (code : CodeOf) (compiled : Compiled s code) (o : World) (
 
     -- ---- the main component
 
-    main_cut : (h : ℕ) (main : List Activation) (main' : List machine.Activation) → standing h ≡ NoObject (Some main) → frame_standing h ≡ NoObject (Some main') → ChainOn s code (Bottom s code (demand false main)) m fs main false main' → (x : Option (Cut Activation)) (x' : Option (Cut machine.Activation)) → cut_at meaning.owner h chain ≡ x → Both (CutIs s code m fs false) x x'
+    main_cut : (h : ℕ) (main : List Activation) (main' : List machine.Activation) → standing h ≡ NoObject (Some main) → frame_standing h ≡ NoObject (Some main') → ChainOn s code (Bottom s code (demand NoValue main)) m fs main NoValue main' → (x : Option (Cut Activation)) (x' : Option (Cut machine.Activation)) → cut_at meaning.owner h chain ≡ x → Both (CutIs s code m fs NoValue) x x'
         → Alike R (onward (main_at meaning.owner x main before h)) (frames_onward (main_at machine.owner x' main' frames_before h))
     unfolding computing
     main_cut h main main' is is' a None None e r = refused SystemNotOperating
@@ -227,27 +232,28 @@ module _ (s : Source) (code : CodeOf) (compiled : Compiled s code) (o : World) (
         let above = resumed_above (system_head m) before formed h k main cut is in
         let z = above.object in
         let once = stands_once (system_head m) before formed h k cut in
-        let here : k.here.instance ≡ h = (let x = cut.here in cc (x)) in
-        let d = demand false k.above in
+        let here = cut.here in
+        let d = demand NoValue k.above in
         let b = r.1 in
-        let gets = gets_main (suspended m k.here.instance) d b.gets (demand false main) (ap (suspended m) here ∙ ap suspends is) b.gets_is in
+        let at = head_is h d k k' b here in
+        let gets = gets_main (suspended_by m (owner_of b.block.thunk k.here.instance)) d b.gets (demand NoValue main) (ap (suspended_by m) at ∙ ap suspends is) b.gets_is in
         let mid = slice_set m.standings z (DetachedObject k.above) in
         let mid' = slice_set fs.standings z (DetachedObject k'.above) in
         let xs = slice_set mid h (NoObject None) in
         let ys = slice_set mid' h (NoObject None) in
         let same : (i : ℕ) → Other h i → suspended_in xs i ≡ suspended m i = λ i other. set_apart mid h (NoObject None) i other ∙ set_alike m.standings z (DetachedObject k.above) (sym (ap suspends above.resumed)) i in
         let object = stood_object s code m fs store xs ys (Other h) same z (resumed_object z (standing z) (frame_standing z) (standing_here z) above.resumed) in
-        let kept_chain = subst (λ g. ChainOn s code (Bottom s code g) (record m { standings = xs }) (record fs { standings = ys }) k.above false k'.above) gets.0 (stood_on s code m fs store xs ys (Other h) same d k.above once.above false k'.above r.0) in
+        let kept_chain = subst (λ g. ChainOn s code (Bottom s code g) (record m { standings = xs }) (record fs { standings = ys }) k.above NoValue k'.above) gets.0 (stood_on s code m fs store xs ys (Other h) same d k.above once.above NoValue k'.above r.0) in
         let state =
         goes_below s code o (record m { standings = xs }) (record fs { standings = ys }) (stood_store s code m fs store xs ys (Other h) same)
         (stands_two s code m fs store z (DetachedObject k.above) (DetachedObject k'.above) h (NoObject None) (NoObject None) (Other h) same once.kept parked (object, kept_chain) tt) (main ++ k.here ∷ k.below) (main' ++ k'.here ∷ k'.below)
-        (main_returns h main main' d k k' xs ys same (set_none mid h) is here a (subst (KeptOf (Other h)) is (once.kept_at h)) b once.below) in
-        let machine_above : outermost machine.owner k'.above ≡ Some z = outermost_same s code m fs d k.above false k'.above r.0 ∙ above.above in
+        (main_returns h main main' d k k' xs ys same (set_none mid h) is here a (subst (OwnersKeptOf (Other h)) is (once.kept_at h)) b once.below) in
+        let machine_above : outermost machine.owner k'.above ≡ Some z = outermost_same s code m fs d k.above NoValue k'.above r.0 ∙ above.above in
         subst (λ q. Alike R (onward (Ok (with_standing h (NoObject None) (with_operating (main ++ k.here ∷ k.below) q)))) (frames_onward (Ok (with_standing h (NoObject None) (with_operating (main' ++ k'.here ∷ k'.below) (kept machine.owner h k'.above frames_before)))))) (sym (kept_object meaning.owner (system_head m) before h z main k.above is above.above))
         (subst (λ q. Alike R (onward (Ok (with_standing h (NoObject None) (with_operating (main ++ k.here ∷ k.below) (with_standing z (DetachedObject k.above) before))))) (frames_onward (Ok (with_standing h (NoObject None) (with_operating (main' ++ k'.here ∷ k'.below) q))))) (sym (kept_object machine.owner (system_head m) frames_before h z main' k'.above is' machine_above)) state)
 
     main_of : (h : ℕ) (x : Standing Activation) (x' : Standing machine.Activation) → standing h ≡ x → frame_standing h ≡ x' → StandingAt s code m fs h x x' → Alike R (onward (main_by meaning.owner x before h)) (frames_onward (main_by machine.owner x' frames_before h))
-    main_of h (NoObject (Some main)) (NoObject (Some main')) is is' a = main_cut h main main' is is' a (cut_at meaning.owner h chain) (cut_at machine.owner h acts) refl (chain_cut s code m fs h chain false acts c)
+    main_of h (NoObject (Some main)) (NoObject (Some main')) is is' a = main_cut h main main' is is' a (cut_at meaning.owner h chain) (cut_at machine.owner h acts) refl (chain_cut s code m fs h chain NoValue acts c)
     main_of h (NoObject None) (NoObject None) is is' a = stays
     main_of h AttachedObject AttachedObject is is' a = stays
     main_of h (DetachedObject u) (DetachedObject v) is is' a = stays
@@ -261,31 +267,31 @@ module _ (s : Source) (code : CodeOf) (compiled : Compiled s code) (o : World) (
     -- ---- `detach`
 
     -- an attached object leaves the chain
-    left_at : (j : ℕ) → standing j ≡ AttachedObject → ObjectIs s code m j → (x : Option (Cut Activation)) (x' : Option (Cut machine.Activation)) → cut_at meaning.owner j chain ≡ x → Both (CutIs s code m fs false) x x' → Alike R (onward (leave_at meaning.owner x before j)) (frames_onward (leave_at machine.owner x' frames_before j))
+    left_at : (j : ℕ) → standing j ≡ AttachedObject → ObjectIs s code m j → (x : Option (Cut Activation)) (x' : Option (Cut machine.Activation)) → cut_at meaning.owner j chain ≡ x → Both (CutIs s code m fs NoValue) x x' → Alike R (onward (leave_at meaning.owner x before j)) (frames_onward (leave_at machine.owner x' frames_before j))
     unfolding computing
     left_at j is a None None e r = refused ObjectNotOperating
     left_at j is a None (Some k') e r = absurd r
     left_at j is a (Some k) None e r = absurd r
     left_at j is a (Some k) (Some k') e r =
-        let here : k.here.instance ≡ j = (let x = (cut_is meaning.owner j chain k e).here in cc (x)) in
-        let parts = object_leaves s code compiled m fs store j a false k k' r here in
+        let here = (cut_is meaning.owner j chain k e).here in
+        let parts = object_leaves s code compiled m fs store j a NoValue k k' r here in
         let xs = slice_set m.standings j (DetachedObject (upper k)) in
         let ys = slice_set fs.standings j (DetachedObject (upper k')) in
         let same : (i : ℕ) → Every i → suspended_in xs i ≡ suspended m i = λ i of. set_alike m.standings j (DetachedObject (upper k)) (sym (ap suspends is)) i in
         goes_below s code o (record m { standings = xs }) (record fs { standings = ys }) (stood_store s code m fs store xs ys Every same)
         (stands_one s code m fs store j (DetachedObject (upper k)) (DetachedObject (upper k')) Every same (kept_every m) parked
-        (stood_object s code m fs store xs ys Every same j a, stood_on s code m fs store xs ys Every same false (upper k) (all_every (upper k)) false (upper k') parts.0)) k.below k'.below
-        (stood_on s code m fs store xs ys Every same false k.below (all_every k.below) false k'.below parts.1)
+        (stood_object s code m fs store xs ys Every same j a, stood_on s code m fs store xs ys Every same NoValue (upper k) (all_every (upper k)) NoValue (upper k') parts.0)) k.below k'.below
+        (stood_on s code m fs store xs ys Every same NoValue k.below (all_every k.below) NoValue k'.below parts.1)
 
-    gives_up : (h : ℕ) (x : Option (Cut Activation)) (x' : Option (Cut machine.Activation)) → Both (CutIs s code m fs false) x x' → Alike R (onward (give_up_at meaning.owner x before h)) (frames_onward (give_up_at machine.owner x' frames_before h))
+    gives_up : (h : ℕ) (x : Option (Cut Activation)) (x' : Option (Cut machine.Activation)) → Both (CutIs s code m fs NoValue) x x' → Alike R (onward (give_up_at meaning.owner x before h)) (frames_onward (give_up_at machine.owner x' frames_before h))
     gives_up h None None r = refused ObjectNotOperating
     gives_up h None (Some k') r = absurd r
     gives_up h (Some k) None r = absurd r
     gives_up h (Some k) (Some k') r = main_component h
 
     left_by : (j : ℕ) (x : Standing Activation) (y : Standing machine.Activation) → standing j ≡ x → StandingAt s code m fs j x y → Alike R (onward (detach_by meaning.owner x before (system_head m j) j)) (frames_onward (detach_by machine.owner y frames_before (system_head m j) j))
-    left_by j AttachedObject AttachedObject e a = left_at j e a (cut_at meaning.owner j chain) (cut_at machine.owner j acts) refl (chain_cut s code m fs j chain false acts c)
-    left_by j ResumedObject ResumedObject e a = gives_up (system_head m j) (cut_at meaning.owner j chain) (cut_at machine.owner j acts) (chain_cut s code m fs j chain false acts c)
+    left_by j AttachedObject AttachedObject e a = left_at j e a (cut_at meaning.owner j chain) (cut_at machine.owner j acts) refl (chain_cut s code m fs j chain NoValue acts c)
+    left_by j ResumedObject ResumedObject e a = gives_up (system_head m j) (cut_at meaning.owner j chain) (cut_at machine.owner j acts) (chain_cut s code m fs j chain NoValue acts c)
     left_by j (DetachedObject u) (DetachedObject v) e a = refused ObjectNotOperating
     left_by j (NoObject None) (NoObject None) e a = stays
     left_by j (NoObject (Some u)) (NoObject (Some v)) e a = stays
@@ -299,19 +305,19 @@ module _ (s : Source) (code : CodeOf) (compiled : Compiled s code) (o : World) (
 
     -- ---- `resume`
 
-    module _ (y : ℕ) (u : List Activation) (u' : List machine.Activation) (is_detached : standing y ≡ DetachedObject u) (object : ObjectIs s code m y) (own : ChainAt s code m fs u false u') where
+    module _ (y : ℕ) (u : List Activation) (u' : List machine.Activation) (is_detached : standing y ≡ DetachedObject u) (object : ObjectIs s code m y) (own : ChainAt s code m fs u NoValue u') where
       abbrev its_head : ℕ
       its_head = system_head m y
 
-      module _ (k : Cut Activation) (k' : Cut machine.Activation) (e : cut_at meaning.owner its_head chain ≡ Some k) (r : CutIs s code m fs false k k') where
+      module _ (k : Cut Activation) (k' : Cut machine.Activation) (e : cut_at meaning.owner its_head chain ≡ Some k) (r : CutIs s code m fs NoValue k k') where
         cut : IsCut meaning.owner its_head chain k
         cut = cut_is meaning.owner its_head chain k e
 
-        here : k.here.instance ≡ its_head
-        here = let x = cut.here in cc (x)
+        here : meaning.owner k.here ≡ Some its_head
+        here = cut.here
 
-        abbrev d : Bool
-        d = demand false k.above
+        abbrev d : Wait
+        d = demand NoValue k.above
 
         -- the main component operated so far, and waits from now on
         main_waits : standing its_head ≡ NoObject None → Alike R (onward (Ok (with_standing y ResumedObject (with_operating (u ++ k.here ∷ k.below) (with_standing its_head (NoObject (Some k.above)) before))))) (frames_onward (Ok (with_standing y ResumedObject (with_operating (u' ++ k'.here ∷ k'.below) (with_standing its_head (NoObject (Some k'.above)) frames_before)))))
@@ -327,11 +333,12 @@ module _ (s : Source) (code : CodeOf) (compiled : Compiled s code) (o : World) (
             let same : (i : ℕ) → Other its_head i → suspended_in xs i ≡ suspended m i = λ i other. set_alike mid y ResumedObject (sym at_y) i ∙ set_apart m.standings its_head (NoObject (Some k.above)) i other in
             let waits : suspended_in xs its_head ≡ Some d = set_alike mid y ResumedObject (sym at_y) its_head ∙ set_here m.standings its_head (NoObject (Some k.above)) once.entered in
             let b = r.1 in
-            let gets = gets_free (suspended m k.here.instance) d b.gets (ap (suspended m) here ∙ ap suspends is) b.gets_is in
-            let head = stood_head s code m fs store xs ys (Other its_head) same k.here k.below once.below d false k'.here k'.below b (main_gets (suspended_in xs k.here.instance) b.gets d (ap (suspended_in xs) here ∙ waits) gets) in
+            let at = head_is its_head d k k' b here in
+            let gets = gets_free (suspended_by m (owner_of b.block.thunk k.here.instance)) d b.gets (ap (suspended_by m) at ∙ ap suspends is) b.gets_is in
+            let head = stood_head s code m fs store xs ys (Other its_head) same k.here k.below once.below d NoValue k'.here k'.below b (main_gets (suspended_by (record m { standings = xs }) (owner_of b.block.thunk k.here.instance)) b.gets d (ap (suspended_by (record m { standings = xs })) at ∙ waits) gets) in
             goes_below s code o (record m { standings = xs }) (record fs { standings = ys }) (stood_store s code m fs store xs ys (Other its_head) same)
-            (stands_two s code m fs store its_head (NoObject (Some k.above)) (NoObject (Some k'.above)) y ResumedObject ResumedObject (Other its_head) same once.kept parked (stood_on s code m fs store xs ys (Other its_head) same d k.above once.above false k'.above r.0) (stood_object s code m fs store xs ys (Other its_head) same y object)) (u ++ k.here ∷ k.below) (u' ++ k'.here ∷ k'.below)
-            (chain_join s code (record m { standings = xs }) (record fs { standings = ys }) false (k.here ∷ k.below) (k'.here ∷ k'.below) head u false u' (stood_on s code m fs store xs ys (Other its_head) same false u (subst (KeptOf (Other its_head)) detached (once.kept_at y)) false u' own))
+            (stands_two s code m fs store its_head (NoObject (Some k.above)) (NoObject (Some k'.above)) y ResumedObject ResumedObject (Other its_head) same once.kept parked (stood_on s code m fs store xs ys (Other its_head) same d k.above once.above NoValue k'.above r.0) (stood_object s code m fs store xs ys (Other its_head) same y object)) (u ++ k.here ∷ k.below) (u' ++ k'.here ∷ k'.below)
+            (chain_join s code (record m { standings = xs }) (record fs { standings = ys }) NoValue (k.here ∷ k.below) (k'.here ∷ k'.below) head u NoValue u' (stood_on s code m fs store xs ys (Other its_head) same NoValue u (subst (OwnersKeptOf (Other its_head)) detached (once.kept_at y)) NoValue u' own))
 
         -- another object operated so far, and is detached
         object_leaves_head : (main : List Activation) → standing its_head ≡ NoObject (Some main) → Alike R (onward (Ok (with_standing y ResumedObject (with_operating (u ++ k.here ∷ k.below) (kept_as meaning.owner (outermost meaning.owner k.above) k.above before))))) (frames_onward (Ok (with_standing y ResumedObject (with_operating (u' ++ k'.here ∷ k'.below) (kept_as machine.owner (outermost machine.owner k'.above) k'.above frames_before)))))
@@ -347,15 +354,16 @@ module _ (s : Source) (code : CodeOf) (compiled : Compiled s code) (o : World) (
             let at_y : suspended_in mid y ≡ None = mid_same y ∙ ap suspends detached in
             let same : (i : ℕ) → Every i → suspended_in xs i ≡ suspended m i = λ i of. set_alike mid y ResumedObject (sym at_y) i ∙ mid_same i in
             let b = r.1 in
-            let gets = gets_main (suspended m k.here.instance) d b.gets (demand false main) (ap (suspended m) here ∙ ap suspends is) b.gets_is in
-            let head = stood_on s code m fs store xs ys Every same false (k.here ∷ k.below) (all_every (k.here ∷ k.below)) false (k'.here ∷ k'.below) (subst (λ g. ChainAt s code m fs (k.here ∷ k.below) g (k'.here ∷ k'.below)) gets.0 b) in
+            let at = head_is its_head d k k' b here in
+            let gets = gets_main (suspended_by m (owner_of b.block.thunk k.here.instance)) d b.gets (demand NoValue main) (ap (suspended_by m) at ∙ ap suspends is) b.gets_is in
+            let head = stood_on s code m fs store xs ys Every same NoValue (k.here ∷ k.below) (all_every (k.here ∷ k.below)) NoValue (k'.here ∷ k'.below) (subst (λ g. ChainAt s code m fs (k.here ∷ k.below) g (k'.here ∷ k'.below)) gets.0 b) in
             let old = stood_object s code m fs store xs ys Every same z (resumed_object z (standing z) (frame_standing z) (standing_here z) above.resumed) in
-            let kept_chain = stood_on s code m fs store xs ys Every same false k.above (all_every k.above) false k'.above (subst (λ g. ChainOn s code (Bottom s code g) m fs k.above false k'.above) gets.0 r.0) in
+            let kept_chain = stood_on s code m fs store xs ys Every same NoValue k.above (all_every k.above) NoValue k'.above (subst (λ g. ChainOn s code (Bottom s code g) m fs k.above NoValue k'.above) gets.0 r.0) in
             let state =
             goes_below s code o (record m { standings = xs }) (record fs { standings = ys }) (stood_store s code m fs store xs ys Every same)
             (stands_two s code m fs store z (DetachedObject k.above) (DetachedObject k'.above) y ResumedObject ResumedObject Every same (kept_every m) parked (old, kept_chain) (stood_object s code m fs store xs ys Every same y object)) (u ++ k.here ∷ k.below) (u' ++ k'.here ∷ k'.below)
-            (chain_join s code (record m { standings = xs }) (record fs { standings = ys }) false (k.here ∷ k.below) (k'.here ∷ k'.below) head u false u' (stood_on s code m fs store xs ys Every same false u (all_every u) false u' own)) in
-            let machine_above : outermost machine.owner k'.above ≡ Some z = outermost_same s code m fs d k.above false k'.above r.0 ∙ above.above in
+            (chain_join s code (record m { standings = xs }) (record fs { standings = ys }) NoValue (k.here ∷ k.below) (k'.here ∷ k'.below) head u NoValue u' (stood_on s code m fs store xs ys Every same NoValue u (all_every u) NoValue u' own)) in
+            let machine_above : outermost machine.owner k'.above ≡ Some z = outermost_same s code m fs d k.above NoValue k'.above r.0 ∙ above.above in
             subst (λ q. Alike R (onward (Ok (with_standing y ResumedObject (with_operating (u ++ k.here ∷ k.below) (kept_as meaning.owner q k.above before))))) (frames_onward (Ok (with_standing y ResumedObject (with_operating (u' ++ k'.here ∷ k'.below) (kept_as machine.owner (outermost machine.owner k'.above) k'.above frames_before)))))) (sym above.above)
             (subst (λ q. Alike R (onward (Ok (with_standing y ResumedObject (with_operating (u ++ k.here ∷ k.below) (kept_as meaning.owner (Some z) k.above before))))) (frames_onward (Ok (with_standing y ResumedObject (with_operating (u' ++ k'.here ∷ k'.below) (kept_as machine.owner q k'.above frames_before)))))) (sym machine_above) state)
 
@@ -372,14 +380,14 @@ module _ (s : Source) (code : CodeOf) (compiled : Compiled s code) (o : World) (
         kept_so TerminatedObject TerminatedObject is a = let no = no_object in let yes = ap is_object is in absurd (cc (no, yes))
         kept_so _ _ is a = absurd a
 
-      resumed_cut : (x : Option (Cut Activation)) (x' : Option (Cut machine.Activation)) → cut_at meaning.owner its_head chain ≡ x → Both (CutIs s code m fs false) x x' → Alike R (onward (resume_at meaning.owner x u before its_head y)) (frames_onward (resume_at machine.owner x' u' frames_before its_head y))
+      resumed_cut : (x : Option (Cut Activation)) (x' : Option (Cut machine.Activation)) → cut_at meaning.owner its_head chain ≡ x → Both (CutIs s code m fs NoValue) x x' → Alike R (onward (resume_at meaning.owner x u before its_head y)) (frames_onward (resume_at machine.owner x' u' frames_before its_head y))
       resumed_cut None None e r = refused SystemNotOperating
       resumed_cut None (Some k') e r = absurd r
       resumed_cut (Some k) None e r = absurd r
       resumed_cut (Some k) (Some k') e r = kept_so k k' e r (standing its_head) (frame_standing its_head) refl (standing_here its_head)
 
     resumed_by : (y : ℕ) (x : Standing Activation) (x' : Standing machine.Activation) → standing y ≡ x → StandingAt s code m fs y x x' → Alike R (onward (resume_by meaning.owner x before (system_head m y) y)) (frames_onward (resume_by machine.owner x' frames_before (system_head m y) y))
-    resumed_by y (DetachedObject u) (DetachedObject u') e a = resumed_cut y u u' e a.0 a.1 (cut_at meaning.owner (system_head m y) chain) (cut_at machine.owner (system_head m y) acts) refl (chain_cut s code m fs (system_head m y) chain false acts c)
+    resumed_by y (DetachedObject u) (DetachedObject u') e a = resumed_cut y u u' e a.0 a.1 (cut_at meaning.owner (system_head m y) chain) (cut_at machine.owner (system_head m y) acts) refl (chain_cut s code m fs (system_head m y) chain NoValue acts c)
     resumed_by y (NoObject None) (NoObject None) e a = refused ResumedIsAttached
     resumed_by y (NoObject (Some u)) (NoObject (Some v)) e a = refused ResumedIsAttached
     resumed_by y AttachedObject AttachedObject e a = refused ResumedIsAttached
@@ -426,7 +434,7 @@ module _ (s : Source) (code : CodeOf) (compiled : Compiled s code) (o : World) (
     gone_to x (next.Resume p) = alike_same Configuration Machine R (Option ℕ) (component_of x p.0) o _ _ (λ y. controlled x.block y)
 
 -- the list of notices that a procedure leaves decides
-pub decides : (s : Source) (code : CodeOf) → Compiled s code → (o : World) (m : Instances) (fs : Frames) → StoreAt s code m fs → StandingsAt s code m fs → (line : ℕ) (chain : List Activation) (acts : List machine.Activation) → ChainAt s code m fs chain false acts → IsWellFormed meaning.owner (system_head m) (record { operating = chain; standings = m.standings }) → (x : ℕ × Simulation) (r : Result (List Notice) RunError)
+pub decides : (s : Source) (code : CodeOf) → Compiled s code → (o : World) (m : Instances) (fs : Frames) → StoreAt s code m fs → StandingsAt s code m fs → (line : ℕ) (chain : List Activation) (acts : List machine.Activation) → ChainAt s code m fs chain NoValue acts → IsWellFormed meaning.owner (system_head m) (record { operating = chain; standings = m.standings }) → (x : ℕ × Simulation) (r : Result (List Notice) RunError)
     → Alike (StateAt s code) (deciding meaning.owner line o chain m x r) (deciding machine.owner line o acts fs x r)
 unfolding deciding
 decides s code compiled o m fs store parked line chain acts c formed x r =

@@ -1,5 +1,5 @@
 -- Connections: the object in hand goes to its hidden cell, and the statement of an arm or of `do` is begun.
-use Rattle.std.proofs.Common.{◌≡◌, ◌≤◌, ℕ, Bool, true, false, List, ◌∷◌, length, Option, Some, None, refl, sym, ap, ◌∙◌, subst, arith}
+use Rattle.std.proofs.Common.{◌≡◌, ℕ, Bool, true, false, List, ◌∷◌, length, Option, Some, None, refl, sym, ap, ◌∙◌, subst, arith}
 use Rattle.std.specs.Prelude.{pos, if◌then◌else◌}
 use Rattle.sim_base.specs.declared.limits.Limits.{Limits}
 use Rattle.sim_scope.specs.Source.{Source, block_around, denoted, level_of}
@@ -28,14 +28,14 @@ use Rattle.sim_meaning.specs.Pending as meaning
 use Rattle.sim_meaning.specs.Sane.{AllName, Names}
 use Rattle.sim_meaning.specs.Steps.{go}
 use Rattle.sim_meaning.specs.Texts.{text}
-use Rattle.codegen_expr.specs.Sites.{Ahead, Is, class_number, frame_text, is_connected, slot_of, own_end}
+use Rattle.codegen_expr.specs.Sites.{Ahead, Is, class_number, frame_text, is_connected, slot_of}
 use Rattle.codegen.specs.CodeStm.{ArmAt, ArmOfAt, ArmsAt, ConnectionAt, ConnectsAt, StmAt, StmsAt}
 use Rattle.codegen.specs.Compiled.{Compiled}
 use Rattle.sim_relate.proofs.Carried.{all_every, kept_every}
 use Rattle.sim_relate.proofs.Frames.{frame_idem, frame_level, frame_out, stands_same}
 use Rattle.sim_relate.proofs.Hands.{stack_length}
 use Rattle.sim_relate.proofs.Here.{Here, goes, kinds_as, with_values}
-use Rattle.sim_relate.proofs.Known.{HandAt, Kind, Runs, SameFrame, StackAt, Stands, ValAt, anys, array_at, element_at, image_at, link_at, more_at, plain_at, site_at, spot, Settled, IsReference}
+use Rattle.sim_relate.proofs.Known.{low_same, actual_at, HandAt, Kind, Runs, SameFrame, StackAt, Stands, ValAt, anys, array_at, element_at, image_at, link_at, more_at, plain_at, site_at, spot, Settled, IsReference}
 use Rattle.sim_relate.proofs.Living.{own_level}
 use Rattle.sim_relate.proofs.Moved.{moved, work_moved}
 use Rattle.sim_relate.proofs.Pending.{pends, pends_in}
@@ -101,10 +101,10 @@ module _ (s : Source) (code : CodeOf) (coding : Compiled s code) (l : Limits) (o
         let level : at_level fs (level_of s class) inst ≡ Some inst = ap (λ z. at_level fs z inst) same.level ∙ levels_same s code here.store (level_of s t) inst ∙ own_level s m inst t here.stands here.lives in
         let store = c.kept in
         let is : connected o m inst w vals' rest opening x a ≡ go o r.now inst (Do (Exec a) ∷ Do PastOp ∷ w) vals' rest = ap (λ z. having z o (λ m. go o m inst (Do (Exec a) ∷ Do PastOp ∷ w) vals' rest)) r.is in
-        let low' : own_end s code (frame_text s class) ≤ u = subst (λ z. own_end s code z ≤ u) (sym same.frame) low.low in
-        let later = work_moved s code r.changed here (all_every rest) below u (λ n le within lt. r.changed.keeps.temps inst t n b.block tt here.stands here.found (record { behind = le; within = within })) w q left (subst (λ z. WorkAt s code m fs (λ v. ChainAt s code m fs rest v below) inst t b u w q z) out k) in
+        let low' = low_same s code class t b u same low.at in
+        let later = work_moved s code r.changed here (all_every rest) below u (λ frame n le within lt. r.changed.keeps.temps inst t n b.block tt here.stands here.found (record { behind = le; within = within })) w q left (subst (λ z. WorkAt s code m fs (λ v. ChainAt s code m fs rest v below) inst t b u w q z) out k) in
         let work : WorkAt s code r.now r.frames (λ v. ChainAt s code r.now r.frames rest v below) inst t b u (Do (Exec a) ∷ Do PastOp ∷ w) c.x left =
-        pends_in s code r.now r.frames (λ v. ChainAt s code r.now r.frames rest v below) inst t b u low.low (Do PastOp ∷ w) (Exec a) class (spot class b u) c.x e left left same (stays (straight c.body, refl) low.calm refl)
+        pends_in s code r.now r.frames (λ v. ChainAt s code r.now r.frames rest v below) inst t b u low.at (Do PastOp ∷ w) (Exec a) class (spot class b u) c.x e left left same (stays (straight c.body, refl) low.calm refl)
         (pends_in s code r.now r.frames (λ v. ChainAt s code r.now r.frames rest v below) inst class b u low' w PastOp t (spot t b u) e q left left back (stays (y, over, past, refl) low.calm refl) later) in
         subst (λ z. Meets g (InEach R) z o (at f (machine.Of x ∷ stack') fs)) (sym is)
         (matched code l inst b below R (Going o (at c.x stack' r.frames))
@@ -171,13 +171,14 @@ module _ (s : Source) (code : CodeOf) (coding : Compiled s code) (l : Limits) (o
     chosen (Character z) = at_once (alike_unruled Configuration Machine R o _)
     chosen (Text z) = at_once (alike_unruled Configuration Machine R o _)
 
-    by_value : (v : Val) (x : Value) → ValAt v x → Follows g R (having (plain v) o (λ p. object_connected o m inst w vals' rest opening a other p)) o (at pc (x ∷ stack') fs)
+    by_value : (v : Val) (x : Value) → ValAt s code m v x → Follows g R (having (plain v) o (λ p. object_connected o m inst w vals' rest opening a other p)) o (at pc (x ∷ stack') fs)
     unfolding having
     by_value _ _ (plain_at {p}) = chosen p
     by_value _ _ link_at = at_once (alike_unruled Configuration Machine R o _)
     by_value _ _ array_at = at_once (alike_unruled Configuration Machine R o _)
     by_value _ _ element_at = at_once (alike_unruled Configuration Machine R o _)
     by_value _ _ image_at = at_once (alike_unruled Configuration Machine R o _)
+    by_value _ _ (actual_at h) = at_once (alike_unruled Configuration Machine R o _)
 
   connect_hand : (opening : ℕ) (a : Statement) (other : Statements) (c : ConnectIs s code (site_at t b u) opening a other pc q ks ks') (vs : List Val) (xs : List Value) → StackAt (HandAt s code m) (anys 1 c.left) vs xs → Follows g R (inspected o m inst w vs rest opening a other) o (at pc xs fs)
   unfolding pop_plain popping
@@ -257,13 +258,14 @@ module _ (s : Source) (code : CodeOf) (coding : Compiled s code) (l : Limits) (o
     tried (When token class opening a end more) c (Character z) n = at_once (alike_unruled Configuration Machine R o _)
     tried (When token class opening a end more) c (Text z) n = at_once (alike_unruled Configuration Machine R o _)
 
-    tried_value : (arms : Arms) → ArmsAt s code (site_at t b u) (length left) arms Otherwise pc q → (v : Val) (x : Value) → ValAt v x → Names s m v → Follows g R (having (plain v) o (λ p. arms_tried s o m inst w vals' rest arms other p)) o (at pc (x ∷ stack') fs)
+    tried_value : (arms : Arms) → ArmsAt s code (site_at t b u) (length left) arms Otherwise pc q → (v : Val) (x : Value) → ValAt s code m v x → Names s m v → Follows g R (having (plain v) o (λ p. arms_tried s o m inst w vals' rest arms other p)) o (at pc (x ∷ stack') fs)
     unfolding having
     tried_value arms c _ _ (plain_at {p}) n = tried arms c p n
     tried_value arms c _ _ link_at n = at_once (alike_unruled Configuration Machine R o _)
     tried_value arms c _ _ array_at n = at_once (alike_unruled Configuration Machine R o _)
     tried_value arms c _ _ element_at n = at_once (alike_unruled Configuration Machine R o _)
     tried_value arms c _ _ image_at n = at_once (alike_unruled Configuration Machine R o _)
+    tried_value arms c _ _ (actual_at h) n = at_once (alike_unruled Configuration Machine R o _)
 
   when_hand : (arms : Arms) (other : Statements) (left : List Kind) → ks' ≡ left → ArmsAt s code (site_at t b u) (length left) arms (StmsAt s code (site_at t b u) (length left) other) pc q → (vs : List Val) (xs : List Value) → AllName s m vs → StackAt (HandAt s code m) (anys 1 left) vs xs → Follows g R (inspected_when s o m inst w vs rest arms other) o (at pc xs fs)
   unfolding pop_plain popping

@@ -1,5 +1,5 @@
 -- The arrays of a block are pending where their code stands.
-use Rattle.std.proofs.Common.{◌≡◌, ◌*◌, ℕ, suc, Bool, List, [], ◌∷◌, length, Option, Some, None, refl, sym, ap, ◌∙◌, subst, arith}
+use Rattle.std.proofs.Common.{◌≡◌, ◌*◌, ℕ, suc, List, [], ◌∷◌, length, Option, Some, None, refl, sym, ap, ◌∙◌, subst, arith}
 use Rattle.sim_base.specs.declared.numbering.DeclNo.{DeclNo}
 use Rattle.sim_scope.specs.Source.{Source, line_at}
 use Rattle.sim_tree.specs.declared.expr.Identifier.{Identifier}
@@ -23,6 +23,7 @@ use Rattle.sim_relate.proofs.Pending.{anys_more, evals, pends}
 use Rattle.sim_relate.proofs.Reach.{own_reaches}
 use Rattle.sim_relate.proofs.Known.{Any, Kind, Stands, anys, site_at, Runs, Settled}
 use Rattle.sim_relate.proofs.Relation.{WorkAt}
+use Rattle.sim_relate.proofs.Waiting.{Wait}
 
 -- two values for each dimension
 abbrev bounded : List BoundPair → List Kind → List Kind
@@ -40,7 +41,7 @@ further_some : (s : Source) (i : ℕ) (first : DeclNo) (x : Identifier) (xs : Li
     → further_arrays s i first (x ∷ xs) w ≡ Do (Eval (Cell i (Declared first.0))) ∷ Do (CopyOp (line_at s x.token.0)) ∷ Do (StoreOp (ToCell i (Declared d.0))) ∷ further_arrays s i first xs w
 further_some s i first x xs w d e = rw e
 
-module _ (s : Source) (code : CodeOf) (agrees : Agrees s) (m : Instances) (fs : Frames) (Below : Bool → Type 0) (inst t : ℕ) (b : Runs) (u : ℕ) (low : Settled s code t b u) (st : Stands s m inst t) (lives : Lives m inst) where
+module _ (s : Source) (code : CodeOf) (agrees : Agrees s) (m : Instances) (fs : Frames) (Below : Wait → Type 0) (inst t : ℕ) (b : Runs) (u : ℕ) (low : Settled s code t b u) (st : Stands s m inst t) (lives : Lives m inst) where
   abbrev Work : List Item → ℕ → List Kind → Type 0
   Work w p ks = WorkAt s code m fs Below inst t b u w p ks
 

@@ -1,9 +1,9 @@
 -- What entries of all kinds have in common.
-use Rattle.std.proofs.Common.{◌≡◌, ◌<◌, ◌≤◌, ◌+◌, ℕ, Bool, true, false, List, [], ◌∷◌, ◌++◌, length, map, Option, Some, None, refl, sym, ap, ◌∙◌, subst, arith, length-append}
+use Rattle.std.proofs.Common.{◌≡◌, ◌<◌, ◌≤◌, ◌+◌, ℕ, true, false, List, [], ◌∷◌, ◌++◌, length, map, Option, Some, None, refl, sym, ap, ◌∙◌, subst, arith, length-append}
 use Rattle.std.proofs.lemmas.List.{length-map}
 use Rattle.sim_meaning.specs.Attributes.{is_connection}
 use Rattle.std.proofs.lemmas.Option.{slice_get_within}
-use Rattle.std.specs.Prelude.{if◌then◌else◌, pos, slice_get}
+use Rattle.std.specs.Prelude.{pos, slice_get}
 use Rattle.sim_scope.specs.Access.{around, encloser}
 use Rattle.sim_scope.specs.Source.{Source}
 use Rattle.sim_scope.specs.Tables.{BlockOf as ScopeOf}
@@ -14,7 +14,6 @@ use Rattle.sim_code.specs.declared.code.BlockKind.{BlockKind}
 use Rattle.sim_code.specs.declared.code.CodeType.{CodeType}
 use Rattle.sim_code.specs.declared.instr.Lined.{Lined}
 use Rattle.sim_code.specs.declared.stage.Stage.{Stage}
-use Rattle.sim_code.specs.declared.stage.Stage.TheVariants as stage
 use Rattle.sim_code.specs.Code.{BlockOf, CodeOf}
 use Rattle.sim_code.specs.Outcome.{Run, World}
 use Rattle.sim_code.specs.Events.{having, no_rule, when}
@@ -31,12 +30,12 @@ use Rattle.sim_meaning.specs.Texts.{BlockText, ConnectionText, PrefixedText, Tex
 use Rattle.codegen_expr.specs.Sites.{HasCell, LevelOf, block_in_front, block_number, block_of_text, cells_in, frame_text, hidden_in, innermost, is_connected, outer, own_part, place_of, prefix_of, slot_of, start_of, types_in}
 use Rattle.codegen.specs.Agrees.{Agrees}
 use Rattle.codegen.specs.Compiled.{CodeHas, Compiled, RecordOf, TextCode, type_of_cell}
-use Rattle.sim_relate.proofs.Carried.{all_every, both_later, chain_later, kept_every}
+use Rattle.sim_relate.proofs.Carried.{same_owner, all_every, both_later, chain_later, kept_every}
 use Rattle.sim_relate.proofs.Chains.{work_below}
 use Rattle.sim_relate.proofs.Ends.{chosen, left_out}
-use Rattle.sim_relate.proofs.Known.{Every, Runs, SlotAt, Stands, is_fixed, none_at}
-use Rattle.sim_relate.proofs.Relation.{ChainAt, InstanceAt, Laid, StandingAt, StandingsAt, StateAt, StoreAt, WorkAt}
-use Rattle.sim_relate.proofs.Waiting.{GetsIs, gives_value, suspended, suspended_entered, suspends}
+use Rattle.sim_relate.proofs.Known.{owner_of, Every, Runs, SlotAt, Stands, is_fixed, none_at}
+use Rattle.sim_relate.proofs.Relation.{Bottom, ChainAt, InstanceAt, Laid, StandingAt, StandingsAt, StateAt, StoreAt, WorkAt}
+use Rattle.sim_relate.proofs.Waiting.{NoValue, Wait, suspended_by, GetsIs, gives_value, suspended_entered, suspends}
 use Rattle.sim_relate.proofs.Slots.{HeldAt, Typed, empty_behind, key_of, types_split}
 use Rattle.sim_relate.proofs.Frames.{frame_self}
 use Rattle.sim_relate.proofs.Layouts.{cells_by_key, declared_there, hidden_empty}
@@ -92,13 +91,13 @@ frame_there s a k x e own = frame_self s a k (a.connected k ∙ ap is_connection
 -- ---- what is below on a chain
 
 module _ (s : Source) (code : CodeOf) where
-  pub chain_owners : (m : Instances) (fs : Frames) (chain : List Activation) (v : Bool) (below : List machine.Activation) → ChainAt s code m fs chain v below → SameOwners s code chain below
+  pub chain_owners : (m : Instances) (fs : Frames) (chain : List Activation) (v : Wait) (below : List machine.Activation) → ChainAt s code m fs chain v below → SameOwners s code chain below
   chain_owners m fs [] v [] c = tt
   chain_owners m fs [] v (x ∷ below) c = absurd (cc (c.is))
   chain_owners m fs (a ∷ rest) v [] c = absurd c
   chain_owners m fs (a ∷ rest) v (x ∷ below) c =
       let k = work_below s code m fs (λ w. ChainAt s code m fs rest w below) a.instance c.text c.block c.used a.work x.pc _ c.goes in
-      (ap (λ z. if z then None else Some x.home) c.base ∙ ap Some c.home, chain_owners m fs rest (gives_value a.work) below k)
+      (same_owner s code (Bottom s code NoValue) m fs a rest v x below c, chain_owners m fs rest (gives_value a.work) below k)
 
   -- ---- blocks that are entered
 
@@ -135,9 +134,9 @@ module _ (s : Source) (code : CodeOf) where
   new_frame n b parent cells = record { text = n; level = b.level; encloser = parent; cells = cells; passing = machine.passes b.kind b.class_free; kept = false; given_back = false }
 
   -- an instance and its frame, whose cells stand for each other
-  pub instance_of : (k : ℕ) (kind : BlockKind) (result : CodeType) (b : BlockOf) → RecordOf s code k kind result b → slice_get code.blocks (block_number s k) ≡ Some b → passes (text s k) (is_class_free s k) ≡ machine.passes kind (is_class_free s k) → frame_text s k ≡ k → is_connected s.tables k ≡ false → Laid s code k → (e : Option ℕ) (hs : List Held) (cells : Cells) → CellsOf s code k hs cells → length cells ≡ length b.types
-      → InstanceAt s code (new_instance s k e hs) (new_frame (block_number s k) b e cells)
-  instance_of k kind result b heads found free own solid laid e hs cells at size = record {
+  pub instance_of : (m : Instances) (k : ℕ) (kind : BlockKind) (result : CodeType) (b : BlockOf) → RecordOf s code k kind result b → slice_get code.blocks (block_number s k) ≡ Some b → passes (text s k) (is_class_free s k) ≡ machine.passes kind (is_class_free s k) → frame_text s k ≡ k → is_connected s.tables k ≡ false → Laid s code k → (e : Option ℕ) (hs : List Held) (cells : Cells) → CellsOf s code m k hs cells → length cells ≡ length b.types
+      → InstanceAt s code m (new_instance s k e hs) (new_frame (block_number s k) b e cells)
+  instance_of m k kind result b heads found free own solid laid e hs cells at size = record {
     number = refl;
     level = heads.level;
     encloser = refl;
@@ -175,11 +174,11 @@ module _ (s : Source) (code : CodeOf) where
     only_level t innermost = refl
     only_level t (outer e level) = let none = no_prefix in absurd (cc (e, none))
 
-    cells_alone : (hs : List Held) (cells : Cells) → HeldAt s hs cells → map key_of hs ≡ map key_of (cells_in s k (text s k)) → ((c : ℕ) → length (cells_in s k (text s k)) ≤ c → c < length (own_part s k) → joined (slice_get cells c) ≡ None) → CellsOf s code k hs cells
-    cells_alone hs cells at keys none = record {
+    cells_alone : (m : Instances) (hs : List Held) (cells : Cells) → HeldAt s code m hs cells → map key_of hs ≡ map key_of (cells_in s k (text s k)) → ((c : ℕ) → length (cells_in s k (text s k)) ≤ c → c < length (own_part s k) → joined (slice_get cells c) ≡ None) → CellsOf s code m k hs cells
+    cells_alone m hs cells at keys none = record {
       cells = λ t key level has. (let same = only_level t level in
-          subst (λ z. SlotAt s (is_fixed s key) key (held key hs) (joined (slice_get cells (slot_of s code z key)))) same
-          (subst (λ z. SlotAt s (is_fixed s key) key (held key hs) (joined (slice_get cells z))) (sym (slot_is key)) (cells_by_key s agrees k hs keys cells at none key (subst (λ z. HasCell s z key) (sym same) has))));
+          subst (λ z. SlotAt s code m (is_fixed s key) key (held key hs) (joined (slice_get cells (slot_of s code z key)))) same
+          (subst (λ z. SlotAt s code m (is_fixed s key) key (held key hs) (joined (slice_get cells z))) (sym (slot_is key)) (cells_by_key s agrees k hs keys code m cells at none key (subst (λ z. HasCell s z key) (sym same) has))));
       there = λ t key level has d. declared_there s agrees k hs keys key (subst (λ z. HasCell s z key) (sym (only_level t level)) has) d;
     }
 
@@ -200,9 +199,9 @@ module _ (s : Source) (code : CodeOf) where
       pub first_none : (c : ℕ) → length (cells_in s k (text s k)) ≤ c → c < length (own_part s k) → joined (slice_get (machine.first_cells b) c) ≡ None
       first_none c le lt = ap (λ z. joined (slice_get (map first_value z) c)) flat_types ∙ empty_behind (cells_in s k (text s k)) (hidden_in s k) heads.temps c (hidden_empty s k) le lt
 
-      pub instance_at : slice_get code.blocks (block_number s k) ≡ Some b → passes (text s k) (is_class_free s k) ≡ machine.passes kind (is_class_free s k) → frame_text s k ≡ k → is_connected s.tables k ≡ false → Laid s code k → (e : Option ℕ) (hs : List Held) (cells : Cells) → HeldAt s hs cells → map key_of hs ≡ map key_of (cells_in s k (text s k)) → length cells ≡ length b.types
-          → ((c : ℕ) → length (cells_in s k (text s k)) ≤ c → c < length (own_part s k) → joined (slice_get cells c) ≡ None) → InstanceAt s code (new_instance s k e hs) (new_frame (block_number s k) b e cells)
-      instance_at found free own solid laid e hs cells at keys size none = instance_of k kind result b heads found free own solid laid e hs cells (cells_alone hs cells at keys none) size
+      pub instance_at : (m : Instances) → slice_get code.blocks (block_number s k) ≡ Some b → passes (text s k) (is_class_free s k) ≡ machine.passes kind (is_class_free s k) → frame_text s k ≡ k → is_connected s.tables k ≡ false → Laid s code k → (e : Option ℕ) (hs : List Held) (cells : Cells) → HeldAt s code m hs cells → map key_of hs ≡ map key_of (cells_in s k (text s k)) → length cells ≡ length b.types
+          → ((c : ℕ) → length (cells_in s k (text s k)) ≤ c → c < length (own_part s k) → joined (slice_get cells c) ≡ None) → InstanceAt s code m (new_instance s k e hs) (new_frame (block_number s k) b e cells)
+      instance_at m found free own solid laid e hs cells at keys size none = instance_of m k kind result b heads found free own solid laid e hs cells (cells_alone m hs cells at keys none) size
 
   -- ---- a new instance on top
 
@@ -213,7 +212,7 @@ module _ (s : Source) (code : CodeOf) where
     abbrev pub later_fs : Frames
     later_fs = entered fs y r
 
-    pub chain_entered : (chain : List Activation) (v : Bool) (below : List machine.Activation) → ChainAt s code m fs chain v below → ChainAt s code later_m later_fs chain v below
+    pub chain_entered : (chain : List Activation) (v : Wait) (below : List machine.Activation) → ChainAt s code m fs chain v below → ChainAt s code later_m later_fs chain v below
     chain_entered chain v below c = chain_later s code m later_m fs later_fs (later_entered s m x p) Every (keeps_entered s code m fs a.as_many y r) (λ j of. suspended_entered m x p free j) chain (all_every chain) v below c
 
     pub parked_entered : StandingAt s code later_m later_fs (length m.instances) p r → StandingsAt s code m fs → StandingsAt s code later_m later_fs
@@ -225,15 +224,15 @@ module _ (s : Source) (code : CodeOf) where
       counted = length-append m.standings (p ∷ []) ∙ ap (λ n. n + 1) old.counted ∙ sym (length-append m.instances (x ∷ []));
     }
 
-    pub enters : StandingsAt s code later_m later_fs → (chain : List Activation) (below : List machine.Activation) (k : ℕ) (b : Runs) → InstanceAt s code x y → slice_get code.blocks (block_number s (frame_text s k)) ≡ Some b.block → Stands s later_m (length m.instances) k → Stands s later_m (length m.instances) x.text → x.text ≡ b.own → b.block.room ≤ b.room → (w : List Item) (used pc : ℕ)
+    pub enters : StandingsAt s code later_m later_fs → (chain : List Activation) (below : List machine.Activation) (k : ℕ) (b : Runs) → b.thunk ≡ None → InstanceAt s code m x y → slice_get code.blocks (block_number s (frame_text s k)) ≡ Some b.block → Stands s later_m (length m.instances) k → Stands s later_m (length m.instances) x.text → x.text ≡ b.own → b.limit ≤ b.room → (w : List Item) (used pc : ℕ)
         → WorkAt s code later_m later_fs (λ v. ChainAt s code later_m later_fs chain v below) (length m.instances) k b used w pc []
-        → R (record { chain = record { instance = length m.instances; work = w; values = [] } ∷ chain; memory = later_m }) (record { chain = record { thunk = false; home = length fs.instances; pc = pc; stack = []; room = b.room; stage = b.stage } ∷ below; memory = later_fs })
-    enters parked chain below k b pair found stands own is_own roomy w used pc work = record {
+        → R (record { chain = record { instance = length m.instances; work = w; values = [] } ∷ chain; memory = later_m }) (record { chain = record { thunk = None; home = length fs.instances; pc = pc; stack = []; room = b.room; stage = b.stage } ∷ below; memory = later_fs })
+    enters parked chain below k b base pair found stands own is_own roomy w used pc work = record {
       chain = record {
-        base = refl;
         home = sym a.as_many;
         text = k;
         block = b;
+        base = sym base;
         found = found;
         stands = stands;
         own = ap text_in (append_at m.instances x) ∙ ap Some is_own;
@@ -242,9 +241,10 @@ module _ (s : Source) (code : CodeOf) where
         stage = refl;
         kinds = [];
         values = none_at;
-        gets = false;
-        gets_is = subst (λ z. GetsIs z false false) (sym none_waits) refl;
+        gets = NoValue;
+        gets_is = subst (λ z. GetsIs z NoValue NoValue) (sym none_waits) refl;
         fits = λ no. absurd (cc);
+        asked = tt;
         used = used;
         goes = work;
       };
@@ -253,9 +253,9 @@ module _ (s : Source) (code : CodeOf) where
     }
       where
         -- a new instance waits for no main component
-        none_waits : suspended later_m (length m.instances) ≡ None
+        none_waits : suspended_by later_m (owner_of b.thunk (length m.instances)) ≡ None
         none_waits =
             let one = length-append m.standings (p ∷ []) in
             let other = length-append m.instances (x ∷ []) in
             let counted = parked.counted in
-            suspended_entered m x p free (length m.instances) ∙ ap suspends (past m.standings (length m.instances) (omega (arith, one, other, counted)))
+            ap (λ z. suspended_by later_m (owner_of z (length m.instances))) base ∙ suspended_entered m x p free (length m.instances) ∙ ap suspends (past m.standings (length m.instances) (omega (arith, one, other, counted)))

@@ -10,7 +10,7 @@ use Rattle.sim_code.specs.Machine as machine
 use Rattle.sim_meaning.specs.Entries.{cells_from, numbers_of}
 use Rattle.sim_meaning.specs.Levels.{has_levels, levels_made, levels_of}
 use Rattle.sim_meaning.specs.Objects.{attributes_from, cells_of_levels}
-use Rattle.sim_meaning.specs.Pending.{Held, Key, Level, Val, held, same_key}
+use Rattle.sim_meaning.specs.Pending.{Held, Instances, Key, Level, Val, held, same_key}
 use Rattle.sim_meaning.specs.Texts.{text}
 use Rattle.codegen_expr.specs.Sites.{HasCell, LevelOf, block_in_front, block_of_text, cells_in, cells_of_block, hidden_in, innermost, outer, own_part, place_of, prefix_of, slot_of, start_of, types_in}
 use Rattle.codegen.specs.Agrees.{Agrees, Ends, before, last}
@@ -87,7 +87,7 @@ made_cells s (k ∷ ks) (x ∷ xs) e =
     let own : x.text ≡ k = level_text s p.number (text s p.number) x p.first ∙ number in
     ap (λ z. attributes_from s (numbers_of s z) ++ cells_of_levels s xs) own ∙ ap (λ z. attributes_from s (numbers_of s k) ++ z) (made_cells s ks xs (subst (λ z. levels_made s z ≡ Some xs) more p.rest))
 
-module _ (s : Source) (code : CodeOf) (compiled : Compiled s code) (laid : (k : ℕ) → has_levels (text s k) ≡ true → Laid s code k) where
+module _ (s : Source) (code : CodeOf) (m : Instances) (compiled : Compiled s code) (laid : (k : ℕ) → has_levels (text s k) ≡ true → Laid s code k) where
   agrees : Agrees s
   agrees = compiled.agrees
 
@@ -167,11 +167,11 @@ module _ (s : Source) (code : CodeOf) (compiled : Compiled s code) (laid : (k : 
     own_typed : own_first k x ≡ Typed s behind_own (cells_from s (numbers_of s k))
     own_typed = ap (map first_value) (types_split (cells_in s k (text s k)) (hidden_in s k) x.has.heads.temps) ∙ ap (Typed s behind_own) x.cells
 
-    own_at : HeldAt s (own_attributes k) (own_first k x)
-    own_at = subst (λ z. HeldAt s (own_attributes k) z) (sym own_typed) (attributes_at s behind_own (numbers_of s k))
+    own_at : HeldAt s code m (own_attributes k) (own_first k x)
+    own_at = subst (λ z. HeldAt s code m (own_attributes k) z) (sym own_typed) (attributes_at s code m behind_own (numbers_of s k))
 
-    own_slot : (key : Key) → HasCell s k key → SlotAt s (is_fixed s key) key (held key (own_attributes k)) (joined (slice_get (own_first k x) (place_of key (own_part s k))))
-    own_slot key has = cells_by_key s agrees k (own_attributes k) (own_keys k x) (own_first k x) own_at (λ c le lt. empty_behind (cells_in s k (text s k)) (hidden_in s k) x.has.heads.temps c (hidden_empty s k) le lt) key has
+    own_slot : (key : Key) → HasCell s k key → SlotAt s code m (is_fixed s key) key (held key (own_attributes k)) (joined (slice_get (own_first k x) (place_of key (own_part s k))))
+    own_slot key has = cells_by_key s agrees k (own_attributes k) (own_keys k x) code m (own_first k x) own_at (λ c le lt. empty_behind (cells_in s k (text s k)) (hidden_in s k) x.has.heads.temps c (hidden_empty s k) le lt) key has
 
   -- ---- all levels
 
@@ -187,21 +187,21 @@ module _ (s : Source) (code : CodeOf) (compiled : Compiled s code) (laid : (k : 
     unfolding slot_of block_in_front
     only_slot key = let none : start_of s code k ≡ 0 = ap (λ z. length (types_in (block_of_text s code z))) e in omega (arith, none)
 
-    only_cells : CellsOf s code k (all_attributes k) (machine.first_cells x.block)
+    only_cells : CellsOf s code m k (all_attributes k) (machine.first_cells x.block)
     only_cells = record { cells = λ t key level has. cell t level key has; there = λ t key level has declared. there t level key has declared }
       where
-        cell : (t : ℕ) → LevelOf s.tables k t → (key : Key) → HasCell s t key → SlotAt s (is_fixed s key) key (held key (all_attributes k)) (joined (slice_get (machine.first_cells x.block) (slot_of s code t key)))
+        cell : (t : ℕ) → LevelOf s.tables k t → (key : Key) → HasCell s t key → SlotAt s code m (is_fixed s key) key (held key (all_attributes k)) (joined (slice_get (machine.first_cells x.block) (slot_of s code t key)))
         cell t innermost key has =
-            subst (λ z. SlotAt s (is_fixed s key) key (held key z) (joined (slice_get (machine.first_cells x.block) (slot_of s code k key)))) (sym (all_first k x e))
-            (subst (λ z. SlotAt s (is_fixed s key) key (held key (own_attributes k)) (joined (slice_get z (slot_of s code k key)))) (sym only_types)
-            (subst (λ z. SlotAt s (is_fixed s key) key (held key (own_attributes k)) (joined (slice_get (own_first k x) z))) (sym (only_slot key)) (own_slot k x key has)))
+            subst (λ z. SlotAt s code m (is_fixed s key) key (held key z) (joined (slice_get (machine.first_cells x.block) (slot_of s code k key)))) (sym (all_first k x e))
+            (subst (λ z. SlotAt s code m (is_fixed s key) key (held key (own_attributes k)) (joined (slice_get z (slot_of s code k key)))) (sym only_types)
+            (subst (λ z. SlotAt s code m (is_fixed s key) key (held key (own_attributes k)) (joined (slice_get (own_first k x) z))) (sym (only_slot key)) (own_slot k x key has)))
         cell t (outer f level) key has = absurd (cc)
 
         there : (t : ℕ) → LevelOf s.tables k t → (key : Key) → HasCell s t key → is_declared key ≡ true → place_of key (all_attributes k) < length (all_attributes k)
         there t innermost key has declared = subst (λ z. place_of key z < length z) (sym (all_first k x e)) (declared_there s agrees k (own_attributes k) (own_keys k x) key has declared)
         there t (outer f level) key has declared = absurd (cc)
 
-  module _ (k u : ℕ) (x : ClassHas s code k) (y : ClassHas s code u) (e : prefix_of s.tables k ≡ Some u) (ends : (n : ℕ) × Ends s.tables n u) (inner : CellsOf s code u (all_attributes u) (machine.first_cells y.block)) where
+  module _ (k u : ℕ) (x : ClassHas s code k) (y : ClassHas s code u) (e : prefix_of s.tables k ≡ Some u) (ends : (n : ℕ) × Ends s.tables n u) (inner : CellsOf s code m u (all_attributes u) (machine.first_cells y.block)) where
     laid_own : Laid s code k
     laid_own = laid k x.levels
 
@@ -240,30 +240,30 @@ module _ (s : Source) (code : CodeOf) (compiled : Compiled s code) (laid : (k : 
         absurd (not_in_front key (subst (LevelOf s.tables u) (sym same) level) here))
         (λ past. not_held key (own_attributes k) past) ∙ sym (not_held key (all_attributes u) le))
 
-    both_cells : CellsOf s code k (all_attributes k) (machine.first_cells x.block)
+    both_cells : CellsOf s code m k (all_attributes k) (machine.first_cells x.block)
     both_cells = record { cells = λ t key level has. cell t level key has; there = λ t key level has declared. there t level key has declared }
       where
-        as_both : (key : Key) (n : ℕ) → SlotAt s (is_fixed s key) key (held key (all_attributes u ++ own_attributes k)) (joined (slice_get (machine.first_cells y.block ++ own_first k x) n)) → SlotAt s (is_fixed s key) key (held key (all_attributes k)) (joined (slice_get (machine.first_cells x.block) n))
+        as_both : (key : Key) (n : ℕ) → SlotAt s code m (is_fixed s key) key (held key (all_attributes u ++ own_attributes k)) (joined (slice_get (machine.first_cells y.block ++ own_first k x) n)) → SlotAt s code m (is_fixed s key) key (held key (all_attributes k)) (joined (slice_get (machine.first_cells x.block) n))
         as_both key n a =
-            subst (λ z. SlotAt s (is_fixed s key) key (held key z) (joined (slice_get (machine.first_cells x.block) n))) (sym (all_behind k u e))
-            (subst (λ z. SlotAt s (is_fixed s key) key (held key (all_attributes u ++ own_attributes k)) (joined (slice_get z n))) (sym both_types) a)
+            subst (λ z. SlotAt s code m (is_fixed s key) key (held key z) (joined (slice_get (machine.first_cells x.block) n))) (sym (all_behind k u e))
+            (subst (λ z. SlotAt s code m (is_fixed s key) key (held key (all_attributes u ++ own_attributes k)) (joined (slice_get z n))) (sym both_types) a)
 
-        cell : (t : ℕ) → LevelOf s.tables k t → (key : Key) → HasCell s t key → SlotAt s (is_fixed s key) key (held key (all_attributes k)) (joined (slice_get (machine.first_cells x.block) (slot_of s code t key)))
+        cell : (t : ℕ) → LevelOf s.tables k t → (key : Key) → HasCell s t key → SlotAt s code m (is_fixed s key) key (held key (all_attributes k)) (joined (slice_get (machine.first_cells x.block) (slot_of s code t key)))
         cell t innermost key has =
             let value : held key (all_attributes u ++ own_attributes k) ≡ held key (own_attributes k) = less_or (place_of key (all_attributes u)) (length (all_attributes u)) (λ lt. absurd (apart key has lt)) (held_behind key (all_attributes u) (own_attributes k)) in
             let slot = both_slot key in
             let long = first_long y.block in
             let at : slot_of s code k key ≡ length (machine.first_cells y.block) + place_of key (own_part s k) = omega (arith, slot, long) in
             as_both key (slot_of s code k key)
-            (subst (λ z. SlotAt s (is_fixed s key) key z (joined (slice_get (machine.first_cells y.block ++ own_first k x) (slot_of s code k key)))) (sym value)
-            (subst (λ z. SlotAt s (is_fixed s key) key (held key (own_attributes k)) (joined z)) (sym (get_behind (machine.first_cells y.block) (own_first k x) (place_of key (own_part s k)) (slot_of s code k key) at)) (own_slot k x key has)))
+            (subst (λ z. SlotAt s code m (is_fixed s key) key z (joined (slice_get (machine.first_cells y.block ++ own_first k x) (slot_of s code k key)))) (sym value)
+            (subst (λ z. SlotAt s code m (is_fixed s key) key (held key (own_attributes k)) (joined z)) (sym (get_behind (machine.first_cells y.block) (own_first k x) (place_of key (own_part s k)) (slot_of s code k key) at)) (own_slot k x key has)))
         cell t (outer {u = v} f level) key has =
             let within = inward v t f level in
             let lt = laid_front.fits t key y.block within has y.found in
             let long = first_long y.block in
             as_both key (slot_of s code t key)
-            (subst (λ z. SlotAt s (is_fixed s key) key z (joined (slice_get (machine.first_cells y.block ++ own_first k x) (slot_of s code t key)))) (sym (held_same t within key has))
-            (subst (λ z. SlotAt s (is_fixed s key) key (held key (all_attributes u)) (joined z)) (sym (get_before (machine.first_cells y.block) (own_first k x) (slot_of s code t key) (omega (arith, lt, long)))) (inner.cells t key within has)))
+            (subst (λ z. SlotAt s code m (is_fixed s key) key z (joined (slice_get (machine.first_cells y.block ++ own_first k x) (slot_of s code t key)))) (sym (held_same t within key has))
+            (subst (λ z. SlotAt s code m (is_fixed s key) key (held key (all_attributes u)) (joined z)) (sym (get_before (machine.first_cells y.block) (own_first k x) (slot_of s code t key) (omega (arith, lt, long)))) (inner.cells t key within has)))
 
         there : (t : ℕ) → LevelOf s.tables k t → (key : Key) → HasCell s t key → is_declared key ≡ true → place_of key (all_attributes k) < length (all_attributes k)
         there t innermost key has declared =
@@ -271,9 +271,9 @@ module _ (s : Source) (code : CodeOf) (compiled : Compiled s code) (laid : (k : 
         there t (outer {u = v} f level) key has declared =
             subst (λ z. place_of key z < length z) (sym (all_behind k u e)) (there_first key (all_attributes u) (own_attributes k) (inner.there t key (inward v t f level) has declared))
 
-  first_by : {n k : ℕ} → Ends s.tables n k → (x : ClassHas s code k) → CellsOf s code k (all_attributes k) (machine.first_cells x.block)
+  first_by : {n k : ℕ} → Ends s.tables n k → (x : ClassHas s code k) → CellsOf s code m k (all_attributes k) (machine.first_cells x.block)
   first_by (last {k = k} e) x = only_cells k x e
   first_by (before {n = n} {k = k} {u = u} e more) x = both_cells k u x (front k u e) e (n, more) (first_by more (front k u e))
 
-  pub first_cells_of : (k : ℕ) (x : ClassHas s code k) → CellsOf s code k (all_attributes k) (machine.first_cells x.block)
+  pub first_cells_of : (k : ℕ) (x : ClassHas s code k) → CellsOf s code m k (all_attributes k) (machine.first_cells x.block)
   first_cells_of k x = first_by (agrees.ends k) x

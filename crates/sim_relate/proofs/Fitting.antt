@@ -1,5 +1,5 @@
 -- A reference that is passed on is held against a class: it is put into a temp at an address with the class, and taken from there.
-use Rattle.std.proofs.Common.{◌≡◌, ℕ, suc, Bool, true, false, List, ◌∷◌, length, Some, refl, sym, ap, ◌∙◌, subst, arith}
+use Rattle.std.proofs.Common.{◌≡◌, ℕ, Bool, true, false, List, ◌∷◌, length, Some, refl, sym, ap, ◌∙◌, subst, arith}
 use Rattle.std.specs.Prelude.{pos, if◌then◌else◌}
 use Rattle.sim_base.specs.declared.limits.Limits.{Limits}
 use Rattle.sim_base.specs.declared.run_error.RunError.TheVariants.{OutsideQualification}
@@ -24,33 +24,27 @@ use Rattle.sim_meaning.specs.Sane.{AllName, Names}
 use Rattle.sim_meaning.specs.Steps.{go}
 use Rattle.codegen_expr.specs.Sites.{class_number}
 use Rattle.codegen.specs.Compiled.{Compiled}
-use Rattle.sim_relate.proofs.ClassLevels.{class_levels, counts, number_is}
-use Rattle.sim_relate.proofs.ClassTexts.{class_has}
+use Rattle.sim_relate.proofs.Admitting.{class_counts}
 use Rattle.sim_relate.proofs.Hands.{stack_length}
 use Rattle.sim_relate.proofs.Here.{Here, goes, kinds_as}
-use Rattle.sim_relate.proofs.Known.{HandAt, Kind, Runs, StackAt, ValAt, anys, array_at, element_at, image_at, link_at, more_at, plain_at, site_at, Settled, IsReference}
+use Rattle.sim_relate.proofs.Known.{actual_at, HandAt, Kind, Runs, StackAt, ValAt, anys, array_at, element_at, image_at, link_at, more_at, plain_at, site_at, Settled, IsReference}
 use Rattle.sim_relate.proofs.Living.{own_level}
 use Rattle.sim_relate.proofs.Moved.{moved, work_moved}
 use Rattle.sim_relate.proofs.Ranked.{Follows, InEach, Meets, at_once, both_stopping, caught, in_steps, lags, simply}
 use Rattle.sim_relate.proofs.ObjectsHere.{class_named, named_may_stand}
 use Rattle.sim_relate.proofs.Relation.{ChainAt, OpAt, StateAt, StoreAt, WorkAt}
 use Rattle.sim_relate.proofs.Silent.{addr_row, matched, place_at, put_row, put_stops, silent, steps_to, swap_row}
-use Rattle.sim_relate.proofs.Stores.{levels_same, temp_written}
+use Rattle.sim_relate.proofs.Stores.{levels_same, scratch_written}
 use Rattle.sim_relate.proofs.Straight.{load_row, step_at}
 use Rattle.sim_relate.proofs.Trees.{Classed, FitsIs}
+use Rattle.codegen_expr.specs.CodeExpr.{HeldAt}
+use Rattle.sim_relate.proofs.Carried.{all_every, kept_every}
 
 module _ (s : Source) (code : CodeOf) (coding : Compiled s code) where
-  -- the number of a class is not 0
-  pub class_counts : (c : ℕ) → Classed s c → (n : ℕ) × (class_number s code c ≡ suc n)
-  class_counts c h =
-      let x = class_has s code coding c (class_levels s code coding c h) in
-      let y = counts s code coding c x in
-      (y.0, number_is s code coding c x ∙ y.1)
-
   -- where the class of an address is one, the value is held against it
   admitting_is : (fs : Frames) (c line : ℕ) → Classed s c → (v : Value) (o : World) (z : Run Machine) → classes.admitting code fs line (class_number s code c) v o z ≡ classes.qualifying line (classes.may_stand code fs (class_number s code c) (machine.plain v)) o z
   admitting_is fs c line h v o z =
-      let e = class_counts c h in
+      let e = class_counts s code coding c h in
       subst (λ d. classes.admitting code fs line d v o z ≡ classes.qualifying line (classes.may_stand code fs d (machine.plain v)) o z) (sym e.1) refl
 
   module _ (m : Instances) (fs : Frames) (store : StoreAt s code m fs) (o : World) (c line : ℕ) (h : Classed s c) where
@@ -93,7 +87,10 @@ module _ (s : Source) (code : CodeOf) (coding : Compiled s code) (l : Limits) (o
     lev = level_of s t
 
     abbrev address : Value
-    address = machine.Address (CellPlace inst a.temp (class_number s code c))
+    address = machine.Address (CellPlace inst b.temps (class_number s code c))
+
+    abbrev h : HeldAt s code (site_at t b u) (length left) line (class_number s code c) pc q
+    h = a.held
 
     abbrev onward : Run Configuration
     onward = go o m inst w (meaning.Of p ∷ vals') rest
@@ -105,34 +102,35 @@ module _ (s : Source) (code : CodeOf) (coding : Compiled s code) (l : Limits) (o
     own_frame f store = levels_same s code store lev inst ∙ own_level s m inst t here.stands here.lives
 
     -- to where it is put
-    comes : {r : Run Configuration} → Meets g (InEach R) r o (at a.y (x ∷ address ∷ stack') fs) → Meets g (InEach R) r o (at pc (x ∷ stack') fs)
+    comes : {r : Run Configuration} → Meets g (InEach R) r o (at h.y (x ∷ address ∷ stack') fs) → Meets g (InEach R) r o (at pc (x ∷ stack') fs)
     comes more =
         let n = class_counts s code coding c a.is_class in
-        let is = a.address.is in
-        let fits = a.address.fits in
+        let is = h.address.is in
+        let fits = h.address.fits in
         let e = deep in
         let roomy = here.roomy in
-        silent code l inst b below R _ is.is (addr_row code l inst b below is.line fs o pc (x ∷ stack') lev a.temp (class_number s code c) n.0 n.1 (class_named s code coding m fs here.store c a.is_class) (own_frame fs here.store) (omega (arith, e, fits, roomy)))
-        (silent code l inst b below R i.Swap a.under.is (swap_row code l inst b below a.under.line fs o a.x address x stack') more)
+        silent code l inst b below R _ is.is (addr_row code l inst b below is.line fs o pc (x ∷ stack') lev b.temps (class_number s code c) n.0 n.1 (class_named s code coding m fs here.store c a.is_class) (own_frame fs here.store) (omega (arith, e, fits, roomy)))
+        (silent code l inst b below R i.Swap h.under.is (swap_row code l inst b below h.under.line fs o h.x address x stack') more)
 
     passes : ((z : Run Machine) → classes.admitting code fs line (class_number s code c) x o z ≡ z) → Meets g (InEach R) onward o (at pc (x ∷ stack') fs)
     passes admitted =
-        let r = temp_written s code m fs inst t b a.temp x here.store here.stands here.lives here.found (omega (arith, low.low, a.unused)) a.within in
-        let load = a.again.is in
-        let fits = a.again.fits in
+        let first = (low.at).temps in
+        let r = scratch_written s code m fs inst t b b.temps x here.store here.stands here.lives here.found (omega (arith, first)) (omega (arith, first)) h.within in
+        let load = h.again.is in
+        let fits = h.again.fits in
         let e = deep in
         let roomy = here.roomy in
         comes
-        (matched code l inst b below R (Going o (at a.z stack' r.frames)) (steps_to code l inst b below (x ∷ address ∷ stack') stack' fs r.frames o o i.Put a.put (put_row code l inst b below line fs r.frames o a.y x stack' inst a.temp (class_number s code c) admitted r.is))
-        (lags (steps_to code l inst b below stack' (x ∷ stack') r.frames r.frames o o (i.Load (pos lev) (pos a.temp)) load.is (load_row code l load.line inst b below r.frames o a.z stack' lev a.temp x (own_frame r.frames r.changed.store) r.reads (omega (arith, e, fits, roomy)))) refl
+        (matched code l inst b below R (Going o (at h.z stack' r.frames)) (steps_to code l inst b below (x ∷ address ∷ stack') stack' fs r.frames o o i.Put h.put (put_row code l inst b below line fs r.frames o h.y x stack' inst b.temps (class_number s code c) admitted r.is))
+        (lags (steps_to code l inst b below stack' (x ∷ stack') r.frames r.frames o o (i.Load (pos lev) (pos b.temps)) load.is (load_row code l load.line inst b below r.frames o h.z stack' lev b.temps x (own_frame r.frames r.changed.store) r.reads (omega (arith, e, fits, roomy)))) refl
         (caught (simply (λ p same. absurd (cc (same)))
-        (goes s code u q (moved s code r.changed here.kept_alone here (kinds_as s code (sym out) (more_at (plain_at {p = p}) hs)))
-        (work_moved s code r.changed here here.alone below u (λ n le within lt. r.others n (λ same. (let no : ⊥ = omega (arith, same, lt, a.unused) in no))) w q ks' k) refl)))))
+        (goes s code u q (moved s code r.changed (kept_every m) here (kinds_as s code (sym out) (more_at (plain_at {p = p}) hs)))
+        (work_moved s code r.changed here (all_every rest) below u (λ frame n le within lt. (r.changed).keeps.temps inst t n b.block tt here.stands here.found (record { behind = le; within = within })) w q ks' k) refl)))))
 
     refused : ((z : Run Machine) → classes.admitting code fs line (class_number s code c) x o z ≡ stopping (RunFault OutsideQualification line) o) → Meets g (InEach R) (stopping (RunFault OutsideQualification line) o) o (at pc (x ∷ stack') fs)
     refused stops =
         comes
-        (matched code l inst b below R _ (step_at code l line inst b below i.Put a.y a.z o (x ∷ address ∷ stack') fs _ a.put (put_stops code l inst b below line fs o a.y x stack' inst a.temp (class_number s code c) (RunFault OutsideQualification line) stops))
+        (matched code l inst b below R _ (step_at code l line inst b below i.Put h.y h.z o (x ∷ address ∷ stack') fs _ h.put (put_stops code l inst b below line fs o h.y x stack' inst b.temps (class_number s code c) (RunFault OutsideQualification line) stops))
         (caught (both_stopping (RunFault OutsideQualification line) o)))
 
   abbrev fitting : (c line : ℕ) → Plain → List Val → Run Configuration
@@ -156,13 +154,14 @@ module _ (s : Source) (code : CodeOf) (coding : Compiled s code) (l : Limits) (o
   held c line left out a (Character z) n vals' stack' hs = at_once (alike_unruled Configuration Machine R o _)
   held c line left out a (Text z) n vals' stack' hs = at_once (alike_unruled Configuration Machine R o _)
 
-  by_value : (c line : ℕ) (left : List Kind) → ks' ≡ anys 1 left → (a : FitsIs s code (site_at t b u) (length left) c line pc q) (v : Val) (x : Value) → ValAt v x → Names s m v → (vals' : List Val) (stack' : List Value) → StackAt (HandAt s code m) left vals' stack' → Follows g R (having (plain v) o (λ p. fitting c line p vals')) o (at pc (x ∷ stack') fs)
+  by_value : (c line : ℕ) (left : List Kind) → ks' ≡ anys 1 left → (a : FitsIs s code (site_at t b u) (length left) c line pc q) (v : Val) (x : Value) → ValAt s code m v x → Names s m v → (vals' : List Val) (stack' : List Value) → StackAt (HandAt s code m) left vals' stack' → Follows g R (having (plain v) o (λ p. fitting c line p vals')) o (at pc (x ∷ stack') fs)
   unfolding having
   by_value c line left out a _ _ (plain_at {p}) n vals' stack' hs = held c line left out a p n vals' stack' hs
   by_value c line left out a _ _ link_at n vals' stack' hs = at_once (alike_unruled Configuration Machine R o _)
   by_value c line left out a _ _ array_at n vals' stack' hs = at_once (alike_unruled Configuration Machine R o _)
   by_value c line left out a _ _ element_at n vals' stack' hs = at_once (alike_unruled Configuration Machine R o _)
   by_value c line left out a _ _ image_at n vals' stack' hs = at_once (alike_unruled Configuration Machine R o _)
+  by_value c line left out a _ _ (actual_at y) n vals' stack' hs = at_once (alike_unruled Configuration Machine R o _)
 
   in_hand : (c line : ℕ) (left : List Kind) → ks' ≡ anys 1 left → (a : FitsIs s code (site_at t b u) (length left) c line pc q) (vs : List Val) (xs : List Value) → AllName s m vs → StackAt (HandAt s code m) (anys 1 left) vs xs → Follows g R (fitted s o m inst w vs rest c line) o (at pc xs fs)
   unfolding pop_plain popping

@@ -1,5 +1,5 @@
 -- The entry of an object.
-use Rattle.std.proofs.Common.{◌≡◌, ℕ, false, true, List, [], ◌∷◌, length, Some, refl, sym, ap, ◌∙◌, subst, arith}
+use Rattle.std.proofs.Common.{◌≡◌, ℕ, true, List, [], ◌∷◌, length, Some, refl, sym, ap, ◌∙◌, subst, arith}
 use Rattle.std.specs.Prelude.{◌==◌, nat_lt, pos}
 use Rattle.sim_base.specs.declared.limits.Limits.{Limits}
 use Rattle.sim_chains.specs.Components.{AttachedObject}
@@ -42,6 +42,7 @@ use Rattle.sim_relate.proofs.Reach.{equal_numbers}
 use Rattle.sim_relate.proofs.Operations.{NewOpIs}
 use Rattle.sim_relate.proofs.Relation.{ChainAt, OpAt, StateAt, WorkAt}
 use Rattle.sim_relate.proofs.Stores.{is_live_same}
+use Rattle.sim_relate.proofs.Waiting.{NoValue}
 
 class_named_is : (code : CodeOf) (c : ℕ) (x : ClassOf) → class_numbered code c ≡ Some x → class_named code (pos c) ≡ Some c
 class_named_is code c x e = ap (if_there c) e
@@ -56,7 +57,7 @@ module _ (s : Source) (code : CodeOf) (compiled : Compiled s code) (l : Limits) 
   abbrev Follows : Op → Type 0
   Follows op = OpAt s code m fs inst (site_at t b u) op pc q ks ks' → Alike Related (do_op s l o m inst w vals rest op) (on_top code l o fs top below)
 
-  module _ (g n line : ℕ) (x : ClassHas s code g) (object : x.kind ≡ block_kind.Object) (a : NewOpIs s code (site_at t b u) g n line pc q ks ks') (values : List Val) (values' : List Value) (each : EachAt ValAt values values') (j : ℕ) (link : Stands s m j a.text) (vals2 : List Val) (stack2 : List Value) (left_hand : StackAt (HandAt s code m) a.left vals2 stack2) where
+  module _ (g n line : ℕ) (x : ClassHas s code g) (object : x.kind ≡ block_kind.Object) (a : NewOpIs s code (site_at t b u) g n line pc q ks ks') (values : List Val) (values' : List Value) (each : EachAt (ValAt s code m) values values') (j : ℕ) (link : Stands s m j a.text) (vals2 : List Val) (stack2 : List Value) (left_hand : StackAt (HandAt s code m) a.left vals2 stack2) where
     abbrev reference : Val
     reference = meaning.Of (Object (length m.instances))
 
@@ -66,10 +67,10 @@ module _ (s : Source) (code : CodeOf) (compiled : Compiled s code) (l : Limits) 
     abbrev under : List machine.Activation
     under = waiting top (machine.Of (Object (length fs.instances)) ∷ stack2) ∷ below
 
-    under_there : ChainAt s code m fs chain false under
+    under_there : ChainAt s code m fs chain NoValue under
     under_there =
-        waits s code compiled l o m inst w vals rest fs t b pc stack below ks here u q ks' low work false (Any ∷ a.left) (reference ∷ vals2) (machine.Of (Object (length fs.instances)) ∷ stack2)
-        (more_at (subst (λ z. ValAt reference (machine.Of (Object z))) (here.store).as_many plain_at) left_hand) (λ no. absurd (cc)) a.out (a.is).on
+        waits s code compiled l o m inst w vals rest fs t b pc stack below ks here u q ks' low work NoValue (Any ∷ a.left) (reference ∷ vals2) (machine.Of (Object (length fs.instances)) ∷ stack2)
+        (more_at (subst (λ z. ValAt s code m reference (machine.Of (Object z))) (here.store).as_many plain_at) left_hand) (λ no. absurd (cc)) tt a.out (a.is).on
 
     -- what the machine does with the block of the class
     abbrev NewGoes : ℕ → BlockOf → (start : ℕ) → Run Machine
@@ -124,16 +125,16 @@ module _ (s : Source) (code : CodeOf) (compiled : Compiled s code) (l : Limits) 
     new_alike =
         objects_alike _
         (entry_alike s code compiled l o m fs here.store here.parked g line x values values' each j a.text a.stands_in link (class_owns s compiled.agrees g a.class a.made) (is_process_text s g) (is_process_class code x.block.class) (process_record s code compiled g x) (object_made s g j (length m.instances)) (object_made_of_code code x.block.class j (length fs.instances)) made_same EndObject AttachedObject AttachedObject refl chain under (λ m' fs' number is. record { own = g; is = is; class = a.class }) under_there
-        (λ m' fs' there block t' p last at. record {
+        (λ m' fs' there block limit temps t' p last at. record {
           levels = x.levels;
           not_first = not_first s code compiled g a.text x.levels a.stands_in;
           was = refl;
           block = x.block;
           found = x.found;
-          ends = record { last = last; at = at; heads = object_heads; none = refl; below = there };
+          ends = record { base = (refl, refl); last = last; at = at; heads = object_heads; none = refl; below = there };
         }) OfClass follows)
 
-  made_at : (k n line : ℕ) (a : NewOpIs s code (site_at t b u) k n line pc q ks ks') (values : List Val) (values' : List Value) → EachAt ValAt values values' → (v : Val) (x : Value) (vals2 : List Val) (stack2 : List Value) → HandAt s code m (LinkTo a.text) v x → StackAt (HandAt s code m) a.left vals2 stack2
+  made_at : (k n line : ℕ) (a : NewOpIs s code (site_at t b u) k n line pc q ks ks') (values : List Val) (values' : List Value) → EachAt (ValAt s code m) values values' → (v : Val) (x : Value) (vals2 : List Val) (stack2 : List Value) → HandAt s code m (LinkTo a.text) v x → StackAt (HandAt s code m) a.left vals2 stack2
       → Alike Related (having (instance_in v) o (λ j. when (is_live m j) o (having (levels s k) o (λ xs. object_entered s l o m inst w vals2 rest k line values j xs))))
       (having (link_in x) o (λ parent. when (is_live fs parent) o (objects_of code (pos (class_number s code k)) o (λ c b' start.
       having (supplied code b'.class b' values') o (λ cells.

@@ -1,5 +1,5 @@
 -- Related states, put together.
-use Rattle.std.proofs.Common.{◌≡◌, ◌≤◌, ℕ, List, ◌∷◌, false, Some, None, refl, sym, ap, ◌∙◌, subst}
+use Rattle.std.proofs.Common.{◌≡◌, ◌≤◌, ℕ, List, ◌∷◌, Some, None, refl, sym, ap, ◌∙◌, subst}
 use Rattle.std.specs.Prelude.{slice_get}
 use Rattle.sim_base.specs.declared.limits.Limits.{Limits}
 use Rattle.sim_scope.specs.Source.{Source}
@@ -15,19 +15,23 @@ use Rattle.sim_code.specs.Rows.{on_top, row}
 use Rattle.sim_code.proofs.Lifts.{alike_found}
 use Rattle.sim_code.proofs.Simulation.{Alike, going}
 use Rattle.sim_meaning.specs.Levels.{text_at}
-use Rattle.sim_meaning.specs.Pending.{Activation, Configuration, Instances, Item, Val}
+use Rattle.sim_meaning.specs.Pending.{Activation, Configuration, Instances, Item, Val, evaluates}
 use Rattle.sim_meaning.specs.Pending as meaning
 use Rattle.sim_meaning.specs.Steps.{go}
-use Rattle.sim_meaning.specs.Sane.{AllKept, AllOf, AllName, Lives, Other}
+use Rattle.sim_meaning.specs.Sane.{AllName, Lives, Other, OwnersKept, OwnersOf}
 use Rattle.codegen_expr.specs.Sites.{At, block_number, lined, frame_text}
-use Rattle.sim_relate.proofs.Known.{HandAt, Kind, StackAt, Stands, Runs, SameFrame}
+use Rattle.sim_relate.proofs.Known.{HandAt, Kind, StackAt, Stands, Runs, SameFrame, is_some, owner_of}
 use Rattle.sim_relate.proofs.Frames.{stands_same}
-use Rattle.sim_relate.proofs.Waiting.{GetsIs, suspended}
+use Rattle.sim_relate.proofs.Waiting.{GetsIs, NoValue, suspended_by}
 use Rattle.sim_relate.proofs.Relation.{ChainAt, StandingsAt, StateAt, StoreAt, WorkAt}
 
--- the activation of an instance
+-- the activation of an instance or an evaluation
 abbrev pub act : (inst pc : ℕ) → List Value → Runs → machine.Activation
-act inst pc stack b = record { thunk = false; home = inst; pc = pc; stack = stack; room = b.room; stage = b.stage }
+act inst pc stack b = record { thunk = b.thunk; home = inst; pc = pc; stack = stack; room = b.room; stage = b.stage }
+
+-- who owns it
+pub act_owner : (inst pc : ℕ) (stack : List Value) (b : Runs) → b.thunk ≡ None → machine.owner (act inst pc stack b) ≡ Some inst
+act_owner inst pc stack b e = ap (λ z. machine.owner (record { thunk = z; home = inst; pc = pc; stack = stack; room = b.room; stage = b.stage })) e
 
 -- where both sides stand, apart from the work
 pub record There (s : Source) (code : CodeOf) (m : Instances) (fs : Frames) (inst t : ℕ) (b : Runs) (ks : List Kind) (vals : List Val) (stack : List Value) : Type 0 where
@@ -35,37 +39,37 @@ pub record There (s : Source) (code : CodeOf) (m : Instances) (fs : Frames) (ins
   pub parked : StandingsAt s code m fs
   pub stands : Stands s m inst t
   pub own : text_at m inst ≡ Some b.own
-  pub roomy : b.block.room ≤ b.room
+  pub roomy : b.limit ≤ b.room
   pub found : slice_get code.blocks (block_number s (frame_text s t)) ≡ Some b.block
   pub values : StackAt (HandAt s code m) ks vals stack
-  pub free : suspended m inst ≡ None
+  pub free : suspended_by m (owner_of b.thunk inst) ≡ None
 
--- The same of the instance that operates: it lives with its enclosers, and stands at no other place of the chains; and the components are well
--- formed.
+-- The same of what operates: its instance lives with its enclosers, and stands at no other place of the chains if it operates itself; and the
+-- components are well formed.
 pub record Here (s : Source) (code : CodeOf) (m : Instances) (fs : Frames) (inst : ℕ) (rest : List Activation) (t : ℕ) (b : Runs) (ks : List Kind) (vals : List Val) (stack : List Value) : Type 0 where
   pub store : StoreAt s code m fs
   pub parked : StandingsAt s code m fs
   pub lives : Lives m inst
-  pub alone : AllOf (Other inst) rest
-  pub kept_alone : AllKept (Other inst) m
-  pub formed : (w : List Item) (vals : List Val) → IsWellFormed meaning.owner (system_head m) (record { operating = record { instance = inst; work = w; values = vals } ∷ rest; standings = m.standings })
+  pub alone : b.thunk ≡ None → OwnersOf (Other inst) rest
+  pub kept_alone : b.thunk ≡ None → OwnersKept (Other inst) m
+  pub formed : (w : List Item) (vals : List Val) → evaluates w ≡ is_some b.thunk → IsWellFormed meaning.owner (system_head m) (record { operating = record { instance = inst; work = w; values = vals } ∷ rest; standings = m.standings })
   pub names : AllName s m vals
   pub stands : Stands s m inst t
   pub own : text_at m inst ≡ Some b.own
-  pub roomy : b.block.room ≤ b.room
+  pub roomy : b.limit ≤ b.room
   pub found : slice_get code.blocks (block_number s (frame_text s t)) ≡ Some b.block
   pub values : StackAt (HandAt s code m) ks vals stack
-  pub free : suspended m inst ≡ None
+  pub free : suspended_by m (owner_of b.thunk inst) ≡ None
 
 module _ (s : Source) (code : CodeOf) where
   pub state_at : {m : Instances} {fs : Frames} {inst t : ℕ} {b : Runs} {ks : List Kind} {vals : List Val} {stack : List Value} {w : List Item} {rest : List Activation} {pc : ℕ} {below : List machine.Activation} (used p : ℕ) → There s code m fs inst t b ks vals stack → WorkAt s code m fs (λ v. ChainAt s code m fs rest v below) inst t b used w p ks → p ≡ pc
       → StateAt s code (record { chain = record { instance = inst; work = w; values = vals } ∷ rest; memory = m }) (record { chain = act inst pc stack b ∷ below; memory = fs })
   state_at {m} {fs} {inst} {t} {b} {ks} {vals} {stack} {w} {rest} {pc} {below} used p here work e = record {
     chain = record {
-      base = refl;
       home = refl;
       text = t;
       block = b;
+      base = refl;
       found = here.found;
       stands = here.stands;
       own = here.own;
@@ -74,9 +78,10 @@ module _ (s : Source) (code : CodeOf) where
       stage = refl;
       kinds = ks;
       values = here.values;
-      gets = false;
-      gets_is = subst (λ z. GetsIs z false false) (sym here.free) refl;
+      gets = NoValue;
+      gets_is = subst (λ z. GetsIs z NoValue NoValue) (sym here.free) refl;
       fits = λ no. absurd (cc);
+      asked = tt;
       used = used;
       goes = subst (λ x. WorkAt s code m fs (λ v. ChainAt s code m fs rest v below) inst t b used w x ks) e work;
     };

@@ -1,6 +1,6 @@
 -- `&` is one event of the program. The machine makes thirty-one steps: `blanks` is the one that is matched, those before it leave the
 -- world, and those behind it change nothing of what is shown.
-use Rattle.std.proofs.Common.{◌≡◌, ◌<◌, ◌≤◌, ◌+◌, ℕ, suc, Bool, true, false, List, ◌∷◌, length, Option, Some, None, refl, sym, ap, ◌∙◌, subst, arith}
+use Rattle.std.proofs.Common.{◌≡◌, ◌<◌, ◌+◌, ℕ, suc, Bool, true, false, List, ◌∷◌, length, Option, Some, None, refl, sym, ap, ◌∙◌, subst, arith}
 use Rattle.std.specs.Prelude.{Err, ⊤, nat_lt, pos, slice_get, if◌then◌else◌}
 use Rattle.sim_base.specs.declared.limits.Limits.{Limits}
 use Rattle.sim_base.specs.declared.run_error.RunError.TheVariants.{IntegerOverflow}
@@ -26,20 +26,19 @@ use Rattle.sim_meaning.specs.Meaning.{do_op}
 use Rattle.sim_meaning.specs.Pending.{Activation, Configuration, Instances, Item, JoinOp, Val, plain}
 use Rattle.sim_meaning.specs.Pending as meaning
 use Rattle.sim_meaning.specs.Steps.{go}
-use Rattle.sim_meaning.specs.Sane.{Other}
 use Rattle.codegen_expr.specs.CodeExpr.{Stand, join_instrs}
 use Rattle.codegen_expr.specs.Sites.{frame_text, own_end}
 use Rattle.sim_relate.specs.SameRuns.{seen_world}
-use Rattle.sim_relate.proofs.Known.{HandAt, Kind, StackAt, ValAt, anys, array_at, element_at, image_at, link_at, more_at, placed, plain_at, site_at, Runs, Settled}
+use Rattle.sim_relate.proofs.Known.{Every, actual_at, HandAt, Kind, StackAt, ValAt, anys, array_at, element_at, image_at, link_at, more_at, plain_at, site_at, Runs, Settled}
 use Rattle.sim_relate.proofs.Relation.{ChainAt, Changed, OpAt, StateAt, StoreAt, WorkAt}
-use Rattle.sim_relate.proofs.Carried.{changed_twice}
+use Rattle.sim_relate.proofs.Carried.{all_every, kept_every, changed_twice}
 use Rattle.sim_relate.proofs.Hands.{stack_length}
 use Rattle.sim_relate.proofs.Here.{Here, act, goes, kinds_as}
 use Rattle.sim_relate.proofs.JoinTexts.{first_assigns, frames1, new, second_assigns, smaller, sub_is, sum_bad, sum_ok}
 use Rattle.sim_relate.proofs.Living.{own_level}
 use Rattle.sim_relate.proofs.Moved.{moved, work_moved}
 use Rattle.sim_relate.proofs.Ranked.{AlikeIn, both_no_rule, both_stopping, Catches, InEach, Meets, caught, first, lags, meets, simply}
-use Rattle.sim_relate.proofs.Stores.{levels_same, temp_written}
+use Rattle.sim_relate.proofs.Stores.{levels_same, scratch_written}
 use Rattle.sim_relate.proofs.Straight.{RowIs, add_fault, add_row, assign_row, blanks_full, blanks_row, dup_row, int_row, length_full, length_row, load_row, made, pop_row, same_row, st, stands_at, stands_to, step_at, store_row, sub_row, takes_none, takes_some, takes_too_many, up}
 
 -- ---- texts in hand
@@ -63,12 +62,13 @@ plain_text (Object j) = no_text tt tt
 plain_text (MainOf j) = no_text tt tt
 plain_text Nothing = no_text tt tt
 
-text_or : (v : Val) (x : Value) → ValAt v x → TextOr v x
+text_or : {s : Source} {code : CodeOf} {m : Instances} (v : Val) (x : Value) → ValAt s code m v x → TextOr v x
 text_or _ _ (plain_at {p}) = plain_text p
 text_or _ _ link_at = no_text tt tt
 text_or _ _ array_at = no_text tt tt
 text_or _ _ element_at = no_text tt tt
 text_or _ _ image_at = no_text tt tt
+text_or _ _ (actual_at h) = no_text tt tt
 
 module _ {S : Type 0} (o : World) where
   none_goes : (p : Option Plain) (go : TextVal → Run S) → NoText p → having p o (λ v. having (text_val v) o go) ≡ no_rule o
@@ -122,12 +122,11 @@ module _ (s : Source) (code : CodeOf) (l : Limits) (o : World) (m : Instances) (
   abbrev g : World → Machine → Run Machine
   g = mstep code l
 
-  -- frames in which some temps have other values
-  record Temps (f : Frames) : Type 0 where
-    changed : Changed s code (Other inst) m fs m f
-    own : (c : ℕ) → own_end s code (frame_text s t) ≤ c → c < u → placed f inst c ≡ placed fs inst c
+  -- frames in which temps of expressions have other values
+  abbrev Temps : Frames → Type 0
+  Temps f = Changed s code Every m fs m f
 
-  module _ (line temp : ℕ) (left : List Kind) (unused : u ≤ temp) (within : suc (suc temp) < length b.block.types) (room : suc (suc (length left)) < b.block.room) (joins : Stand code line (join_instrs (level_of s t) temp) pc q) (out : ks' ≡ anys 1 left)
+  module _ (line temp : ℕ) (left : List Kind) (first_is : temp ≡ own_end s code (frame_text s t)) (within : suc (suc temp) < length b.block.types) (room : suc (suc (length left)) < b.limit) (joins : Stand code line (join_instrs (level_of s t) temp) pc q) (out : ks' ≡ anys 1 left)
       (vals' : List Val) (stack' : List Value) (hands : StackAt (HandAt s code m) left vals' stack') where
     abbrev lev : ℕ
     lev = level_of s t
@@ -176,8 +175,8 @@ module _ (s : Source) (code : CodeOf) (l : Limits) (o : World) (m : Instances) (
     -- the end
     ends : (p : World) (f : Frames) → Temps f → (x : TextVal) → Alike R (go p m inst w (meaning.Of (Text x) ∷ vals') rest) (Going p (at 31 (machine.Of (Text x) ∷ stack') f))
     ends p f temps x =
-        goes s code u q (moved s code temps.changed here.kept_alone here (kinds_as s code (sym out) (more_at plain_at hands)))
-        (work_moved s code temps.changed here here.alone below u (λ c le within lt. temps.own c le lt) w q ks' k) (stands_to code line (join_instrs lev temp) pc q joins)
+        goes s code u q (moved s code temps (kept_every m) here (kinds_as s code (sym out) (more_at plain_at hands)))
+        (work_moved s code temps here (all_every rest) below u (λ frame c le within lt. temps.keeps.temps inst t c b.block tt here.stands here.found (record { behind = le; within = within })) w q ks' k) (stands_to code line (join_instrs lev temp) pc q joins)
 
     -- what `&` does in the program
     abbrev joined_run : Val → Val → Run Configuration
@@ -251,8 +250,8 @@ module _ (s : Source) (code : CodeOf) (l : Limits) (o : World) (m : Instances) (
       behind_blanks big fits =
           let one_more = smaller (la + 1) (la + 1 + lb) (omega arith) big in
           let vr : Value = machine.Of (Text (new frames ta tb)) in
-          let r = temp_written s code m f inst t b (suc (suc temp)) vr temps.changed.store here.stands here.lives here.found (omega (arith, low.low, unused)) within in
-          let e = own_frame f temps.changed.store in
+          let r = scratch_written s code m f inst t b (suc (suc temp)) vr temps.store here.stands here.lives here.found (omega (arith, first_is)) (omega (arith, first_is)) within in
+          let e = own_frame f temps.store in
           let e3 = own_frame r.frames r.changed.store in
           let in_a3 : machine.cell r.frames inst temp ≡ Some va = r.reads_others temp (λ same. (let no : ⊥ = omega (arith, same) in no)) ∙ in_a in
           let in_b3 : machine.cell r.frames inst (suc temp) ≡ Some vb = r.reads_others (suc temp) (λ same. (let no : ⊥ = omega (arith, same) in no)) ∙ in_b in
@@ -276,10 +275,7 @@ module _ (s : Source) (code : CodeOf) (l : Limits) (o : World) (m : Instances) (
           (lag 28 (i.Load (pos lev) (pos (suc temp))) refl (h0 o3 (up 28 pc) (machine.Of (Text (part (new frames ta tb) (la + 1) lb)) ∷ stack') lev (suc temp) vb e3 in_b3 fits1) refl
           (lag 29 i.AssignT refl (assign_row code l line inst b below r.frames o3 (up 29 pc) (part (new frames ta tb) (la + 1) lb) tb stack' (second_assigns frames ta tb)) refl
           (lag 30 (i.Load (pos lev) (pos (suc (suc temp)))) refl (h0 o4 (up 30 pc) stack' lev (suc (suc temp)) vr e3 r.reads fits0) refl
-          (caught (simply (λ p same. absurd (cc)) (ends o4 r.frames (record {
-            changed = changed_twice s code temps.changed r.changed;
-            own = λ c le lt. r.others c (λ same. (let no : ⊥ = omega (arith, same, lt, unused) in no)) ∙ temps.own c le lt;
-          }) (new frames ta tb))))))))))))))))))
+          (caught (simply (λ p same. absurd (cc)) (ends o4 r.frames (changed_twice s code temps r.changed) (new frames ta tb))))))))))))))))))
 
       abbrev sums : List Value
       sums = machine.Of (Integer (pos (la + lb))) ∷ stack'
@@ -321,14 +317,14 @@ module _ (s : Source) (code : CodeOf) (l : Limits) (o : World) (m : Instances) (
       length_split false e =
           subst (λ z. Meets g (InEach R) z o (at 7 (va ∷ stack') f)) (sym (opens ∙ takes_none l line o made_run e))
           (silent 7 (i.Std (pos 20)) refl (length_row code l line inst b below f o (up 7 pc) ta stack' e fits0)
-          (silent 8 (i.Load (pos lev) (pos (suc temp))) refl (load_row code l line inst b below f o (up 8 pc) (machine.Of (Integer (pos la)) ∷ stack') lev (suc temp) vb (own_frame f temps.changed.store) in_b fits1)
+          (silent 8 (i.Load (pos lev) (pos (suc temp))) refl (load_row code l line inst b below f o (up 8 pc) (machine.Of (Integer (pos la)) ∷ stack') lev (suc temp) vb (own_frame f temps.store) in_b fits1)
           (silent 9 (i.Std (pos 20)) refl (length_row code l line inst b below f o (up 9 pc) tb (machine.Of (Integer (pos la)) ∷ stack') e fits1) (sum_split (is_integer (pos (la + 1 + lb))) refl e))))
 
       text_meets : Meets g (InEach R) text_run o (at 4 (vb ∷ va ∷ stack') f)
       text_meets =
           silent 4 i.SameT refl (same_row code l line inst b below f o (up 4 pc) ta tb stack')
           (silent 5 i.Pop refl (pop_row code l line inst b below f o (up 5 pc) (machine.Of (Truth (same_text ta tb))) stack')
-          (silent 6 (i.Load (pos lev) (pos temp)) refl (load_row code l line inst b below f o (up 6 pc) stack' lev temp va (own_frame f temps.changed.store) in_a fits0) (length_split (is_exhausted l.storage o.words 0) refl)))
+          (silent 6 (i.Load (pos lev) (pos temp)) refl (load_row code l line inst b below f o (up 6 pc) stack' lev temp va (own_frame f temps.store) in_a fits0) (length_split (is_exhausted l.storage o.words 0) refl)))
 
     -- ---- two values
 
@@ -343,24 +339,21 @@ module _ (s : Source) (code : CodeOf) (l : Limits) (o : World) (m : Instances) (
         (subst (λ z. Meets g (InEach R) (joined_run (meaning.Of (Text tb)) (meaning.Of (Text ta))) o (at 4 (z ∷ x' ∷ stack') f)) (sym ex)
         (subst (λ z. Meets g (InEach R) (joined_run (meaning.Of (Text tb)) (meaning.Of (Text ta))) o (at 4 (machine.Of (Text tb) ∷ z ∷ stack') f)) (sym ex') (text_meets ta tb f temps (in_a ∙ ap Some ex') (in_b ∙ ap Some ex)))))
 
-    starts : (v v' : Val) (x x' : Value) → ValAt v x → ValAt v' x' → Meets g (InEach R) (joined_run v v') o (at 0 (x ∷ x' ∷ stack') fs)
+    starts : (v v' : Val) (x x' : Value) → ValAt s code m v x → ValAt s code m v' x' → Meets g (InEach R) (joined_run v v') o (at 0 (x ∷ x' ∷ stack') fs)
     starts v v' x x' h h' =
-        let r1 = temp_written s code m fs inst t b (suc temp) x here.store here.stands here.lives here.found (omega (arith, low.low, unused)) (omega (arith, within)) in
-        let r2 = temp_written s code m r1.frames inst t b temp x' r1.changed.store here.stands here.lives here.found (omega (arith, low.low, unused)) (omega (arith, within)) in
+        let r1 = scratch_written s code m fs inst t b (suc temp) x here.store here.stands here.lives here.found (omega (arith, first_is)) (omega (arith, first_is)) (omega (arith, within)) in
+        let r2 = scratch_written s code m r1.frames inst t b temp x' r1.changed.store here.stands here.lives here.found (omega (arith, first_is)) (omega (arith, first_is)) (omega (arith, within)) in
         let in_b : machine.cell r2.frames inst (suc temp) ≡ Some x = r2.reads_others (suc temp) (λ same. (let no : ⊥ = omega (arith, same) in no)) ∙ r1.reads in
         let e2 = own_frame r2.frames r2.changed.store in
         silent 0 (i.Store (pos lev) (pos (suc temp))) refl (store_row code l line inst b below fs r1.frames o (up 0 pc) x (x' ∷ stack') lev (suc temp) (own_frame fs here.store) r1.is)
         (silent 1 (i.Store (pos lev) (pos temp)) refl (store_row code l line inst b below r1.frames r2.frames o (up 1 pc) x' stack' lev temp (own_frame r1.frames r1.changed.store) r2.is)
         (silent 2 (i.Load (pos lev) (pos temp)) refl (load_row code l line inst b below r2.frames o (up 2 pc) stack' lev temp x' e2 r2.reads fits0)
         (silent 3 (i.Load (pos lev) (pos (suc temp))) refl (load_row code l line inst b below r2.frames o (up 3 pc) (x' ∷ stack') lev (suc temp) x e2 in_b fits1)
-        (after_loads v v' x x' (text_or v x h) (text_or v' x' h') r2.frames (record {
-          changed = changed_twice s code r1.changed r2.changed;
-          own = λ c le lt. r2.others c (λ same. (let no : ⊥ = omega (arith, same, lt, unused) in no)) ∙ r1.others c (λ same. (let no : ⊥ = omega (arith, same, lt, unused) in no));
-        }) r2.reads in_b))))
+        (after_loads v v' x x' (text_or v x h) (text_or v' x' h') r2.frames (changed_twice s code r1.changed r2.changed) r2.reads in_b))))
 
-  in_hands : (line : ℕ) (left : List Kind) (vs : List Val) (xs : List Value) → StackAt (HandAt s code m) (anys 2 left) vs xs → (temp : ℕ) → u ≤ temp → suc (suc temp) < length b.block.types → suc (suc (length left)) < b.block.room → Stand code line (join_instrs (level_of s t) temp) pc q → ks' ≡ anys 1 left
+  in_hands : (line : ℕ) (left : List Kind) (vs : List Val) (xs : List Value) → StackAt (HandAt s code m) (anys 2 left) vs xs → (temp : ℕ) → temp ≡ own_end s code (frame_text s t) → suc (suc temp) < length b.block.types → suc (suc (length left)) < b.limit → Stand code line (join_instrs (level_of s t) temp) pc q → ks' ≡ anys 1 left
       → Meets g (InEach R) (joining plain l line vs o (λ z p vals. go p m inst w (meaning.Of z ∷ vals) rest)) o (record { chain = act inst pc xs b ∷ below; memory = fs })
-  in_hands line left _ _ (more_at {v = v} {x = x} h (more_at {v = v'} {vals = vals'} {x = x'} {stack = stack'} h' hands)) temp unused within room joins out = starts line temp left unused within room joins out vals' stack' hands v v' x x' h h'
+  in_hands line left _ _ (more_at {v = v} {x = x} h (more_at {v = v'} {vals = vals'} {x = x'} {stack = stack'} h' hands)) temp first_is within room joins out = starts line temp left first_is within room joins out vals' stack' hands v v' x x' h h'
 
   pub join : (line : ℕ) → OpAt s code m fs inst (site_at t b u) (JoinOp line) pc q ks ks' → Meets (mstep code l) (InEach (StateAt s code)) (do_op s l o m inst w vals rest (JoinOp line)) o (record { chain = act inst pc stack b ∷ below; memory = fs })
-  join line a = let j = a.joins in in_hands line a.left vals stack (kinds_as s code a.«in» here.values) j.temp j.unused j.within j.room j.joins a.out
+  join line a = let j = a.joins in in_hands line a.left vals stack (kinds_as s code a.«in» here.values) b.temps (low.at).temps j.within j.room j.joins a.out

@@ -1,12 +1,14 @@
 -- Values in hand, instances and their frames: what is known of both sides.
-use Rattle.std.proofs.Common.{◌≡◌, ◌⊎◌, ◌<◌, ◌≤◌, ℕ, suc, zero, Bool, true, false, List, [], ◌∷◌, length, Option, Some, None, refl, sym, ap}
+use Rattle.std.proofs.Common.{◌≡◌, ◌⊎◌, ◌+◌, ◌<◌, ◌≤◌, ℕ, suc, zero, Bool, true, false, List, [], ◌∷◌, length, Option, Some, None, refl, sym, ap, subst, ◌∙◌, arith}
 use Rattle.std.specs.Prelude.{⊤, slice_get}
 use Rattle.sim_scope.specs.Access.{encloser}
 use Rattle.sim_scope.specs.Actuals.{result_in}
 use Rattle.sim_scope.specs.Scopes.{entry_of}
 use Rattle.sim_scope.specs.Source.{Source, level_of}
+use Rattle.sim_tree.specs.Syntax.{Expression}
 use Rattle.sim_values.specs.Plain.{Object, Plain, MainOf}
 use Rattle.sim_values.specs.Standard.{row_of}
+use Rattle.sim_code.specs.declared.instr.Instr.TheVariants as i
 use Rattle.sim_code.specs.declared.stage.Stage.{Stage}
 use Rattle.sim_code.specs.declared.stage.Stage.TheVariants as stage
 use Rattle.sim_code.specs.Code.{BlockOf, CodeOf}
@@ -15,24 +17,25 @@ use Rattle.sim_code.specs.Instances as instances
 use Rattle.sim_code.specs.Machine.{Frames, Value, Cells}
 use Rattle.sim_code.specs.Machine as machine
 use Rattle.sim_code.proofs.Lifts.{Both}
-use Rattle.sim_meaning.specs.Pending.{AttributeOf, CallOf, Connection, Declared, Held, Instances, Key, PlaceOf, QualifiedElementOf, QualifiedPlaceOf, RemoteCallOf, SetOf, SimulationOf, StandardOf, Target, Term, ToCell, ToPlace, ToTextAt, ToTextOf, TransferOf, Unbuilt, Val, VirtualOf}
+use Rattle.sim_meaning.specs.Pending.{Actual, AttributeOf, CallOf, Connection, Declared, ForPlace, ForValue, Held, Instances, Key, NamedOf, PlaceOf, QualifiedElementOf, QualifiedPlaceOf, RemoteCallOf, SetOf, SimulationOf, StandardOf, Target, Term, ToCell, ToPlace, ToTextAt, ToTextOf, TransferOf, Unbuilt, Val, VirtualOf}
 use Rattle.sim_meaning.specs.Pending as meaning
-use Rattle.sim_meaning.specs.Closing.{has_type}
-use Rattle.sim_meaning.specs.Levels.{is_process_class, is_standard_text, levels_of, text_at}
+use Rattle.sim_meaning.specs.Closing.{has_type, is_placed}
+use Rattle.sim_meaning.specs.Levels.{is_class, is_process_class, is_standard_text, levels_of, text_at}
 use Rattle.sim_meaning.specs.Meaning.{has_result}
 use Rattle.sim_meaning.specs.Objects.{constant_cell}
 use Rattle.sim_meaning.specs.Statements.{has_value}
 use Rattle.sim_meaning.specs.Texts.{ProcedureText, Text, constant_of, text}
 use Rattle.codegen.specs.Agrees.{MatchThere}
 use Rattle.codegen.specs.CodeStm.{is_class_text}
-use Rattle.codegen_expr.specs.Sites.{HasCell, LevelOf, Site, block_number, class_number, frame_text, own_end, slot_of}
+use Rattle.codegen_expr.specs.CodeExpr.{ExprAt, ObjectAt, PlaceAt, class_given}
+use Rattle.codegen_expr.specs.Sites.{HasCell, Is, LevelOf, Site, block_number, class_number, expression_temps, frame_text, own_end, slot_of}
 pub use Rattle.codegen_expr.specs.Sites.{is_constant}
 
 -- ---- values
 
 -- What is known of a value in hand: that it is a link to an instance of a text, or the object as such a link, or the link to just this instance;
--- that it is where a cell lies, or where a reference of a class lies, or a constant of an object, or what matches a virtual; or that it is none of
--- these.
+-- that it is where a cell lies, or where a reference of a class lies, or a constant of an object, or what matches a virtual; or that it is what a
+-- parameter by name gave, a value or where such lies; or that it is none of these.
 pub data Kind : Type 0 where
   Any : Kind
   Located : Kind
@@ -42,6 +45,7 @@ pub data Kind : Type 0 where
   Refers : (class : ℕ) → Kind
   FixedOf : (declaration : ℕ) → Kind
   MatchOf : (virtual : ℕ) → Kind
+  Named : Kind
 
 -- a link to an instance of a text, for a call
 abbrev pub IsLink : Kind → (text : ℕ) → Type 0
@@ -63,6 +67,7 @@ given false ks = ks
 abbrev pub IsRead : Kind → Type 0
 IsRead Any = ⊤
 IsRead Located = ⊤
+IsRead Named = ⊤
 IsRead _ = ⊥
 
 abbrev pub AllRead : ℕ → List Kind → List Kind → Type 0
@@ -91,6 +96,7 @@ gives s (QualifiedPlaceOf j key k) = false
 gives s (QualifiedElementOf line k a ts) = false
 gives s (TransferOf t line a) = false
 gives s (VirtualOf a v n line) = virtual_gives s v
+gives s (NamedOf j key (ForPlace value_too line)) = false
 gives s _ = true
 
 -- whether a cell is that of a constant
@@ -113,6 +119,7 @@ place_kind s (PlaceOf j key) = Some Located
 place_kind s (AttributeOf text key class line a) = Some (attribute_kind s key class)
 place_kind s (QualifiedPlaceOf j key k) = Some (Refers k)
 place_kind s (QualifiedElementOf line k a ts) = Some (Refers k)
+place_kind s (NamedOf j key (ForPlace value_too line)) = Some Named
 place_kind s _ = None
 
 abbrev pub with_kind : Bool → Option Kind → List Kind → List Kind
@@ -139,6 +146,7 @@ leaves_as s t before behind e = e
 abbrev pub is_read : Kind → Bool
 is_read Any = true
 is_read Located = true
+is_read Named = true
 is_read _ = false
 
 abbrev pub reads_kind : Bool → Option Kind → Bool
@@ -154,12 +162,15 @@ leaves_any s (PlaceOf j key) ks e = absurd (cc)
 leaves_any s (AttributeOf text key class line a) ks e = absurd (cc)
 leaves_any s (QualifiedPlaceOf j key k) ks e = absurd (cc)
 leaves_any s (QualifiedElementOf line k a ts) ks e = absurd (cc)
+leaves_any s (NamedOf j key (ForPlace value_too line)) ks e = absurd (cc)
+leaves_any s (NamedOf j key (ForValue class line)) ks e = refl
 leaves_any s Unbuilt ks e = tt
 leaves_any s x ks e = ap (λ g. given g ks) (sym e)
 
 pub read_kind : (k : Kind) → is_read k ≡ true → IsRead k
 read_kind Any e = tt
 read_kind Located e = tt
+read_kind Named e = tt
 read_kind (LinkTo text) e = absurd (cc)
 read_kind (OwnerOf text) e = absurd (cc)
 read_kind (LinkOf j) e = absurd (cc)
@@ -172,6 +183,8 @@ leaves_read s (PlaceOf j key) ks e = (Located, tt, refl)
 leaves_read s (AttributeOf text key class line a) ks e = (attribute_kind s key class, read_kind (attribute_kind s key class) e, refl)
 leaves_read s (QualifiedPlaceOf j key k) ks e = absurd (cc)
 leaves_read s (QualifiedElementOf line k a ts) ks e = absurd (cc)
+leaves_read s (NamedOf j key (ForPlace value_too line)) ks e = (Named, tt, refl)
+leaves_read s (NamedOf j key (ForValue class line)) ks e = (Any, tt, refl)
 leaves_read s Unbuilt ks e = (Any, tt, tt)
 leaves_read s x ks e = (Any, tt, ap (λ g. given g ks) (sym e))
 
@@ -200,14 +213,9 @@ read_given s (PlaceOf j key) e = absurd (cc)
 read_given s (AttributeOf text key class line a) e = absurd (cc)
 read_given s (QualifiedPlaceOf j key k) e = absurd (cc)
 read_given s (QualifiedElementOf line k a ts) e = absurd (cc)
+read_given s (NamedOf j key (ForPlace value_too line)) e = refl
+read_given s (NamedOf j key (ForValue class line)) e = refl
 read_given s x e = e
-
-pub data ValAt : Val → Value → Type 0 where
-  plain_at : {p : Plain} → ValAt (meaning.Of p) (machine.Of p)
-  link_at : {j : ℕ} → ValAt (meaning.Link j) (machine.Link j)
-  array_at : {a : ℕ} → ValAt (meaning.ArrayValue a) (machine.ArrayValue a)
-  element_at : {a n : ℕ} → ValAt (meaning.Address (ElementPlace a n None)) (machine.Address (ElementPlace a n 0))
-  image_at : {n : ℕ} → ValAt (meaning.Address (ImagePlace n)) (machine.Address (ImagePlace n))
 
 -- a reference to an object or a main program
 abbrev pub IsReference : Plain → Type 0
@@ -219,15 +227,6 @@ IsReference _ = ⊥
 pub data StackAt {V X : Type 0} (W : Kind → V → X → Type 0) : List Kind → List V → List X → Type 0 where
   none_at : StackAt W [] [] []
   more_at : {k : Kind} {ks : List Kind} {v : V} {vals : List V} {x : X} {stack : List X} → W k v x → StackAt W ks vals stack → StackAt W (k ∷ ks) (v ∷ vals) (x ∷ stack)
-
--- A cell of an instance, and its slot in the frame: that of a constant is never looked at, and has the constant's value if it has one.
-abbrev pub fixed_value : Source → Key → Option Val
-fixed_value s (Declared d) = constant_cell (constant_of s (record { 0 = d }))
-fixed_value s _ = None
-
-abbrev pub SlotAt : Source → (fixed : Bool) → Key → Option Val → Option Value → Type 0
-SlotAt s true key v c = (v ≡ None) ⊎ (v ≡ fixed_value s key)
-SlotAt s false key v c = Both ValAt v c
 
 -- cells of connections are made when an object is connected; all others are there from the entry on
 abbrev pub is_declared : Key → Bool
@@ -269,6 +268,49 @@ pub record Reaches (s : Source) (m : Instances) (from text instance : ℕ) : Typ
 -- and code finds it
 abbrev pub Finds : Source → Instances → (from text : ℕ) → Type 0
 Finds s m from text = (j : ℕ) × Reaches s m from text j × (at_level m (level_of s text) from ≡ Some j)
+
+-- ---- actual parameters by name
+
+-- the code of an actual parameter by name: where a variable lies, or a value
+abbrev pub ActualCode : Source → CodeOf → Site → Expression → ℕ → ℕ → Type 0
+ActualCode s code site e p q = ObjectAt (is_placed s e) (PlaceAt s code site 0 (class_given s code e) e) (ExprAt s code site 0 e) p q
+
+-- A thunk of this number evaluates an actual parameter for its home, which stands for the text in which that is written.
+pub record ThunkIs (s : Source) (code : CodeOf) (m : Instances) (home : ℕ) (e : Expression) (number : ℕ) : Type 0 where
+  pub text : ℕ
+  pub block : BlockOf
+  pub room : ℕ
+  pub used : ℕ
+  pub entry : ℕ
+  pub done : ℕ
+  pub last : ℕ
+  pub stands : Stands s m home text
+  pub found : slice_get code.blocks (block_number s (frame_text s text)) ≡ Some block
+  pub there : slice_get code.thunks number ≡ Some (record { entry = entry; room = room })
+  pub within : entry < length code.instrs
+  pub gives : ActualCode s code (record { text = text; room = room; temps = own_end s code (frame_text s text); used = used; size = length block.types }) e entry done
+  pub end : Is code i.EndThunk done last
+
+-- ---- values in cells
+
+pub data ValAt (s : Source) (code : CodeOf) (m : Instances) : Val → Value → Type 0 where
+  plain_at : {p : Plain} → ValAt s code m (meaning.Of p) (machine.Of p)
+  link_at : {j : ℕ} → ValAt s code m (meaning.Link j) (machine.Link j)
+  array_at : {a : ℕ} → ValAt s code m (meaning.ArrayValue a) (machine.ArrayValue a)
+  element_at : {a n : ℕ} → ValAt s code m (meaning.Address (ElementPlace a n None)) (machine.Address (ElementPlace a n 0))
+  image_at : {n : ℕ} → ValAt s code m (meaning.Address (ImagePlace n)) (machine.Address (ImagePlace n))
+  actual_at : {home number : ℕ} {e : Expression} → ThunkIs s code m home e number → ValAt s code m (Actual home e) (machine.ThunkValue number home)
+
+-- A cell of an instance, and its slot in the frame: that of a constant is never looked at, and has the constant's value if it has one.
+abbrev pub fixed_value : Source → Key → Option Val
+fixed_value s (Declared d) = constant_cell (constant_of s (record { 0 = d }))
+fixed_value s _ = None
+
+abbrev pub SlotAt : Source → CodeOf → Instances → (fixed : Bool) → Key → Option Val → Option Value → Type 0
+SlotAt s code m true key v c = (v ≡ None) ⊎ (v ≡ fixed_value s key)
+SlotAt s code m false key v c = Both (ValAt s code m) v c
+
+-- ---- values in hand
 
 -- a link in hand
 pub record LinkIs (s : Source) (m : Instances) (text : ℕ) (v : Val) (x : Value) : Type 0 where
@@ -323,8 +365,22 @@ pub record MatchIs (s : Source) (m : Instances) (virtual : ℕ) (v : Val) (x : V
   pub there : MatchThere s virtual own text
   pub stands : Stands s m instance there.around
 
+-- What a parameter by name gave: a value, or where a cell lies, or where a reference lies.
+pub data NamedAt (s : Source) (code : CodeOf) (m : Instances) : Val → Value → Type 0 where
+  named_value : {v : Val} {x : Value} → ValAt s code m v x → NamedAt s code m v x
+  named_place : {v : Val} {x : Value} → PlaceIs s code m v x → NamedAt s code m v x
+  named_reference : {v : Val} {x : Value} (k : ℕ) → is_class (text s k) ≡ true → RefersAt s code m k v x → NamedAt s code m v x
+
+-- what may be given so
+abbrev pub IsGiven : Source → Kind → Type 0
+IsGiven s Any = ⊤
+IsGiven s Located = ⊤
+IsGiven s Named = ⊤
+IsGiven s (Refers k) = is_class (text s k) ≡ true
+IsGiven s _ = ⊥
+
 abbrev pub HandAt : Source → CodeOf → Instances → Kind → Val → Value → Type 0
-HandAt s code m Any v x = ValAt v x
+HandAt s code m Any v x = ValAt s code m v x
 HandAt s code m Located v x = PlaceIs s code m v x
 HandAt s code m (LinkTo text) v x = LinkIs s m text v x
 HandAt s code m (OwnerOf text) v x = OwnerIs s m text v x
@@ -332,6 +388,18 @@ HandAt s code m (LinkOf j) v x = (v ≡ meaning.Link j) × (x ≡ machine.Link j
 HandAt s code m (Refers k) v x = RefersAt s code m k v x
 HandAt s code m (FixedOf d) v x = FixedIs s m d v x
 HandAt s code m (MatchOf d) v x = MatchIs s m d v x
+HandAt s code m Named v x = NamedAt s code m v x
+
+pub hand_given : (s : Source) (code : CodeOf) (m : Instances) (k : Kind) (v : Val) (x : Value) → IsGiven s k → HandAt s code m k v x → NamedAt s code m v x
+hand_given s code m Any v x g h = named_value h
+hand_given s code m Located v x g h = named_place h
+hand_given s code m Named v x g h = h
+hand_given s code m (Refers k) v x g h = named_reference k g h
+hand_given s code m (LinkTo t) v x g h = absurd g
+hand_given s code m (OwnerOf t) v x g h = absurd g
+hand_given s code m (LinkOf j) v x g h = absurd g
+hand_given s code m (FixedOf d) v x g h = absurd g
+hand_given s code m (MatchOf d) v x g h = absurd g
 
 -- what the later of two stores keeps of the instances: their texts, what they stand for, and what is found from them outward
 pub record Later (s : Source) (m m' : Instances) : Type 0 where
@@ -347,21 +415,38 @@ abbrev pub placed : Frames → (frame cell : ℕ) → Option Value
 placed fs j c = placed_in (slice_get fs.instances j) c
 
 -- a temp of the level of a text, of which this is the block: it stands behind the own part of the text
-pub record IsTemp (s : Source) (code : CodeOf) (text temp : ℕ) (b : BlockOf) : Type 0 where
+pub record InTemps (s : Source) (code : CodeOf) (text temp : ℕ) (b : BlockOf) : Type 0 where
   pub behind : own_end s code (frame_text s text) ≤ temp
   pub within : temp < length b.types
 
--- what it keeps of the frames of some instances: the temps of all levels
+-- a temp of the statements there: it stands behind those of expressions
+pub record IsTemp (s : Source) (code : CodeOf) (text temp : ℕ) (b : BlockOf) : Type 0 where
+  pub behind : own_end s code (frame_text s text) + expression_temps ≤ temp
+  pub within : temp < length b.types
+
+-- what it keeps of the frames of some instances: the temps of the statements of all levels
 pub record Keeps (s : Source) (code : CodeOf) (m : Instances) (fs fs' : Frames) (Of : ℕ → Type 0) : Type 0 where
   pub temps : (j t c : ℕ) (b : BlockOf) → Of j → Stands s m j t → slice_get code.blocks (block_number s (frame_text s t)) ≡ Some b → IsTemp s code t c b → placed fs' j c ≡ placed fs j c
 
--- What an activation runs: the text of its instance, the room that its operand stack has, the block of the level in which control is, and the
--- stage at which it is.
+-- What an activation runs: the text of its instance, the thunk if it is one, the room that its operand stack has, how much of that the code there
+-- takes, where the temps of expressions begin there, the block of the level in which control is, and the stage at which it is.
 pub record Runs : Type 0 where
   pub own : ℕ
+  pub thunk : Option ℕ
   pub room : ℕ
+  pub limit : ℕ
+  pub temps : ℕ
   pub block : BlockOf
   pub stage : Stage
+
+-- a thunk is no frame
+abbrev pub owner_of : (thunk : Option ℕ) → (instance : ℕ) → Option ℕ
+owner_of None j = Some j
+owner_of (Some n) j = None
+
+abbrev pub is_some : Option ℕ → Bool
+is_some None = false
+is_some (Some n) = true
 
 abbrev pub at_stage : Runs → Stage → Runs
 at_stage b stage = record b { stage = stage }
@@ -386,10 +471,40 @@ behind_process s own _ = false
 abbrev pub Calm : Source → Runs → Type 0
 Calm s b = behind_process s b.own b.stage ≡ false
 
--- Where work of an activation stands in the code of a text: all cells of the text are in use, and no process is at its end.
+-- Where work of an activation stands in the code of a text: all cells of the text and the temps of expressions are in use, and in a thunk all temps.
+pub record Low (s : Source) (code : CodeOf) (t : ℕ) (b : Runs) (used : ℕ) : Type 0 where
+  pub low : own_end s code (frame_text s t) + expression_temps ≤ used
+  pub temps : b.temps ≡ own_end s code (frame_text s t)
+  pub full : (n : ℕ) → b.thunk ≡ Some n → length b.block.types < used
+
+-- and no process is at its end there
 pub record Settled (s : Source) (code : CodeOf) (t : ℕ) (b : Runs) (used : ℕ) : Type 0 where
-  pub low : own_end s code (frame_text s t) ≤ used
+  pub at : Low s code t b used
   pub calm : Calm s b
+
+-- what has an unused temp is no thunk
+pub is_frame : (s : Source) (code : CodeOf) (t : ℕ) (b : Runs) (used temp : ℕ) → Low s code t b used → used ≤ temp → temp < length b.block.types → b.thunk ≡ None
+is_frame s code t b used temp low unused within = by_thunk b.thunk refl
+  where
+    by_thunk : (o : Option ℕ) → b.thunk ≡ o → o ≡ None
+    by_thunk None e = refl
+    by_thunk (Some n) e = let all = low.full n e in absurd (omega (arith, all, unused, within))
+
+-- nor what has the last one in use
+pub is_frame_in_use : (s : Source) (code : CodeOf) (t : ℕ) (b : Runs) (used temp : ℕ) → Low s code t b used → used ≡ suc temp → temp < length b.block.types → b.thunk ≡ None
+is_frame_in_use s code t b used temp low last within = by_thunk b.thunk refl
+  where
+    by_thunk : (o : Option ℕ) → b.thunk ≡ o → o ≡ None
+    by_thunk None e = refl
+    by_thunk (Some n) e = let all = low.full n e in absurd (omega (arith, all, last, within))
+
+-- the same of texts with the same frames
+pub low_same : (s : Source) (code : CodeOf) (v t : ℕ) (b : Runs) (used : ℕ) → SameFrame s v t → Low s code t b used → Low s code v b used
+low_same s code v t b used f a = record {
+  low = subst (λ z. own_end s code z + expression_temps ≤ used) (sym f.frame) a.low;
+  temps = a.temps ∙ ap (own_end s code) (sym f.frame);
+  full = a.full;
+}
 
 -- where pending work goes on: in the code of a text, with so many cells and temps in use
 pub record Spot : Type 0 where
@@ -406,7 +521,7 @@ Every j = ⊤
 
 -- the site in a text's code where so many cells and temps are in use
 abbrev pub site_at : (text : ℕ) → Runs → (used : ℕ) → Site
-site_at t b used = record { text = t; room = b.block.room; used = used; size = length b.block.types }
+site_at t b used = record { text = t; room = b.limit; temps = b.temps; used = used; size = length b.block.types }
 
 -- there are two images
 pub data IsImage : ℕ → Type 0 where

@@ -18,7 +18,7 @@ use Rattle.sim_meaning.specs.Entries.{cells_from, first_cells, numbers_of, with_
 use Rattle.sim_meaning.specs.Levels.{has_levels, is_class}
 use Rattle.sim_meaning.specs.Pending.{Connection, Declared, Held, Key, Result, same_key}
 use Rattle.sim_meaning.specs.Texts.{BlockText, ClassText, ConnectionText, PrefixedText, ProcedureText, StandardText, Text, text}
-use Rattle.codegen_expr.specs.Sites.{HasCell, LevelOf, block_in_front, block_number, block_of_text, cells_in, connects, frame_text, hidden_before, hidden_from, hidden_in, innermost, is_connected, is_connection, outer, own_end, own_part, place_of, prefix_of, room_of_block, slot_of, start_of, types_in}
+use Rattle.codegen_expr.specs.Sites.{HasCell, LevelOf, block_in_front, block_number, block_of_text, cells_in, connects, expression_temps, frame_text, hidden_before, hidden_from, hidden_in, innermost, is_connected, is_connection, outer, own_end, own_part, place_of, prefix_of, room_of_block, slot_of, start_of, types_in}
 use Rattle.codegen.specs.Agrees.{Agrees}
 use Rattle.codegen.specs.Compiled.{CodeHas, Compiled, RecordOf, type_of_cell}
 use Rattle.sim_relate.proofs.ClassTexts.{standard_heads}
@@ -336,6 +336,20 @@ module _ (s : Source) (code : CodeOf) (compiled : Compiled s code) where
       let g : start_of s code f ≤ own_end s code f = omega arith in
       omega (arith, a, c, d, g, behind, e)) p) (cases_eq t f)
 
+  -- a temp of the expressions of a level is no temp of the statements of any level
+  apart_temps : (own t u c d : ℕ) (x y : BlockOf) → LevelOf s.tables own t → LevelOf s.tables own u → slice_get code.blocks (block_number s t) ≡ Some x → slice_get code.blocks (block_number s u) ≡ Some y → own_end s code t ≤ c → c < own_end s code t + expression_temps → c < length x.types → own_end s code u + expression_temps ≤ d → d < length y.types → c ≢ d
+  apart_temps own t u c d x y p q ex ey low high within behind inside e =
+      ⊎_elim
+      (λ same. let behind' : own_end s code t + expression_temps ≤ d = subst (λ z. own_end s code z + expression_temps ≤ d) (sym same) behind in omega (arith, high, behind', e))
+      (λ other.
+      ⊎_elim
+      (λ h. let a = starts_behind t u y h other ey in
+      let g : start_of s code t ≤ own_end s code t = omega arith in
+      omega (arith, a, g, low, inside, e))
+      (λ h. let a = starts_behind u t x h (λ same. other (sym same)) ex in
+      let g : start_of s code u ≤ own_end s code u = omega arith in
+      omega (arith, a, g, within, behind, e)) (level_either s.tables own t u p q)) (cases_eq t u)
+
   -- the frames of a text are laid out
   pub laid : (own : ℕ) (x : Text) → text s own ≡ Some x → is_connection_text (Some x) ≡ false → Laid s code own
   laid own x is c =
@@ -344,6 +358,7 @@ module _ (s : Source) (code : CodeOf) (compiled : Compiled s code) where
         one_level = λ t u key p q ht hu. only_level s compiled.agrees own t u key p q ht hu;
         one_key = λ t u k l p q ht hu e. ⊎_elim (λ y. same_slot t u k l (level_recorded own u r q) y ht hu e) (λ y. sym (same_slot u t l k (level_recorded own t r p) y hu ht (sym e))) (level_either s.tables own t u p q);
         apart = λ t u temp k b p q has found temps. no_temp t (frame_text s u) temp k b (level_recorded own t r p) (level_either s.tables own t (frame_text s u) p q) has found temps.behind temps.within;
+        temps_apart = λ t u c d x y p q ex ey low high within temps. apart_temps own (frame_text s t) (frame_text s u) c d x y p q ex ey low high within temps.behind temps.within;
         fits = λ t k b p has found. let y = level_recorded own t r p in let a = slot_within t k has in let d = part_within t y in let g = level_longer own t b y.block p found y.found in omega (arith, a, d, g);
         longer = λ t x b p ex eb. level_longer own t b x p eb ex;
         block = (r.block, r.found);

@@ -3,9 +3,10 @@ use Rattle.std.proofs.Common.{◌≡◌, ◌<◌, ◌≤◌, ◌+◌, ℕ, suc, 
 use Rattle.std.specs.Prelude.{◌==◌, ◌&&◌, nat_lt, slice_get}
 use Rattle.sim_scope.specs.Source.{Source}
 use Rattle.sim_scope.specs.Tables.{BlockOf}
+use Rattle.sim_code.specs.Code.{CodeOf}
 use Rattle.sim_code.specs.Machine.{Cells, Value, joined}
 use Rattle.sim_code.proofs.Lifts.{Both}
-use Rattle.sim_meaning.specs.Pending.{Connection, Declared, Held, Key, Result, Val, held}
+use Rattle.sim_meaning.specs.Pending.{Connection, Declared, Held, Instances, Key, Result, Val, held}
 use Rattle.sim_meaning.specs.Texts.{text}
 use Rattle.codegen_expr.specs.Sites.{HasCell, cells_in, hidden_before, frame_text, hidden_from, hidden_in, is_connection, own_part, place_of}
 use Rattle.codegen.specs.Agrees.{Agrees}
@@ -64,14 +65,14 @@ module _ (s : Source) (agrees : Agrees s) (k : ℕ) (hs : List Held) (keys : map
       let n = same_length in
       less_or (place_of key (cells_in s k (text s k))) (length (cells_in s k (text s k))) (λ lt. omega (arith, lt, p, n)) (λ le. absurd (undeclared key has le e))
 
-  pub cells_by_key : (cells : Cells) → HeldAt s hs cells → ((c : ℕ) → length (cells_in s k (text s k)) ≤ c → c < length (own_part s k) → joined (slice_get cells c) ≡ None) → (key : Key) → HasCell s k key → SlotAt s (is_fixed s key) key (held key hs) (joined (slice_get cells (place_of key (own_part s k))))
-  cells_by_key cells at none key has =
+  pub cells_by_key : (code : CodeOf) (m : Instances) (cells : Cells) → HeldAt s code m hs cells → ((c : ℕ) → length (cells_in s k (text s k)) ≤ c → c < length (own_part s k) → joined (slice_get cells c) ≡ None) → (key : Key) → HasCell s k key → SlotAt s code m (is_fixed s key) key (held key hs) (joined (slice_get cells (place_of key (own_part s k))))
+  cells_by_key code m cells at none key has =
       let p = same_place key in
       let n = same_length in
       less_or (place_of key (cells_in s k (text s k))) (length (cells_in s k (text s k)))
       (λ lt. let first = place_first key (cells_in s k (text s k)) (hidden_in s k) lt in
       let there : place_of key hs < length hs = omega (arith, lt, p, n) in
-      subst (λ z. SlotAt s (is_fixed s key) key (held key hs) (joined (slice_get cells z))) (p ∙ sym first) (cells_read s key hs cells at there))
+      subst (λ z. SlotAt s code m (is_fixed s key) key (held key hs) (joined (slice_get cells z))) (p ∙ sym first) (cells_read s code m key hs cells at there))
       (λ le. let place = place_behind key (cells_in s k (text s k)) (hidden_in s k) le in
       let past : length (cells_in s k (text s k)) ≤ place_of key (own_part s k) = omega (arith, place) in
       let missing : held key hs ≡ None = not_held key hs (omega (arith, le, p, n)) in
@@ -79,6 +80,6 @@ module _ (s : Source) (agrees : Agrees s) (k : ℕ) (hs : List Held) (keys : map
       let varies : is_fixed s key ≡ false = bool_cases (is_declared key) (λ e. absurd (undeclared key has le e)) (λ e. undeclared_varies s key e) in
       both_none (is_fixed s key) (held key hs) (joined (slice_get cells (place_of key (own_part s k)))) varies missing empty)
     where
-      both_none : (f : Bool) (v : Option Val) (c : Option Value) → f ≡ false → v ≡ None → c ≡ None → SlotAt s f key v c
+      both_none : (f : Bool) (v : Option Val) (c : Option Value) → f ≡ false → v ≡ None → c ≡ None → SlotAt s code m f key v c
       both_none true v c e ev ec = absurd (cc)
-      both_none false v c e ev ec = subst (λ z. Both ValAt z c) (sym ev) (subst (λ z. Both ValAt None z) (sym ec) tt)
+      both_none false v c e ev ec = subst (λ z. Both (ValAt s code m) z c) (sym ev) (subst (λ z. Both (ValAt s code m) None z) (sym ec) tt)

@@ -22,22 +22,24 @@ use Rattle.sim_code.specs.declared.instr.Instr.TheVariants as i
 use Rattle.sim_code.specs.Code.{CodeOf}
 use Rattle.sim_code.specs.Machine.{Frames}
 use Rattle.sim_meaning.specs.Attributes.{connection_at, declared_attribute}
-use Rattle.sim_meaning.specs.Closing.{Left, LeftAddress, LeftCell, LeftReference, LeftText, LeftUnbuilt, array_left, close, close_all, close_left, close_left_of, close_place, declared_left, formal_left, home_of, in_instance, is_text, left_found, left_in, left_variable, named_left, reference_place, result_left, result_meant, result_or, variable_left, match_left, own_match}
-use Rattle.sim_meaning.specs.Pending.{Cell, Declared, Do, ElementOf, Eval, Instances, Item, Result, ShareOp, StoreOp, Target, Term, ToAddress, ToCell}
+use Rattle.sim_meaning.specs.Closing.{by_name, class_of_formal, formal_by_name, left_named as left_held, left_plain, name_denoted, name_term, named_formal, named_text, reference_left, type_of_formal, Left, LeftAddress, LeftCell, LeftNamed, LeftReference, LeftText, LeftUnbuilt, array_left, close, close_all, close_left, close_left_of, close_place, declared_left, formal_left, home_of, in_instance, is_text, left_found, left_in, left_variable, named_left, reference_place, result_left, result_meant, result_or, variable_left, match_left, own_match}
+use Rattle.sim_meaning.specs.Pending.{Cell, Declared, Do, ElementOf, Eval, ForPlace, Instances, Item, NamedOf, Result, ShareOp, StoreOp, Target, Term, ToAddress, ToCell, ValueAt}
 use Rattle.sim_meaning.specs.Pending as meaning
 use Rattle.sim_meaning.specs.Statements.{Lefts, assigning, before, lefts}
-use Rattle.codegen_expr.specs.Sites.{At, HasCell, Inside, Site, Varies, frame_text, is_constant}
-use Rattle.codegen_expr.specs.CodeExpr.{ElementAt, ExprAt, ExprsAt, PlaceAt, ReferencePlaceAt}
+use Rattle.codegen_expr.specs.Sites.{At, HasCell, Inside, Is, Site, Varies, frame_text, is_constant}
+use Rattle.codegen_expr.specs.CodeExpr.{ByNameAt, ElementAt, ExprAt, ExprsAt, PlaceAt, ReferencePlaceAt}
 use Rattle.codegen.specs.Agrees.{Agrees}
 use Rattle.sim_meaning.specs.Virtuals.{text_of_procedure}
-use Rattle.codegen.specs.CodeLeft.{AtAddress, AtAttribute, GivesAt, GoesAt, InCell, LeftsAt, NotBuilt, ResultAt, SharesAt, StoreAt, Stored, ToReference, ToResult, ToText, below, each_stored, stored, stored_declared, stored_element, stored_formal, stored_found, stored_left, stored_named, stored_of, stored_result, stored_text, stored_variable, stored_match}
-use Rattle.sim_relate.proofs.Closing.{close_all_at, close_at, count_close, place_at, reference_at}
+use Rattle.codegen.specs.CodeLeft.{AtAddress, AtAttribute, GivesAt, GoesAt, InCell, LeftsAt, NotBuilt, ResultAt, SharesAt, StoreAt, Stored, ToNamed, ToNamedReference, ToNamedText, ToReference, ToResult, ToText, below, each_stored, stored, stored_by_sign, stored_held, stored_named_by, stored_or_named, stored_declared, stored_element, stored_formal, stored_found, stored_left, stored_named, stored_of, stored_result, stored_text, stored_variable, stored_match}
+use Rattle.sim_relate.proofs.ClassNames.{qualification_classed}
+use Rattle.sim_relate.proofs.Closing.{close_all_at, close_at, count_close, place_at, reference_at, used_at}
 use Rattle.sim_relate.proofs.Frames.{own_frame}
-use Rattle.sim_relate.proofs.Known.{Any, Finds, IsRead, Kind, LeavesIs, Reaches, Refers, Runs, is_declared, is_fixed, leaves_any, leaves_read, reads, site_at, Settled}
+use Rattle.sim_relate.proofs.Known.{Any, Finds, IsRead, Kind, LeavesIs, Named, Reaches, Refers, Runs, is_declared, is_fixed, leaves_any, leaves_read, reads, site_at, Settled}
 use Rattle.sim_relate.proofs.Pending.{evals, pends}
-use Rattle.sim_relate.proofs.Operations.{GivesIs, StoreIs, TargetAt}
+use Rattle.sim_relate.proofs.Operations.{GivesIs, StoreIs, TargetAt, by_name as by_name_alone, of_class}
 use Rattle.sim_relate.proofs.Relation.{WorkAt}
-use Rattle.sim_relate.proofs.Trees.{Classed, OperandAt, TermAt}
+use Rattle.sim_relate.proofs.Trees.{Classed, OperandAt, TermAt, UseIs}
+use Rattle.sim_relate.proofs.Waiting.{Wait}
 
 reverse_first : {A : Type 0} (x : A) (xs : List A) → reverse (x ∷ xs) ≡ reverse xs ++ x ∷ []
 reverse_first x xs = reverse-append (x ∷ []) xs
@@ -86,6 +88,19 @@ module _ (s : Source) (code : CodeOf) (m : Instances) (inst t : ℕ) (b : Runs) 
     pub place : TermAt s code m inst site n tree p q
     pub leaves : (ks : List Kind) → LeavesIs s tree ks (Refers class ∷ ks)
 
+  -- through a parameter by name only a variable is assigned to
+  pub record NamedFound (line n p q : ℕ) (tree : Term) : Type 0 where
+    pub instance : ℕ
+    pub key : meaning.Key
+    pub is : tree ≡ NamedOf instance key (ForPlace false line)
+    pub place : UseIs s code m inst site n instance key (ForPlace false line) p q
+
+  pub record NamedReference (class line n p q : ℕ) (x : Left) : Type 0 where
+    pub tree : Term
+    pub is_class : Classed s class
+    pub is : x ≡ LeftNamed class line tree
+    pub found : NamedFound line n p q tree
+
   abbrev pub LeftFits : Stored → Left → Type 0
   LeftFits (InCell k key) x = Inside s.tables t k → HasCell s k key → CellFound k key x
   LeftFits (AtAddress d es line) x = (n p q : ℕ) → ElementAt s code site n line 0 d es (ExprsAt s code site (suc n) es) p q → PlaceFound n p q x
@@ -93,6 +108,9 @@ module _ (s : Source) (code : CodeOf) (m : Instances) (inst t : ℕ) (b : Runs) 
   LeftFits (ToReference e line) x = (n p q : ℕ) → ReferencePlaceAt s code site n e p q → ReferenceIs line n p q x
   LeftFits (ToText e line) x = (n p q : ℕ) → ExprAt s code site n e p q → (y : Term) × (x ≡ LeftText line y) × OperandAt s code m inst site n y p q
   LeftFits (ToResult k line) x = (n p q : ℕ) → ResultAt s code site n k p q → (y : Term) × (x ≡ LeftText line y) × OperandAt s code m inst site n y p q
+  LeftFits (ToNamed d line) x = (n p q : ℕ) → ByNameAt s code site n d NoMore (ForPlace false line) p q → PlaceFound n p q x
+  LeftFits (ToNamedText d line) x = (n p q z : ℕ) → ByNameAt s code site n d NoMore (ForPlace false line) p z → Is code i.Fetch z q → (y : Term) × (x ≡ LeftText line y) × OperandAt s code m inst site n y p q
+  LeftFits (ToNamedReference d class line) x = (n p q : ℕ) → ByNameAt s code site n d NoMore (ForPlace false line) p q → NamedReference class line n p q x
   LeftFits NotBuilt x = Unit {0}
 
   left_cell : (d : DeclNo) (es : Expressions) → Varies s d → LeftFits (stored_variable s d es) (variable_left s m inst d es)
@@ -192,11 +210,83 @@ module _ (s : Source) (code : CodeOf) (m : Instances) (inst t : ℕ) (b : Runs) 
       let x = reference_at s code m inst site agrees reach e n p q a in
       record { tree = reference_place s m inst e; class = x.class; is_class = x.is_class; is = refl; place = (x.place).term; leaves = (x.place).leaves }
 
+  -- through a parameter by name
+  named_found : (d : DeclNo) (line n p q : ℕ) → Varies s d → ByNameAt s code site n d NoMore (ForPlace false line) p q → NamedFound line n p q (name_term s m inst d NoMore (ForPlace false line))
+  named_found d line n p q varies a = used_at s code m inst site agrees reach d NoMore (ForPlace false line) n (λ x. NamedFound line n p q x) p q varies tt (λ j b. record { instance = j; key = Declared d.0; is = refl; place = b }) a
+
+  named_place : (d : DeclNo) (line : ℕ) → Varies s d → LeftFits (ToNamed d line) (LeftAddress (name_term s m inst d NoMore (ForPlace false line)))
+  named_place d line varies = λ n p q a.
+      let x = named_found d line n p q varies a in
+      record {
+        tree = NamedOf x.instance x.key (ForPlace false line);
+        is = ap LeftAddress x.is;
+        place = x.place;
+        reads = refl;
+      }
+
+  named_text_at : (d : DeclNo) (line : ℕ) → Varies s d → LeftFits (ToNamedText d line) (LeftText line (ValueAt (name_term s m inst d NoMore (ForPlace false line))))
+  named_text_at d line varies = λ n p q z a fetch.
+      let x = named_found d line n p z varies a in
+      (ValueAt (NamedOf x.instance x.key (ForPlace false line)), ap (λ z. LeftText line (ValueAt z)) x.is, ((z, x.place, record { kind = Named; left = λ ks. refl; fetches = fetch }), refl))
+
+  named_reference : (d : DeclNo) (o : Option ℕ) (line : ℕ) → Varies s d → class_of_formal s d ≡ o → LeftFits (stored_held d o line) (left_held o line (name_term s m inst d NoMore (ForPlace false line)))
+  named_reference d None line varies e = tt
+  named_reference d (Some k) line varies e = λ n p q a.
+      record {
+        tree = name_term s m inst d NoMore (ForPlace false line);
+        is_class = qualification_classed s (type_of_formal (entry_of s.tables d)) k e;
+        is = refl;
+        found = named_found d line n p q varies a;
+      }
+
+  left_by_name : (d : DeclNo) (g : Bool) (sign : Assignment) (line : ℕ) (e : Expression) → Varies s d → by_name s e ≡ Some d → LeftFits (stored_named_by g sign s d line) (close_left_of g sign s m inst line e)
+  left_by_name d true assignment.Value line e varies is = subst (λ o. LeftFits (ToNamedText d line) (LeftText line (named_text s m inst line o (result_or s m inst (result_meant s e) (close s m inst e))))) (sym is) (named_text_at d line varies)
+  left_by_name d true assignment.Reference line e varies is = subst (λ o. LeftFits (ToNamed d line) (left_plain s m inst line o e)) (sym is) (named_place d line varies)
+  left_by_name d false assignment.Value line e varies is = subst (λ o. LeftFits (ToNamed d line) (left_plain s m inst line o e)) (sym is) (named_place d line varies)
+  left_by_name d false assignment.Reference line e varies is = subst (λ o. LeftFits (stored_held d (class_of_formal s d) line) (reference_left s m inst line o e)) (sym is) (named_reference d (class_of_formal s d) line varies refl)
+
+  left_by_sign : (g : Bool) (sign : Assignment) (line : ℕ) (e : Expression) → by_name s e ≡ None → LeftFits (stored_by_sign g sign s line e) (close_left_of g sign s m inst line e)
+  left_by_sign true assignment.Value line e is = subst (λ o. LeftFits (stored_text (result_meant s e) e line) (LeftText line (named_text s m inst line o (result_or s m inst (result_meant s e) (close s m inst e))))) (sym is) (left_text_at (result_meant s e) e line)
+  left_by_sign true assignment.Reference line e is = subst (λ o. LeftFits (stored_left s e) (left_plain s m inst line o e)) (sym is) (left_at e)
+  left_by_sign false assignment.Value line e is = subst (λ o. LeftFits (stored_left s e) (left_plain s m inst line o e)) (sym is) (left_at e)
+  left_by_sign false assignment.Reference line e is = subst (λ o. LeftFits (ToReference e line) (reference_left s m inst line o e)) (sym is) (left_reference e line)
+
+  -- the declaration of a parameter by name varies
+  formal_varies : (d : DeclNo) (o : Option Entry) (f : DeclNo) → entry_of s.tables d ≡ o → formal_by_name d o ≡ Some f → (d ≡ f) × Varies s d
+  formal_varies d (Some (entry.Formal x)) f e is = by_mode x.mode x.kind is
+    where
+      by_mode : (by : Mode) (kind : FormalKind) → named_formal by kind d ≡ Some f → (d ≡ f) × Varies s d
+      by_mode mode.ByName shape.Simple h = (cc (h), ap is_constant e)
+      by_mode mode.ByName shape.Array h = absurd (cc (h))
+      by_mode mode.ByName shape.Procedure h = absurd (cc (h))
+      by_mode mode.ByValue kind h = absurd (cc (h))
+      by_mode mode.ByReference kind h = absurd (cc (h))
+  formal_varies d (Some (entry.Variable type)) f e is = absurd (cc (is))
+  formal_varies d (Some (entry.Constant type)) f e is = absurd (cc (is))
+  formal_varies d (Some (entry.Array element dimensions)) f e is = absurd (cc (is))
+  formal_varies d (Some (entry.Procedure result k)) f e is = absurd (cc (is))
+  formal_varies d (Some (entry.Class block)) f e is = absurd (cc (is))
+  formal_varies d (Some (entry.Virtual result own)) f e is = absurd (cc (is))
+  formal_varies d (Some (entry.Unspecified written)) f e is = absurd (cc (is))
+  formal_varies d (Some (entry.Attribute name parameter result)) f e is = absurd (cc (is))
+  formal_varies d None f e is = absurd (cc (is))
+
+  denoted_varies : (x : Option Denotation) (d : DeclNo) → name_denoted s x ≡ Some d → Varies s d
+  denoted_varies (Some (denotation.Declared c)) d is = let x = formal_varies c (entry_of s.tables c) d refl is in subst (Varies s) x.0 x.1
+  denoted_varies (Some (denotation.Standard name)) d is = absurd (cc (is))
+  denoted_varies None d is = absurd (cc (is))
+
+  named_varies : (e : Expression) (d : DeclNo) → by_name s e ≡ Some d → Varies s d
+  unfolding by_name
+  named_varies (syntax.Named name NoMore) d is = denoted_varies (denoted s name.token.0) d is
+  named_varies _ d is = absurd (cc (is))
+
   left_of : (g : Bool) (sign : Assignment) (line : ℕ) (e : Expression) → LeftFits (stored_of g sign s line e) (close_left_of g sign s m inst line e)
-  left_of true assignment.Value line e = left_text_at (result_meant s e) e line
-  left_of true assignment.Reference line e = left_at e
-  left_of false assignment.Value line e = left_at e
-  left_of false assignment.Reference line e = left_reference e line
+  left_of g sign line e = by_formal (by_name s e) refl
+    where
+      by_formal : (o : Option DeclNo) → by_name s e ≡ o → LeftFits (stored_or_named o g sign s line e) (close_left_of g sign s m inst line e)
+      by_formal None is = left_by_sign g sign line e is
+      by_formal (Some d) is = left_by_name d g sign line e (named_varies e d is) is
 
   -- what a value is given to, and what is in hand for it
   pub data TargetFits : Stored → Target → List Kind → Type 0 where
@@ -206,6 +296,9 @@ module _ (s : Source) (code : CodeOf) (m : Instances) (inst t : ℕ) (b : Runs) 
     to_reference : {e : Expression} {line k : ℕ} → Classed s k → TargetFits (ToReference e line) (meaning.ToReference line) (Refers k ∷ [])
     to_text : {e : Expression} {line : ℕ} → TargetFits (ToText e line) (meaning.ToText line) (Any ∷ [])
     to_result : {k line : ℕ} → TargetFits (ToResult k line) (meaning.ToText line) (Any ∷ [])
+    to_named : {d : DeclNo} {line : ℕ} {kind : Kind} → IsRead kind → TargetFits (ToNamed d line) ToAddress (kind ∷ [])
+    to_named_text : {d : DeclNo} {line : ℕ} → TargetFits (ToNamedText d line) (meaning.ToText line) (Any ∷ [])
+    to_named_reference : {d : DeclNo} {class line : ℕ} → Classed s class → TargetFits (ToNamedReference d class line) (meaning.ToNamed class line) (Named ∷ [])
 
   pub data AllFit : List Stored → List Target → List (List Kind) → Type 0 where
     no_fit : AllFit [] [] []
@@ -223,21 +316,38 @@ module _ (s : Source) (code : CodeOf) (m : Instances) (inst t : ℕ) (b : Runs) 
       (subst (λ z. AllFit (reverse xs ++ x ∷ []) (reverse ys ++ y ∷ []) z) (sym (reverse_first k kss)) (fit_append (reverse xs) (reverse ys) (reverse kss) (fit_reverse xs ys kss more) f)))
 
   -- the store of a value stands for its target
-  stores : {x : Stored} {y : Target} {k : List Kind} (p q : ℕ) (ks : List Kind) → TargetFits x y k → StoreAt s code x p q → TargetAt s code m inst y p q (Any ∷ k ++ ks) ks
-  stores p q ks (in_cell {k} r has own varies declared) a = (record { text = k; is = a; reaches = r; own = own; has = has; varies = varies; declared = declared }, refl)
-  stores p q ks (at_address {kind = kind} r) a = (a, record { place = kind; reads = r; «in» = refl })
-  stores p q ks (at_attribute {kind = kind} r) a = (a, record { place = kind; reads = r; «in» = refl })
-  stores p q ks (to_reference {k = k} c) a = record { is = a; class = k; is_class = c; left = ks; «in» = refl; out = refl }
-  stores p q ks to_text a = (a, refl)
-  stores p q ks to_result a = (a, refl)
+  stores : {x : Stored} {y : Target} {k : List Kind} (used p q : ℕ) (ks : List Kind) → TargetFits x y k → StoreAt s code site (length (k ++ ks)) x p q → TargetAt s code m inst (site_at t b used) y p q (Any ∷ k ++ ks) ks
+  stores used p q ks (in_cell {k} r has own varies declared) a = (record { text = k; is = a; reaches = r; own = own; has = has; varies = varies; declared = declared }, refl)
+  stores used p q ks (at_address {kind = kind} r) a = (a, record { place = kind; reads = r; «in» = refl })
+  stores used p q ks (at_attribute {kind = kind} r) a = (a, record { place = kind; reads = r; «in» = refl })
+  stores used p q ks (to_reference {k = k} c) a = record { is = a; place = Refers k; refers = of_class c; left = ks; «in» = refl; out = refl }
+  stores used p q ks to_text a = (a, refl)
+  stores used p q ks to_result a = (a, refl)
+  stores used p q ks (to_named {kind = kind} r) a = (a, record { place = kind; reads = r; «in» = refl })
+  stores used p q ks to_named_text a = (a, refl)
+  stores used p q ks (to_named_reference {class = k} c) a =
+      let h = a.1 in
+      record {
+        x = a.0;
+        fits = record {
+          left = Named ∷ ks;
+          fits = record { is_class = c; held = record { x = h.x; y = h.y; z = h.z; within = h.within; address = record { is = h.address.is; fits = h.address.fits }; under = h.under; put = h.put; again = record { is = h.again.is; fits = h.again.fits } } };
+          «in» = refl;
+          out = refl;
+        };
+        put = record { is = a.2; place = Named; refers = by_name_alone; left = ks; «in» = refl; out = refl };
+      }
 
-  store_is : {x : Stored} {y : Target} {k : List Kind} (p q : ℕ) (before behind : List Kind) → TargetFits x y k → TargetAt s code m inst y p q before behind → StoreIs s code m inst site y p q before behind
+  store_is : {x : Stored} {y : Target} {k : List Kind} (p q : ℕ) (before behind : List Kind) → TargetFits x y k → TargetAt s code m inst site y p q before behind → StoreIs s code m inst site y p q before behind
   store_is p q before behind (in_cell r has own varies declared) a = a
   store_is p q before behind (at_address r) a = a
   store_is p q before behind (at_attribute r) a = a
   store_is p q before behind (to_reference c) a = a
   store_is p q before behind to_text a = a
   store_is p q before behind to_result a = a
+  store_is p q before behind (to_named r) a = a
+  store_is p q before behind to_named_text a = a
+  store_is p q before behind (to_named_reference c) a = a
 
   below_is : {x : Stored} {y : Target} {k : List Kind} (ks : List Kind) → TargetFits x y k → below x (length (k ++ ks)) ≡ length ks
   below_is ks (in_cell r has own varies declared) = refl
@@ -246,14 +356,17 @@ module _ (s : Source) (code : CodeOf) (m : Instances) (inst t : ℕ) (b : Runs) 
   below_is ks (to_reference c) = refl
   below_is ks to_text = refl
   below_is ks to_result = refl
+  below_is ks (to_named r) = refl
+  below_is ks to_named_text = refl
+  below_is ks (to_named_reference c) = refl
 
   gives_is : (used temp : ℕ) (xs : List Stored) (ys : List Target) (kss : List (List Kind)) (p q : ℕ) (ks : List Kind) → AllFit xs ys kss → GivesAt s code site temp (length (under kss ks)) xs p q → GivesIs s code m inst (site_at t b used) temp ys p q (under kss ks) ks
   gives_is used temp _ _ _ p q ks no_fit a = (a, refl)
   gives_is used temp _ _ _ p q ks (more_fit {xs = xs} {ys = ys} {kss = kss} f more) a =
       let load = a.2 in
-      (a.0, a.1, under kss ks, record { is = load.is; fits = load.fits }, stores a.0 a.1 (under kss ks) f a.3, gives_is used temp xs ys kss a.1 q ks more (subst (λ n. GivesAt s code site temp n xs a.1 q) (below_is (under kss ks) f) a.4))
+      (a.0, a.1, under kss ks, record { is = load.is; fits = load.fits }, stores used a.0 a.1 (under kss ks) f a.3, gives_is used temp xs ys kss a.1 q ks more (subst (λ n. GivesAt s code site temp n xs a.1 q) (below_is (under kss ks) f) a.4))
 
-  module _ (fs : Frames) (Below : Bool → Type 0) (low : Settled s code t b u) where
+  module _ (fs : Frames) (Below : Wait → Type 0) (low : Settled s code t b u) where
     abbrev pub Works : List Item → ℕ → List Kind → Type 0
     Works w p ks = WorkAt s code m fs Below inst t b u w p ks
 
@@ -310,6 +423,12 @@ module _ (s : Source) (code : CodeOf) (m : Instances) (inst t : ℕ) (b : Runs) 
         held_left (ToReference e line) v (Refers f.class) f.tree (meaning.ToReference line) xs o End ks p a.0 q (to_reference f.is_class) (λ r. ap (λ z. before z (Some r)) f.is) f.place (f.leaves ks) (rec (Refers f.class ∷ ks) a.0 a.2)
     one_left (ToText e line) v xs o End ks p q fit rec a = text_left (ToText e line) line v xs o End ks p a.0 q to_text (fit (length ks) p a.0 a.1) (rec (Any ∷ ks) a.0 a.2)
     one_left (ToResult k line) v xs o End ks p q fit rec a = text_left (ToResult k line) line v xs o End ks p a.0 q to_result (fit (length ks) p a.0 a.1) (rec (Any ∷ ks) a.0 a.2)
+    one_left (ToNamed d line) v xs o End ks p q fit rec a = place_left (ToNamed d line) v xs o End ks p a.0 q (λ kind r. to_named r) (fit (length ks) p a.0 a.1) (λ ks b. rec ks a.0 b) a.2
+    one_left (ToNamedText d line) v xs o End ks p q fit rec a = text_left (ToNamedText d line) line v xs o End ks p a.1 q to_named_text (fit (length ks) p a.1 a.0 a.2 a.3) (rec (Any ∷ ks) a.1 a.4)
+    one_left (ToNamedReference d class line) v xs o End ks p q fit rec a =
+        let f = fit (length ks) p a.0 a.1 in
+        let x = f.found in
+        held_left (ToNamedReference d class line) v Named (NamedOf x.instance x.key (ForPlace false line)) (meaning.ToNamed class line) xs o End ks p a.0 q (to_named_reference f.is_class) (λ r. ap (λ z. before z (Some r)) (f.is ∙ ap (LeftNamed class line) x.is)) x.place refl (rec (Named ∷ ks) a.0 a.2)
     one_left NotBuilt v xs o End ks p q fit rec a = absurd a
 
     pub lefts_at : (es : List LeftSide) (End : ℕ → ℕ → ℕ → Type 0) (ks : List Kind) (p q : ℕ) → LeftsAt s code site (length ks) (each_stored s es) End p q → LeftsAre (each_stored s es) (lefts s m inst es) End ks p q
@@ -325,7 +444,7 @@ module _ (s : Source) (code : CodeOf) (m : Instances) (inst t : ℕ) (b : Runs) 
         (pends s code m fs Below inst t b u low w (ShareOp (reverse ys)) a.x q (Any ∷ over kss ks) ks (record {
           temp = a.temp;
           unused = a.behind;
-          is_temp = record { behind = omega (arith, low.low, a.behind); within = a.within };
+          is_temp = record { behind = omega (arith, (low.at).low, a.behind); within = a.within };
           x = a.y;
           left = over kss ks;
           kept = a.kept;
@@ -338,6 +457,6 @@ module _ (s : Source) (code : CodeOf) (m : Instances) (inst t : ℕ) (b : Runs) 
     goes_at e _ _ _ w p q ks no_fit a k = shares e [] [] [] w p q ks no_fit a k
     goes_at e _ _ _ w p q ks (more_fit {y = y} {k = kinds} f no_fit) a k =
         evals s code m fs Below inst t b u low (Do (StoreOp y) ∷ w) (close s m inst e) p a.0 (kinds ++ ks) (close_at s code m inst site agrees reach e (length (kinds ++ ks)) p a.0 a.1)
-        (pends s code m fs Below inst t b u low w (StoreOp y) a.0 q (Any ∷ kinds ++ ks) ks (store_is a.0 q (Any ∷ kinds ++ ks) ks f (stores a.0 q ks f a.2)) k)
+        (pends s code m fs Below inst t b u low w (StoreOp y) a.0 q (Any ∷ kinds ++ ks) ks (store_is a.0 q (Any ∷ kinds ++ ks) ks f (stores u a.0 q ks f a.2)) k)
     goes_at e _ _ _ w p q ks (more_fit {x = x} {y = y} {k = kinds} f (more_fit {x = x2} {xs = xs} {y = y2} {ys = ys} {k = kinds2} {kss = kss} g more)) a k =
         shares e (x ∷ x2 ∷ xs) (y ∷ y2 ∷ ys) (kinds ∷ kinds2 ∷ kss) w p q ks (more_fit f (more_fit g more)) a k

@@ -1,10 +1,11 @@
 -- The code of the levels of an instance, as the code of its program has it, and the work of a level.
-use Rattle.std.proofs.Common.{◌≡◌, ◌<◌, ◌≤◌, ℕ, zero, suc, Bool, true, false, List, [], ◌∷◌, length, Option, Some, None, refl, sym, ap, ◌∙◌, subst, arith}
+use Rattle.std.proofs.Common.{◌+◌, ◌≡◌, ◌<◌, ◌≤◌, ℕ, zero, suc, Bool, true, false, List, [], ◌∷◌, length, Option, Some, None, refl, sym, ap, ◌∙◌, subst, arith}
 use Rattle.std.specs.Prelude.{drop, not, pos, slice_get}
 use Rattle.sim_scope.specs.Access.{encloser}
 use Rattle.sim_scope.specs.Source.{Source}
 use Rattle.sim_tree.specs.Syntax.{Also, Declarations, NoStatement, Statements}
 use Rattle.sim_code.specs.declared.instr.Instr.TheVariants as i
+use Rattle.sim_code.specs.declared.stage.Stage.{Stage}
 use Rattle.sim_code.specs.declared.stage.Stage.TheVariants as stage
 use Rattle.sim_code.specs.Code.{BlockOf, ClassOf, CodeOf}
 use Rattle.sim_code.specs.Machine.{Frames}
@@ -13,18 +14,19 @@ use Rattle.sim_meaning.specs.Levels.{both, has_levels, level_made, levels_made, 
 use Rattle.sim_meaning.specs.Objects.{level_work, no_line, process_begun, process_done, with_inner}
 use Rattle.sim_meaning.specs.Pending.{Do, EndProcessOp, Execs, InnerOp, Instances, Item, Level, SelfOp, TransferOp}
 use Rattle.sim_meaning.specs.Texts.{text}
-use Rattle.codegen_expr.specs.Sites.{Is, LevelOf, Site, block_in_front, block_number, block_of_text, frame_text, innermost, outer, own_end, prefix_of, room_of_block}
+use Rattle.codegen_expr.specs.Sites.{expression_temps, Is, LevelOf, Site, block_in_front, block_number, block_of_text, frame_text, innermost, outer, own_end, prefix_of, room_of_block}
 use Rattle.codegen.specs.CodeArrays.{ArraysAt}
 use Rattle.codegen.specs.CodeStm.{EndsAt, LevelAt, ProcessAt, subclasses}
 use Rattle.codegen.specs.Compiled.{Compiled, site_of}
 use Rattle.sim_relate.proofs.ClassLevels.{class_levels, level_levels, levels_solid, numbered}
 use Rattle.sim_relate.proofs.ClassTexts.{ClassHas, LevelHas, class_has}
 use Rattle.sim_relate.proofs.Frames.{frame_self, same_frame}
-use Rattle.sim_relate.proofs.Known.{Any, HasClass, Kind, Runs, Settled, is_process_in, site_at, spot}
+use Rattle.sim_relate.proofs.Known.{Low, Any, HasClass, Kind, Runs, Settled, is_process_in, site_at, spot}
 use Rattle.sim_relate.proofs.LevelLists.{place_level}
 use Rattle.sim_relate.proofs.Pending.{pends, pends_in}
 use Rattle.sim_relate.proofs.Subclasses.{each_class, own_class}
-use Rattle.sim_relate.proofs.Relation.{AtLevel, LevelIs, WorkAt, ends_process, inner_last, with_inner as among_them}
+use Rattle.sim_relate.proofs.Waiting.{Wait}
+use Rattle.sim_relate.proofs.Relation.{at_level, AtLevel, LevelIs, WorkAt, ends_process, inner_last, with_inner as among_them}
 
 some_is : {A : Type 0} {x y : A} → Some x ≡ Some y → x ≡ y
 some_is e = cc (e)
@@ -133,7 +135,7 @@ module _ (s : Source) (code : CodeOf) (compiled : Compiled s code) where
     pub behind : ℕ
     pub ends : Is code (i.EndLevel (pos n)) stop behind
 
-  module _ (b : Runs) (own_block : BlockOf) (found : slice_get code.blocks (block_number s b.own) ≡ Some own_block) (roomy : own_block.room ≤ b.room) (own_levels : has_levels (text s b.own) ≡ true) (of_class : HasClass s b.own) where
+  module _ (b : Runs) (own_block : BlockOf) (found : slice_get code.blocks (block_number s b.own) ≡ Some own_block) (roomy : own_block.room ≤ b.room) (own_levels : has_levels (text s b.own) ≡ true) (of_class : HasClass s b.own) (base : b.thunk ≡ None) where
     pub level_is : (k n : ℕ) → slice_get (levels_of s b.own) n ≡ Some k → (x : ClassHas s code k) × LevelIs s code b k n x.block x.has.class
     level_is k n e =
         let at = place_level s compiled.agrees b.own k n (levels_solid s code compiled b.own own_levels) e in
@@ -150,6 +152,7 @@ module _ (s : Source) (code : CodeOf) (compiled : Compiled s code) where
             roomy = let less = room_within b.own k own_block x.block at.0 own_levels found x.found in omega (arith, less, roomy);
             own_roomy = λ y f. let same = ap (λ z. z.room) (one_block (block_number s b.own) y own_block f found) in omega (arith, same, roomy);
             of_class = of_class;
+            base = base;
           },
         )
 
@@ -216,8 +219,8 @@ module _ (s : Source) (code : CodeOf) (compiled : Compiled s code) where
   -- ---- the work of a level
 
   -- a level does not depend on where control is
-  pub moved_level : (b c : Runs) (k n : ℕ) (block : BlockOf) (class : ClassOf) → c.own ≡ b.own → c.room ≡ b.room → LevelIs s code b k n block class → LevelIs s code c k n block class
-  moved_level b c k n block class own room a = record {
+  pub moved_level : (b c : Runs) (k n : ℕ) (block : BlockOf) (class : ClassOf) → c.own ≡ b.own → c.room ≡ b.room → c.thunk ≡ b.thunk → LevelIs s code b k n block class → LevelIs s code c k n block class
+  moved_level b c k n block class own room thunk a = record {
     level = subst (λ z. LevelOf s.tables z k) (sym own) a.level;
     has = a.has;
     place_is = subst (λ z. slice_get (levels_of s z) n ≡ Some k) (sym own) a.place_is;
@@ -227,64 +230,72 @@ module _ (s : Source) (code : CodeOf) (compiled : Compiled s code) where
     roomy = subst (λ z. block.room ≤ z) (sym room) a.roomy;
     own_roomy = λ x f. subst (λ z. x.room ≤ z) (sym room) (a.own_roomy x (subst (λ z. slice_get code.blocks (block_number s z) ≡ Some x) own f));
     of_class = subst (λ z. HasClass s z) (sym own) a.of_class;
+    base = thunk ∙ a.base;
   }
 
-  module _ (m : Instances) (fs : Frames) (Below : Bool → Type 0) (inst : ℕ) (b : Runs) (k n : ℕ) (x : Level) (a : LevelCode b k n x) where
+  module _ (m : Instances) (fs : Frames) (Below : Wait → Type 0) (inst : ℕ) (b : Runs) (k n : ℕ) (x : Level) (a : LevelCode b k n x) where
     abbrev at_runs : Runs
-    at_runs = record b { block = a.block; stage = stage.Stating n }
+    at_runs = (at_level s code b k a.block (stage.Stating n)).runs
 
     abbrev behind_runs : Runs
-    behind_runs = record b { block = a.block; stage = stage.Behind n }
+    behind_runs = (at_level s code b k a.block (stage.Behind n)).runs
 
-    at_inner : AtLevel s code (site_at k at_runs (own_end s code k)) at_runs (spot k behind_runs (own_end s code k)) n a.class.after_inner [] []
+    abbrev used : ℕ
+    used = own_end s code k + expression_temps
+
+    at_inner : AtLevel s code (site_at k at_runs used) at_runs (spot k behind_runs used) n a.class.after_inner [] []
     at_inner = record {
       was = refl;
       class = a.class;
-      level = moved_level b at_runs k n a.block a.class refl refl a.level;
+      level = moved_level b at_runs k n a.block a.class refl refl refl a.level;
       leads = refl;
       there = a.behind_there;
       low = refl;
+      limit_is = refl;
+      temps_are = refl;
       goes_on = refl;
       none = refl;
       none_behind = refl;
     }
 
-    low_here : own_end s code (frame_text s k) ≤ own_end s code k
-    low_here = let same = ap (own_end s code) a.level.frame in omega (arith, same)
+    pub low_here : (g : Stage) → Low s code k (at_level s code b k a.block g).runs used
+    low_here g =
+        let same = ap (own_end s code) a.level.frame in
+        record { low = omega (arith, same); temps = sym same; full = λ number e. absurd (cc (e, a.level.base)) }
 
     -- The statements of a level, with those of the levels inside; then what is behind it, which stands at its end. A process detaches first, and
     -- comes to its end behind `inner`.
-    settled_here : Settled s code k at_runs (own_end s code k)
-    settled_here = record { low = low_here; calm = refl }
+    settled_here : Settled s code k at_runs used
+    settled_here = record { at = low_here (stage.Stating n); calm = refl }
 
     abbrev Pends : Runs → List Item → ℕ → List Kind → Type 0
-    Pends c w p ks = WorkAt s code m fs Below inst k c (own_end s code k) w p ks
+    Pends c w p ks = WorkAt s code m fs Below inst k c used w p ks
 
     -- what stands for `inner` behind the statements
     inner_pends : (xs : List Level) (w : List Item) (p : ℕ) → levels_made s (drop (suc n) (levels_of s b.own)) ≡ Some xs → Is code (i.Inner (pos n)) p a.class.after_inner → Pends behind_runs w a.class.after_inner [] → Pends at_runs (Do (InnerOp xs) ∷ w) p []
     inner_pends xs w p inside is work =
-        pends_in s code m fs Below inst k at_runs (own_end s code k) low_here w (InnerOp xs) k (spot k behind_runs (own_end s code k)) p a.class.after_inner [] [] (same_frame s k)
+        pends_in s code m fs Below inst k at_runs used (low_here (stage.Stating n)) w (InnerOp xs) k (spot k behind_runs used) p a.class.after_inner [] [] (same_frame s k)
         (inner_last xs refl (record { place = n; at = at_inner; is = is; inside = inside })) work
 
     others_begin : (xs : List Level) (w : List Item) → levels_made s (drop (suc n) (levels_of s b.own)) ≡ Some xs → is_process_in s k ≡ false → Pends behind_runs w a.stop []
         → (written last : Bool) → last ≡ not written → LevelAt s code (site_of s code k a.block) n a.class.after_inner written x.statements a.class.statements a.stop → Pends at_runs (Do (Execs x.statements) ∷ with_inner last xs w) a.class.statements []
     others_begin xs w inside ordinary work true true e h = absurd (cc)
     others_begin xs w inside ordinary work true false e h =
-        pends_in s code m fs Below inst k at_runs (own_end s code k) low_here w (Execs x.statements) k (spot k behind_runs (own_end s code k)) a.class.statements a.stop [] [] (same_frame s k)
+        pends_in s code m fs Below inst k at_runs used (low_here (stage.Stating n)) w (Execs x.statements) k (spot k behind_runs used) a.class.statements a.stop [] [] (same_frame s k)
         (among_them x.statements refl (record { place = n; after = a.class.after_inner; at = at_inner; is = h; ordinary = ordinary })) work
     others_begin xs w inside ordinary work false false e h = absurd (cc)
     others_begin xs w inside ordinary work false true e h =
-        pends s code m fs Below inst k at_runs (own_end s code k) settled_here (Do (InnerOp xs) ∷ w) (Execs x.statements) a.class.statements h.x [] [] (h.statements, refl)
+        pends s code m fs Below inst k at_runs used settled_here (Do (InnerOp xs) ∷ w) (Execs x.statements) a.class.statements h.x [] [] (h.statements, refl)
         (inner_pends xs w h.x inside h.inner (subst (λ z. Pends behind_runs w z []) h.on work))
 
     process_ends : (w : List Item) → is_process_in s k ≡ true → (around : ℕ) → encloser s.tables k ≡ Some around → EndsAt s code (site_of s code k a.block) around (subclasses s k) a.class.after_inner a.stop → Pends behind_runs w a.stop [] → Pends behind_runs (Do EndProcessOp ∷ w) a.class.after_inner []
     process_ends w process around is_around ends work =
-        pends_in s code m fs Below inst k behind_runs (own_end s code k) low_here w EndProcessOp k (spot k behind_runs (own_end s code k)) a.class.after_inner a.stop [] [] (same_frame s k)
+        pends_in s code m fs Below inst k behind_runs used (low_here (stage.Behind n)) w EndProcessOp k (spot k behind_runs used) a.class.after_inner a.stop [] [] (same_frame s k)
         (ends_process refl (record {
           place = n;
           was = refl;
           class = a.class;
-          level = moved_level b behind_runs k n a.block a.class refl refl a.level;
+          level = moved_level b behind_runs k n a.block a.class refl refl refl a.level;
           process = process;
           around = around;
           is_around = is_around;
@@ -307,12 +318,12 @@ module _ (s : Source) (code : CodeOf) (compiled : Compiled s code) where
     process_begins xs w inside process work false e ss none h = absurd (cc)
     process_begins xs w inside process work true e (Also y more) none h = absurd (cc)
     process_begins xs w inside process work true e NoStatement none h =
-        pends s code m fs Below inst k at_runs (own_end s code k) settled_here (Do (TransferOp Detaching no_line) ∷ Do (Execs NoStatement) ∷ Do (InnerOp xs) ∷ Do EndProcessOp ∷ w) SelfOp a.class.statements h.a [] (Any ∷ []) (record { push = h.this; out = refl })
-        (pends s code m fs Below inst k at_runs (own_end s code k) settled_here (Do (Execs NoStatement) ∷ Do (InnerOp xs) ∷ Do EndProcessOp ∷ w) (TransferOp Detaching no_line) h.a h.b (Any ∷ []) [] (record { is = h.detach; left = []; «in» = refl; out = refl })
-        (pends s code m fs Below inst k at_runs (own_end s code k) settled_here (Do (InnerOp xs) ∷ Do EndProcessOp ∷ w) (Execs NoStatement) h.b h.b [] [] (refl, refl)
+        pends s code m fs Below inst k at_runs used settled_here (Do (TransferOp Detaching no_line) ∷ Do (Execs NoStatement) ∷ Do (InnerOp xs) ∷ Do EndProcessOp ∷ w) SelfOp a.class.statements h.a [] (Any ∷ []) (record { push = h.this; out = refl })
+        (pends s code m fs Below inst k at_runs used settled_here (Do (Execs NoStatement) ∷ Do (InnerOp xs) ∷ Do EndProcessOp ∷ w) (TransferOp Detaching no_line) h.a h.b (Any ∷ []) [] (record { is = h.detach; left = []; «in» = refl; out = refl })
+        (pends s code m fs Below inst k at_runs used settled_here (Do (InnerOp xs) ∷ Do EndProcessOp ∷ w) (Execs NoStatement) h.b h.b [] [] (refl, refl)
         (inner_pends xs (Do EndProcessOp ∷ w) h.b inside h.inner (process_ends w process h.around h.is_around h.ends work))))
 
-    pub level_begins : (xs : List Level) (w : List Item) → levels_made s (drop (suc n) (levels_of s b.own)) ≡ Some xs → WorkAt s code m fs Below inst k behind_runs (own_end s code k) w a.stop [] → WorkAt s code m fs Below inst k at_runs (own_end s code k) (level_work x xs w) a.class.statements []
+    pub level_begins : (xs : List Level) (w : List Item) → levels_made s (drop (suc n) (levels_of s b.own)) ≡ Some xs → WorkAt s code m fs Below inst k behind_runs used w a.stop [] → WorkAt s code m fs Below inst k at_runs used (level_work x xs w) a.class.statements []
     level_begins xs w inside work = by a.process a.process_is x.process a.of_process a.stated
       where
         by : (process : Bool) → is_process_in s k ≡ process → (made : Bool) → made ≡ process → StatedAs s code (site_of s code k a.block) n a.class.after_inner process a.written x.statements a.class.statements a.stop

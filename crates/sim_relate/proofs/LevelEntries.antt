@@ -1,5 +1,5 @@
 -- The entry of an object or a prefixed block: the cells of all levels, filled with the actual parameters, and where its work begins.
-use Rattle.std.proofs.Common.{◌≡◌, ◌≢◌, ◌≤◌, ℕ, Bool, true, false, List, [], ◌∷◌, length, map, Option, Some, None, refl, sym, ap, ◌∙◌, subst, arith}
+use Rattle.std.proofs.Common.{◌+◌, ◌≡◌, ◌≢◌, ◌≤◌, ℕ, Bool, true, false, List, [], ◌∷◌, length, map, Option, Some, None, refl, sym, ap, ◌∙◌, subst, arith}
 use Rattle.std.proofs.lemmas.List.{length-map}
 use Rattle.std.specs.Prelude.{◌==◌, pos, slice_get}
 use Rattle.sim_base.specs.declared.limits.Limits.{Limits}
@@ -33,7 +33,7 @@ use Rattle.sim_meaning.specs.Levels.{has_levels, level_made, levels, levels_made
 use Rattle.sim_meaning.specs.Objects.{arrays_given, cells_of_levels, filled_in, levels_work}
 use Rattle.sim_meaning.specs.Pending.{Activation, Configuration, Held, Instances, Item, Level, Val}
 use Rattle.sim_meaning.specs.Texts.{Text, is_class_free, program_texts, text}
-use Rattle.codegen_expr.specs.Sites.{Is, LevelOf, block_number, class_number, frame_text, is_connected, own_end}
+use Rattle.codegen_expr.specs.Sites.{expression_temps, Is, LevelOf, block_number, class_number, frame_text, is_connected, own_end}
 use Rattle.codegen.specs.Agrees.{Agrees}
 use Rattle.codegen.specs.Compiled.{Compiled, RecordOf}
 use Rattle.sim_relate.proofs.Actuals.{among_same, each_length}
@@ -51,9 +51,9 @@ use Rattle.sim_relate.proofs.LevelLists.{levels_some}
 use Rattle.sim_relate.proofs.Lists.{append_at, there_get}
 use Rattle.sim_relate.proofs.ObjectWork.{levels_pend}
 use Rattle.sim_relate.proofs.Reach.{equal_numbers, if_true, levels_no_connection, stands_level}
-use Rattle.sim_relate.proofs.Relation.{ChainAt, EndAt, Laid, StandingAt, StandingsAt, StateAt, StoreAt, WorkAt}
+use Rattle.sim_relate.proofs.Relation.{at_level, ChainAt, EndAt, Laid, StandingAt, StandingsAt, StateAt, StoreAt, WorkAt}
 use Rattle.sim_relate.proofs.Stores.{new_inside}
-use Rattle.sim_relate.proofs.Waiting.{suspends}
+use Rattle.sim_relate.proofs.Waiting.{NoValue, suspends}
 
 -- ---- what code says of a class or a prefixed block
 
@@ -90,7 +90,7 @@ module _ (s : Source) (code : CodeOf) (compiled : Compiled s code) (l : Limits) 
   abbrev Related : Configuration → Machine → Type 0
   Related = StateAt s code
 
-  module _ (g line : ℕ) (x : ClassHas s code g) (values : List Val) (values' : List Value) (each : EachAt ValAt values values') (j around : ℕ) (stands_in : encloser s.tables g ≡ Some around) (link : Stands s m j around) (of_class : HasClass s g) where
+  module _ (g line : ℕ) (x : ClassHas s code g) (values : List Val) (values' : List Value) (each : EachAt (ValAt s code m) values values') (j around : ℕ) (stands_in : encloser s.tables g ≡ Some around) (link : Stands s m j around) (of_class : HasClass s g) where
     tables : Agrees s
     tables = compiled.agrees
 
@@ -110,7 +110,7 @@ module _ (s : Source) (code : CodeOf) (compiled : Compiled s code) (l : Limits) 
     laid_here = levels_laid s code compiled g x.levels
 
     abbrev attributes : List Held
-    attributes = all_attributes s code compiled (levels_laid s code compiled) g
+    attributes = all_attributes s code m compiled (levels_laid s code compiled) g
 
     abbrev formals : List DeclNo
     formals = class_formals s.tables g
@@ -119,8 +119,8 @@ module _ (s : Source) (code : CodeOf) (compiled : Compiled s code) (l : Limits) 
     number_here = number_is s code compiled g x
 
     -- the cells before they are filled
-    first_here : CellsOf s code g attributes (machine.first_cells new_block)
-    first_here = first_cells_of s code compiled (levels_laid s code compiled) g x
+    first_here : CellsOf s code m g attributes (machine.first_cells new_block)
+    first_here = first_cells_of s code m compiled (levels_laid s code compiled) g x
 
     first_long : length (machine.first_cells new_block) ≡ length new_block.types
     first_long = length-map new_block.types machine.first_value
@@ -133,23 +133,23 @@ module _ (s : Source) (code : CodeOf) (compiled : Compiled s code) (l : Limits) 
         let same : k ≡ m' = omega (arith, at) in
         subst (λ z. FormalCell s code g parameter z d) same (subst (λ z. FormalCell s code g (parameter_cell code z) k d) number_here (formal_cell s code compiled g x.levels k d is))
 
-    filling : MayFill s code g parameter values values' formals 0 attributes (machine.first_cells new_block)
-    filling = fill s code g laid_here parameter (length new_block.types) (λ v key level has. laid_here.fits v key new_block level has x.found) values values' formals 0 attributes (machine.first_cells new_block) each first_here formals_here first_long
+    filling : MayFill s code m g parameter values values' formals 0 attributes (machine.first_cells new_block)
+    filling = fill s code m g laid_here parameter (length new_block.types) (λ v key level has. laid_here.fits v key new_block level has x.found) values values' formals 0 attributes (machine.first_cells new_block) each first_here formals_here first_long
 
     words : (process : Bool) → instance_words new_block.cells process ≡ instance_words (length attributes) process
-    words process = ap (λ n. instance_words n process) (attributes_count s code compiled (levels_laid s code compiled) g x)
+    words process = ap (λ n. instance_words n process) (attributes_count s code m compiled (levels_laid s code compiled) g x)
 
     worlds_same : (p : World) → handed_over (length fs.instances) (machine.arrays_among values') p ≡ arrays_given (length m.instances) values p
     worlds_same p =
-        ap (λ z. handed_over (length fs.instances) z p) (among_same values values' each) ∙ ap (λ n. handed_over n (arrays_among values) p) (sym store.as_many)
+        ap (λ z. handed_over (length fs.instances) z p) (among_same s code m values values' each) ∙ ap (λ n. handed_over n (arrays_among values) p) (sym store.as_many)
 
     in_world : (p p' : World) (c : Configuration) (y : Machine) → p' ≡ p → Related c y → Alike Related (Going p c) (Going p' y)
     in_world p p' c y e z = subst (λ v. Alike Related (Going p c) (Going v y)) (sym e) (going z)
 
     -- Whether it is a process, what else happens to the world, how it stands as a component, what is below on the chain, and its end.
     module _ (process frame_process : Bool) (processes : frame_process ≡ process) (grow frame_grow : World → World) (grown : (p : World) → frame_grow p ≡ grow p) (end : Item) (standing : Standing Activation) (frame_standing : Standing machine.Activation) (plain : suspends standing ≡ None) (chain : List Activation) (under : List machine.Activation)
-        (stands_alike : (m' : Instances) (fs' : Frames) (number : ℕ) → text_at m' number ≡ Some g → StandingAt s code m' fs' number standing frame_standing) (under_there : ChainAt s code m fs chain false under)
-        (ends : (m' : Instances) (fs' : Frames) → ChainAt s code m' fs' chain false under → (block : BlockOf) (t p last : ℕ) → Is code (i.EndLevel (pos 0)) p last → EndAt s code (λ v. ChainAt s code m' fs' chain v under) t (record { own = g; room = new_block.room; block = block; stage = stage.Behind 0 }) end p []) where
+        (stands_alike : (m' : Instances) (fs' : Frames) (number : ℕ) → text_at m' number ≡ Some g → StandingAt s code m' fs' number standing frame_standing) (under_there : ChainAt s code m fs chain NoValue under)
+        (ends : (m' : Instances) (fs' : Frames) → ChainAt s code m' fs' chain NoValue under → (block : BlockOf) (limit temps t p last : ℕ) → Is code (i.EndLevel (pos 0)) p last → EndAt s code (λ v. ChainAt s code m' fs' chain v under) t (record { own = g; thunk = None; room = new_block.room; limit = limit; temps = temps; block = block; stage = stage.Behind 0 }) end [] p []) where
       -- what the machine does when the cells are filled
       abbrev pub Fresh : (start : ℕ) → Cells → Run Machine
       Fresh start cells =
@@ -169,18 +169,18 @@ module _ (s : Source) (code : CodeOf) (compiled : Compiled s code) (l : Limits) 
         -- it is made of its levels
         module _ (k0 : ℕ) (more : List ℕ) (x0 : Level) (xs : List Level) (levels_are : levels_of s g ≡ k0 ∷ more) (first_made : level_made s k0 (text s k0) ≡ Some x0) (rest_made : levels_made s more ≡ Some xs) where
           abbrev runs : Runs
-          runs = record { own = g; room = new_block.room; block = new_block; stage = stage.NoStage }
+          runs = record { own = g; thunk = None; room = new_block.room; limit = new_block.room; temps = own_end s code g; block = new_block; stage = stage.NoStage }
 
           enough_room : new_block.room ≤ new_block.room
           enough_room = omega arith
 
           outermost : LevelCode s code compiled runs k0 0 x0
-          outermost = level_code s code compiled runs new_block x.found enough_room x.levels of_class k0 0 x0 (ap (λ z. slice_get z 0) levels_are) first_made
+          outermost = level_code s code compiled runs new_block x.found enough_room x.levels of_class refl k0 0 x0 (ap (λ z. slice_get z 0) levels_are) first_made
 
           abbrev begins : Runs
-          begins = record { own = g; room = new_block.room; block = outermost.block; stage = stage.Declaring 0 }
+          begins = (at_level s code runs k0 outermost.block (stage.Declaring 0)).runs
 
-          module _ (r : Fills s code g parameter values values' formals 0 attributes (machine.first_cells new_block)) where
+          module _ (r : Fills s code m g parameter values values' formals 0 attributes (machine.first_cells new_block)) where
             abbrev new : Instance (List Held)
             new = new_instance s g (Some j) r.now
 
@@ -193,10 +193,10 @@ module _ (s : Source) (code : CodeOf) (compiled : Compiled s code) (l : Limits) 
             abbrev new_fs : Frames
             new_fs = later_fs s code m fs store new frame standing frame_standing plain
 
-            pending : WorkAt s code new_m new_fs (λ v. ChainAt s code new_m new_fs chain v under) (length m.instances) k0 begins (own_end s code k0) (levels_work (x0 ∷ xs) end) outermost.class.declarations []
+            pending : WorkAt s code new_m new_fs (λ v. ChainAt s code new_m new_fs chain v under) (length m.instances) k0 begins (own_end s code k0 + expression_temps) (levels_work (x0 ∷ xs) end) outermost.class.declarations []
             pending =
-                levels_pend s code compiled new_m new_fs (λ v. ChainAt s code new_m new_fs chain v under) (length m.instances) runs new_block x.found enough_room x.levels of_class end k0 more x0 xs outermost levels_are rest_made
-                (λ p last at. ends new_m new_fs (chain_entered s code m fs store new frame standing frame_standing plain chain false under under_there) outermost.block (frame_text s k0) p last at)
+                levels_pend s code compiled new_m new_fs (λ v. ChainAt s code new_m new_fs chain v under) (length m.instances) runs new_block x.found enough_room x.levels of_class refl end k0 more x0 xs outermost levels_are rest_made
+                (λ p last at. ends new_m new_fs (chain_entered s code m fs store new frame standing frame_standing plain chain NoValue under under_there) outermost.block outermost.block.room (own_end s code k0) (frame_text s k0) p last at)
 
             stands_own : Stands s new_m (length m.instances) g
             stands_own = new_inside s m g j around new standing (sym own) refl refl (ap (encloser s.tables) own ∙ stands_in) link
@@ -206,15 +206,15 @@ module _ (s : Source) (code : CodeOf) (compiled : Compiled s code) (l : Limits) 
                 stands_level s new_m tables (length m.instances) g k0 stands_own
                 (subst (λ z. LevelOf s.tables z (frame_text s k0)) (sym own) (subst (LevelOf s.tables g) (sym outermost.level.frame) outermost.level.level))
 
-            entered_state : Related (record { chain = record { instance = length m.instances; work = levels_work (x0 ∷ xs) end; values = [] } ∷ chain; memory = new_m }) (record { chain = record { thunk = false; home = length fs.instances; pc = outermost.class.declarations; stack = []; room = new_block.room; stage = stage.Declaring 0 } ∷ under; memory = new_fs })
+            entered_state : Related (record { chain = record { instance = length m.instances; work = levels_work (x0 ∷ xs) end; values = [] } ∷ chain; memory = new_m }) (record { chain = record { thunk = None; home = length fs.instances; pc = outermost.class.declarations; stack = []; room = new_block.room; stage = stage.Declaring 0 } ∷ under; memory = new_fs })
             entered_state =
-                let pair = instance_of s code g x.kind type.Nothing new_block heads x.found (x.passes (is_class_free s g)) own (levels_solid s code compiled g x.levels) laid_here (Some j) r.now r.frame r.at (r.long ∙ first_long) in
-                enters s code m fs store new frame standing frame_standing plain (parked_entered s code m fs store new frame standing frame_standing plain (stands_alike new_m new_fs (length m.instances) (ap text_in (append_at m.instances new))) parked) chain under k0 begins pair
-                (ap (λ z. slice_get code.blocks (block_number s z)) outermost.level.frame ∙ outermost.level.found) stands_first stands_own refl outermost.level.roomy (levels_work (x0 ∷ xs) end) (own_end s code k0) outermost.class.declarations pending
+                let pair = instance_of s code m g x.kind type.Nothing new_block heads x.found (x.passes (is_class_free s g)) own (levels_solid s code compiled g x.levels) laid_here (Some j) r.now r.frame r.at (r.long ∙ first_long) in
+                enters s code m fs store new frame standing frame_standing plain (parked_entered s code m fs store new frame standing frame_standing plain (stands_alike new_m new_fs (length m.instances) (ap text_in (append_at m.instances new))) parked) chain under k0 begins refl pair
+                (ap (λ z. slice_get code.blocks (block_number s z)) outermost.level.frame ∙ outermost.level.found) stands_first stands_own refl outermost.level.roomy (levels_work (x0 ∷ xs) end) (own_end s code k0 + expression_temps) outermost.class.declarations pending
 
             supplied_is : supplied code new_block.class new_block values' ≡ Some r.frame
             supplied_is =
-                let many = each_length values values' each in
+                let many = each_length s code m values values' each in
                 let c = r.as_many in
                 let f = formals_many s code compiled g x connected in
                 let same : length values' ≡ length new_block.formals = omega (arith, many, c, f) in
@@ -236,7 +236,7 @@ module _ (s : Source) (code : CodeOf) (compiled : Compiled s code) (l : Limits) 
                 (follows outermost.class.declarations r.frame _ supplied_is
                 (alike_entering Configuration Machine Related l line line (instance_words (length attributes) process) (instance_words new_block.cells frame_process) o _ _ refl (ap (instance_words new_block.cells) processes ∙ words process) (λ p. in_world _ _ _ _ (ap frame_grow (worlds_same p) ∙ grown (arrays_given (length m.instances) values p)) entered_state)))
 
-          from_filling : MayFill s code g parameter values values' formals 0 attributes (machine.first_cells new_block) → Alike Related (From (x0 ∷ xs) attributes (filled_in values (Some attributes) formals)) Levelled
+          from_filling : MayFill s code m g parameter values values' formals 0 attributes (machine.first_cells new_block) → Alike Related (From (x0 ∷ xs) attributes (filled_in values (Some attributes) formals)) Levelled
           unfolding having no_rule
           from_filling (no_fill e) = subst (λ z. Alike Related (From (x0 ∷ xs) attributes z) Levelled) (sym e) unruled
           from_filling (fills r) = subst (λ z. Alike Related (From (x0 ∷ xs) attributes z) Levelled) (sym r.is) (enters_so r)

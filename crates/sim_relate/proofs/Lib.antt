@@ -1,9 +1,11 @@
 pub mod Known
 pub mod Trees
 pub mod Operations
+pub mod Thunks
 pub mod Relation
 pub mod Hands
 pub mod Here
+pub mod Values
 pub mod Carried
 pub mod Lists
 pub mod Slots
@@ -13,6 +15,7 @@ pub mod Layouts
 pub mod Parameters
 pub mod Reach
 pub mod Formals
+pub mod ActualTrees
 pub mod Closing
 pub mod Heads
 pub mod LevelLists
@@ -42,6 +45,7 @@ pub mod Sets
 pub mod Lefts
 pub mod Statements
 pub mod Loops
+pub mod Passed
 pub mod Actuals
 pub mod DeclaredArrays
 pub mod Ends
@@ -54,6 +58,7 @@ pub mod PrefixedEntries
 pub mod OwnNames
 pub mod Roomy
 pub mod Matches
+pub mod Admitting
 pub mod References
 pub mod Fitting
 pub mod Fixed
@@ -92,4 +97,9 @@ pub mod ExampleTexts
 pub mod ExampleObjects
 pub mod ExamplePrefix
 pub mod ExampleSets
+pub mod ExampleNames
 pub mod Examples
+pub mod Tops
+pub mod Resited
+pub mod Givens
+pub mod Evaluations

@@ -43,12 +43,12 @@ use Rattle.codegen_expr.specs.CodeExpr.{ExprAt, PlaceAt}
 use Rattle.codegen.specs.Agrees.{Agrees}
 use Rattle.codegen.specs.CodeFor.{OfCell, OfPlace, OfReference, PutsAt, TakesValues, variable_of, variable_stored, ElementsAt, ForAt, ListAt, LoadsVariable, OneElementAt, SharedAt, StoresVariable, Variable, is_empty, GivesVariable, assigned_by}
 use Rattle.sim_meaning.specs.Virtuals.{text_of_procedure}
-use Rattle.codegen.specs.CodeLeft.{AtAddress, AtAttribute, InCell, NotBuilt, Stored, ToReference, ToResult, ToText, stored_declared, stored_element, stored_formal, stored_found, stored_left, stored_match, stored_named, stored_result, stored_variable}
+use Rattle.codegen.specs.CodeLeft.{ToNamed, ToNamedReference, ToNamedText, AtAddress, AtAttribute, InCell, NotBuilt, Stored, ToReference, ToResult, ToText, stored_declared, stored_element, stored_formal, stored_found, stored_left, stored_match, stored_named, stored_result, stored_variable}
 use Rattle.codegen.specs.CodeStm.{StmAt}
 use Rattle.sim_relate.proofs.Closing.{place_at, reference_at}
 use Rattle.sim_relate.proofs.Frames.{same_frame}
 use Rattle.sim_relate.proofs.Trees.{FetchIs, FetchesAt}
-use Rattle.sim_relate.proofs.Known.{Finds, FixedOf, IsRead, LinkTo, Located, OwnerOf, Refers, gives, kind_read, leaves_kind, left_kind, place_kind, place_target, read_kind, reads, reads_kind, Any, HandAt, Kind, StackAt, anys, more_at, plain_at, site_at, variable_target, Runs, spot, Settled, LinkOf, MatchOf}
+use Rattle.sim_relate.proofs.Known.{Named, Finds, FixedOf, IsRead, LinkTo, Located, OwnerOf, Refers, gives, kind_read, leaves_kind, left_kind, place_kind, place_target, read_kind, reads, reads_kind, Any, HandAt, Kind, StackAt, anys, more_at, plain_at, site_at, variable_target, Runs, spot, Settled, LinkOf, MatchOf}
 use Rattle.sim_relate.proofs.Operations.{StoreIs}
 use Rattle.sim_relate.proofs.Relation.{BeginsAt, CellVariableIs, ChainAt, ComesTo, OpAt, PlaceVariableIs, StateAt, TurnOf, VariableIs, WorkAt, over, stays, straight, there, turning}
 use Rattle.sim_relate.proofs.Hands.{hand_plain}
@@ -162,6 +162,7 @@ module _ (s : Source) (code : CodeOf) (l : Limits) (agrees : Agrees s) (o : Worl
   fetched_kind : (kind : Kind) → IsRead kind → (n z p' : ℕ) → Is code i.Fetch z p' → FetchesAt s code (site_at t b u) n kind z p'
   fetched_kind Any r n z p' is = is
   fetched_kind Located r n z p' is = is
+  fetched_kind Named r n z p' is = is
   fetched_kind (LinkTo text) r n z p' is = absurd r
   fetched_kind (OwnerOf text) r n z p' is = absurd r
   fetched_kind (LinkOf j) r n z p' is = absurd r
@@ -341,7 +342,7 @@ module _ (s : Source) (code : CodeOf) (l : Limits) (agrees : Agrees s) (o : Worl
       first = h.first;
       returns = h.returns;
       unused = h.outside;
-      is_temp = record { behind = omega (arith, low.low, h.outside); within = h.within };
+      is_temp = record { behind = omega (arith, (low.at).low, h.outside); within = h.within };
       turn = turn;
       tick = h.tick;
       body = h.body;
@@ -366,7 +367,7 @@ module _ (s : Source) (code : CodeOf) (l : Limits) (agrees : Agrees s) (o : Worl
       let r = list_is v (is_empty a) es a y q list in
       let same : u ≤ u = omega arith in
       moves_on (Do (ElementsOp x es a) ∷ w) y
-      (r.at, u, q, ks', t, spot t b u, same_frame s t, r.comes, same, low.low, stays (record { variable = v; v = h; number = 0; elements = r.elements; out = e }) low.calm refl, k) refl
+      (r.at, u, q, ks', t, spot t b u, same_frame s t, r.comes, same, low.at, stays (record { variable = v; v = h; number = 0; elements = r.elements; out = e }) low.calm refl, k) refl
 
   -- the variable that is meant
   pub record MeantIs (v : Variable) (meant : Option Target) : Type 0 where
@@ -462,6 +463,9 @@ module _ (s : Source) (code : CodeOf) (l : Limits) (agrees : Agrees s) (o : Worl
     looped_stored (ToReference x line) v n fit h = absurd h
     looped_stored (ToText x line) v n fit h = absurd h
     looped_stored (ToResult z line) v n fit h = absurd h
+    looped_stored (ToNamed d line) v n fit h = absurd h
+    looped_stored (ToNamedText d line) v n fit h = absurd h
+    looped_stored (ToNamedReference d class line) v n fit h = absurd h
     looped_stored NotBuilt v n fit h = absurd h
 
     looped_found : (c : Option ℕ) (x : Expression) (st : Stored) (v : Left) → NoAttribute st → LeftFits s code m inst t b u agrees reaching_here st v → ForAt s code (site_at t b u) (length ks) (variable_stored (stored_found c x st) by) (is_empty a) es (λ site. StmAt s code site (length ks) a) y q → Loops (left_found c (close_place s m inst x) v)

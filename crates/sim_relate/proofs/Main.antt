@@ -1,5 +1,5 @@
 -- Where control has come to what is pending, the machine follows the program: both make a step, or the program one that shows nothing.
-use Rattle.std.proofs.Common.{◌≡◌, ◌<◌, ◌≤◌, ℕ, Bool, false, List, [], ◌∷◌, None, length, refl, sym, ap, ◌∙◌, subst, arith}
+use Rattle.std.proofs.Common.{◌≡◌, ◌<◌, ℕ, List, [], ◌∷◌, length, refl, sym, ap, ◌∙◌, subst, arith}
 use Rattle.std.specs.Prelude.{pos}
 use Rattle.sim_base.specs.declared.limits.Limits.{Limits}
 use Rattle.sim_scope.specs.Source.{Source, level_of}
@@ -15,35 +15,34 @@ use Rattle.sim_code.specs.Machine as machine
 use Rattle.sim_code.specs.Rows.{mstep, on_top}
 use Rattle.sim_code.proofs.Simulation.{Alike, unruled}
 use Rattle.sim_meaning.specs.Meaning.{do_op, has_result, step}
-use Rattle.sim_meaning.specs.Pending.{Activation, AgainOp, ArrayOp, AttributeOf, AttributeOp, BackOp, BranchOp, CallOf, CallOp, Cell, ChooseOp, Configuration, ConnectOp, CopyOf, CopyOp, DeclareOp, Do, DropOp, Either, ElementOf, ElementOp, ElementsOp, EndBlock, EndLevel, EndObject, EndPrefixed, EndProcedure, EndProgram, EnterOp, Eval, Exec, Execs, FetchOp, FitsOf, FitsOp, GiveOp, Given, IfOp, ImageOf, Instances, Item, JoinOp, Joined, KeepOp, KeptOf, MemberOf, MemberOp, NewOf, NewOp, NotNoneOf, NotNoneOp, ObjectOp, One, OneOp, Op, PastOp, PlaceOf, PrefixedOp, QuaOf, QuaOp, QualifiedElementOf, QualifiedElementOp, QualifiedPlaceOf, RaiseOp, ReferOp, RemoteCallOf, SetOf, SelfOp, SetOp, ShareOp, StandardOf, StandardOp, StepOp, StepTestOp, StoreOp, SwapOp, Target, Term, Terms, TestOp, ToAddress, ToCell, ToPlace, ToReference, ToReferenceAt, ToText, ToTextAt, ToTextOf, TransferOf, TransferOp, Two, TwoOp, Unbuilt, Val, ValueAt, WhenOp, WhileElementOp, ActivateOp, BlockOp, ProcessOf, ProcessOp, SimulationOf, SimulationOp, VirtualOf, VirtualOp, CheckOp, CallValueOp}
+use Rattle.sim_meaning.specs.Pending.{Activation, ActualOf, AgainOp, ArrayOp, AttributeOf, AttributeOp, BackOp, BranchOp, CallOf, CallOp, Cell, ChooseOp, Configuration, ConnectOp, CopyOf, CopyOp, DeclareOp, Do, DropOp, Either, ElementOf, ElementOp, ElementsOp, EndBlock, EndLevel, EndObject, EndPrefixed, EndProcedure, EndProgram, EnterOp, Eval, Exec, Execs, FetchOp, FitsOf, FitsOp, GiveOp, Given, IfOp, ImageOf, Instances, Item, JoinOp, Joined, KeepOp, KeptOf, MemberOf, MemberOp, NewOf, NewOp, NotNoneOf, NotNoneOp, ObjectOp, One, OneOp, Op, PastOp, PlaceOf, PrefixedOp, QuaOf, QuaOp, QualifiedElementOf, QualifiedElementOp, QualifiedPlaceOf, RaiseOp, ReferOp, RemoteCallOf, SetOf, SelfOp, SetOp, ShareOp, StandardOf, StandardOp, StepOp, StepTestOp, StoreOp, SwapOp, Target, Term, Terms, TestOp, ToAddress, ToCell, ToPlace, ToReference, ToReferenceAt, ToText, ToTextAt, ToTextOf, TransferOf, TransferOp, Two, TwoOp, Unbuilt, Val, ValueAt, WhenOp, WhileElementOp, ActivateOp, BlockOp, ProcessOf, ProcessOp, SimulationOf, SimulationOp, VirtualOf, VirtualOp, CheckOp, CallValueOp, CloseOp, EndEvaluation, NamedOf, NamedOp, ToNamed}
 use Rattle.sim_meaning.specs.Entries.{arrays_declared}
 use Rattle.sim_meaning.specs.Steps.{count}
-use Rattle.sim_meaning.specs.Sane.{NamesOn, Sane, SaneOn}
-use Rattle.codegen_expr.specs.Sites.{frame_text, own_end}
+use Rattle.sim_meaning.specs.Sane.{AllLead, NamesOn, Sane, SaneOn}
 use Rattle.codegen.specs.Compiled.{Compiled}
-use Rattle.sim_code.specs.Instances.{system_head}
 use Rattle.sim_relate.proofs.Assigns as assigns
 use Rattle.sim_relate.proofs.Calls as calls
 use Rattle.sim_relate.proofs.Connections as connections
 use Rattle.sim_relate.proofs.Ends as ends
 use Rattle.sim_relate.proofs.Entries as entries
+use Rattle.sim_relate.proofs.Evaluations as evaluations
 use Rattle.sim_relate.proofs.Here.{Here, act, at_row, goes, here_at, state_at, there_of, with_values}
 use Rattle.sim_relate.proofs.DeclaredArrays.{arrays_at}
 use Rattle.sim_relate.proofs.Fitting as fitting
 use Rattle.sim_relate.proofs.Fixed as fixed
-use Rattle.sim_relate.proofs.Formed.{formed_as, free_top}
 use Rattle.sim_relate.proofs.Generated as generated
 use Rattle.sim_relate.proofs.Joins as joins
 use Rattle.sim_relate.proofs.Stages as stages
 use Rattle.sim_relate.proofs.Living.{reached}
 use Rattle.sim_relate.proofs.Loops as loops
 use Rattle.sim_relate.proofs.Operators as operators
+use Rattle.sim_relate.proofs.Passed as passed
 use Rattle.sim_relate.proofs.Pending.{each_pends, pends}
 use Rattle.sim_relate.proofs.PrefixedEntries as prefixed
 use Rattle.sim_relate.proofs.ProcessEnds as process_ends
 use Rattle.sim_relate.proofs.Quiet.{arrays_weight, each_weight, weight}
 use Rattle.sim_relate.proofs.Quiet as quiet_steps
-use Rattle.sim_relate.proofs.Known.{Any, FixedOf, Kind, LinkTo, Located, OwnerOf, Refers, anys, given, more_at, site_at, text_gives, Runs, Spot, Settled, LinkOf, MatchOf}
+use Rattle.sim_relate.proofs.Known.{Any, FixedOf, Kind, LinkTo, Located, Low, Named, OwnerOf, Refers, anys, given, low_same, more_at, owner_of, site_at, text_gives, Runs, Spot, Settled, LinkOf, MatchOf}
 use Rattle.sim_relate.proofs.Relation.{BeginsAt, ChainAt, ChainNow, InStage, NowAt, OpAt, StandingsAt, StateAt, StateNow, StoreAt, WorkAt, WithInnerIs, declares, inner_here, inner_last, stays, with_inner, ends_process}
 use Rattle.sim_relate.proofs.References as references
 use Rattle.sim_relate.proofs.Settle.{as_act}
@@ -53,9 +52,10 @@ use Rattle.sim_relate.proofs.Statements as statements
 use Rattle.sim_relate.proofs.Transfers as transfers
 use Rattle.sim_relate.proofs.Ranked.{InEach, Meets, at_once, in_steps}
 use Rattle.sim_relate.proofs.Ranked as ranked
+use Rattle.sim_relate.proofs.Tops.{here_top, now_flag, top_is_free}
 use Rattle.sim_relate.proofs.Trees.{FetchesAt}
 use Rattle.sim_relate.proofs.Virtuals as virtuals
-use Rattle.sim_relate.proofs.Waiting.{gets_free, suspended}
+use Rattle.sim_relate.proofs.Waiting.{NoValue, Wait, gets_free, given_by, suspended_by}
 
 -- a step of both, one of the program that is by a rule and which several of the machine follow, or one of the program alone that leaves less to be
 -- taken apart
@@ -65,7 +65,7 @@ pub data MovesNow (s : Source) (code : CodeOf) (l : Limits) (o : World) (c : Con
   quiet : (c' : Configuration) → step s l o c ≡ Going o c' → StateAt s code c' x → weight s c' < weight s c → MovesNow s code l o c x
 
 module _ (s : Source) (code : CodeOf) (compiled : Compiled s code) (l : Limits) (o : World) (m : Instances) (inst : ℕ) (w : List Item) (vals : List Val) (rest : List Activation) (fs : Frames) (t : ℕ) (b : Runs) (pc : ℕ) (stack : List Value) (below : List machine.Activation) (ks : List Kind) (here : Here s code m fs inst rest t b ks vals stack) (u q : ℕ) (ks' : List Kind) (low : Settled s code t b u) (k : WorkAt s code m fs (λ v. ChainAt s code m fs rest v below) inst t b u w q ks') where
-  abbrev Below : Bool → Type 0
+  abbrev Below : Wait → Type 0
   Below v = ChainAt s code m fs rest v below
 
   abbrev machine_here : Machine
@@ -122,6 +122,11 @@ module _ (s : Source) (code : CodeOf) (compiled : Compiled s code) (l : Limits) 
       (pends s code m fs Below inst t b u low w (SimulationOp name line) x.y q (anys (count ts) (LinkOf j ∷ ks)) ks' (record { many = count ts; is = x.is; text = x.text; block = j; reaches = reaches; left = ks; «in» = refl; out = a.1 }) k))
       (is.is).on)))
 
+  -- a step that is followed at once, or in several steps
+  followed : {op : Op} → ranked.Follows (mstep code l) (StateAt s code) (do_op s l o m inst w vals rest op) o machine_here → MovesNow s code l o (record { chain = record { instance = inst; work = Do op ∷ w; values = vals } ∷ rest; memory = m }) machine_here
+  followed (at_once a) = both a
+  followed (in_steps a) = several (λ ruled. a)
+
   eval_moves : (x : Term) → Follows (Eval x)
   unfolding no_rule
   eval_moves (Given v) a = both (operators.constant s code l o m inst w vals rest fs t b pc stack below ks here u q ks' low k compiled.texts v a)
@@ -156,6 +161,8 @@ module _ (s : Source) (code : CodeOf) (compiled : Compiled s code) (l : Limits) 
       quiet _ refl (stands_so _ (quiet_steps.set_opened s code m fs Below inst t b u low w pc q ks ks' k name ts a)) (omega (arith, e))
   eval_moves (ProcessOf name line x) a = quiet _ refl (stands_so _ (quiet_steps.process_opened s code m fs Below inst t b u low w pc q ks ks' k name line x a)) (omega arith)
   eval_moves (SimulationOf j name ts line) a = both (simulation_link j name ts line a)
+  eval_moves (ActualOf home e) a = followed (passed.passed s code l o m inst w vals rest fs t b pc stack below ks here u q ks' low k home e a)
+  eval_moves (NamedOf j key wanted) a = quiet _ refl (stands_so _ (quiet_steps.named_opened s code m fs Below inst t b u low w pc q ks ks' k j key wanted a)) (omega arith)
   eval_moves Unbuilt a = both unruled
 
   statement_moves : (x : Statement) → Follows (Exec x)
@@ -185,13 +192,9 @@ module _ (s : Source) (code : CodeOf) (compiled : Compiled s code) (l : Limits) 
       quiet _ refl (stands_so _ (subst (λ z. WorkAt s code m fs Below inst t b u (arrays_declared s m inst ds w) pc z) (sym a.1)
       (arrays_at s code compiled.agrees m fs Below inst t b u low here.stands here.lives w ds pc q a.0 (subst (λ z. WorkAt s code m fs Below inst t b u w q z) a.2 k)))) (omega (arith, e))
 
-  -- a step that is followed at once, or in several steps
-  followed : {op : Op} → ranked.Follows (mstep code l) (StateAt s code) (do_op s l o m inst w vals rest op) o machine_here → MovesNow s code l o (record { chain = record { instance = inst; work = Do op ∷ w; values = vals } ∷ rest; memory = m }) machine_here
-  followed (at_once a) = both a
-  followed (in_steps a) = several (λ ruled. a)
-
   fetch_moves : (kind : Kind) (left : List Kind) → FetchesAt s code (site_at t b u) (length left) kind pc q → ks ≡ kind ∷ left → ks' ≡ anys 1 left → MovesNow s code l o (record { chain = record { instance = inst; work = Do FetchOp ∷ w; values = vals } ∷ rest; memory = m }) machine_here
   fetch_moves Any left is e out = both (assigns.fetch_any s code l o m inst w vals rest fs t b pc stack below ks here u q ks' low k left is e out)
+  fetch_moves Named left is e out = both (assigns.fetch_by_name s code l o m inst w vals rest fs t b pc stack below ks here u q ks' low k left is e out)
   fetch_moves Located left is e out = both (assigns.fetch_place s code l o m inst w vals rest fs t b pc stack below ks here u q ks' low k left is e out)
   fetch_moves (Refers class) left is e out = both (assigns.fetch_reference s code l o m inst w vals rest fs t b pc stack below ks here u q ks' low k class left is e out)
   fetch_moves (FixedOf d) left is e out = followed (fixed.fetch_constant s code compiled l o m inst w vals rest fs t b pc stack below ks here u q ks' low k d left e out is)
@@ -215,6 +218,7 @@ module _ (s : Source) (code : CodeOf) (compiled : Compiled s code) (l : Limits) 
   op_moves DropOp a = both (operators.drop s code l o m inst w vals rest fs t b pc stack below ks here u q ks' low k a)
   op_moves AgainOp a = both (operators.again s code l o m inst w vals rest fs t b pc stack below ks here u q ks' low k a)
   op_moves (StoreOp (ToReference line)) a = quiet _ refl (stands_so _ (quiet_steps.reference_stored s code m fs Below inst t b u low w pc q ks ks' k line a)) (omega arith)
+  op_moves (StoreOp (ToNamed c line)) a = quiet _ refl (stands_so _ (quiet_steps.named_stored s code m fs Below inst t b u low w pc q ks ks' k c line a)) (omega arith)
   op_moves (StoreOp (ToPlace x)) a = quiet _ refl (stands_so _ (quiet_steps.place_stored s code m fs Below inst t b u low w pc q ks ks' k x a)) (omega arith)
   op_moves (StoreOp (ToReferenceAt x line)) a = quiet _ refl (stands_so _ (quiet_steps.reference_place_stored s code m fs Below inst t b u low w pc q ks ks' k x line a)) (omega arith)
   op_moves (StoreOp (ToCell j key)) a = both (assigns.to_cell s code l o m inst w vals rest fs t b pc stack below ks here u q ks' low k j key a)
@@ -247,6 +251,8 @@ module _ (s : Source) (code : CodeOf) (compiled : Compiled s code) (l : Limits) 
   op_moves (VirtualOp v line) a = both (virtuals.virtual s code compiled l o m inst w vals rest fs t b pc stack below ks here u q ks' low k v line a)
   op_moves (CheckOp n line) a = both (virtuals.check s code compiled l o m inst w vals rest fs t b pc stack below ks here u q ks' low k n line a)
   op_moves (CallValueOp line) a = both (virtuals.call_value s code compiled l o m inst w vals rest fs t b pc stack below ks here u q ks' low k line a)
+  op_moves (NamedOp j key wanted) a = both (evaluations.use_name s code compiled l o m inst w vals rest fs t b pc stack below ks here u q ks' low k j key wanted a)
+  op_moves (CloseOp e) a = quiet _ refl (stands_so _ (evaluations.closes s code compiled l o m inst w vals rest fs t b pc stack below ks here u q ks' low k e a)) (omega arith)
   op_moves (QualifiedElementOp n line c) a = both (references.qualified_element s code compiled l o m inst w vals rest fs t b pc stack below ks here u q ks' low k n line c a)
   op_moves (MemberOp member c) a = both (references.member s code compiled l o m inst w vals rest fs t b pc stack below ks here u q ks' low k member c a)
   op_moves (QuaOp c line) a = both (references.qua s code compiled l o m inst w vals rest fs t b pc stack below ks here u q ks' low k c line a)
@@ -271,10 +277,10 @@ module _ (s : Source) (code : CodeOf) (compiled : Compiled s code) (l : Limits) 
   abbrev Moves : Configuration → Machine → Type 0
   Moves c x = MovesNow s code l o c x
 
-  stage_moves : (m : Instances) (inst : ℕ) (w : List Item) (vals : List Val) (rest : List Activation) (fs : Frames) (t : ℕ) (b : Runs) (c : Spot) (pc : ℕ) (stack : List Value) (below : List machine.Activation) (ks : List Kind) (here : Here s code m fs inst rest t b ks vals stack) (u q : ℕ) (ks' : List Kind) (low : own_end s code (frame_text s t) ≤ u) (op : Op)
+  stage_moves : (m : Instances) (inst : ℕ) (w : List Item) (vals : List Val) (rest : List Activation) (fs : Frames) (t : ℕ) (b : Runs) (c : Spot) (pc : ℕ) (stack : List Value) (below : List machine.Activation) (ks : List Kind) (here : Here s code m fs inst rest t b ks vals stack) (u q : ℕ) (ks' : List Kind) (low : Low s code t b u) (op : Op)
       → InStage s code (BeginsAt s code m fs inst (site_at t b u)) (site_at t b u) op b c pc q ks ks' → WorkAt s code m fs (λ v. ChainAt s code m fs rest v below) inst c.text c.runs c.used w q ks'
       → Moves (record { chain = record { instance = inst; work = Do op ∷ w; values = vals } ∷ rest; memory = m }) (record { chain = act inst pc stack b ∷ below; memory = fs })
-  stage_moves m inst w vals rest fs t b c pc stack below ks here u q ks' low op (stays a calm same) k = op_moves s code compiled l o m inst w vals rest fs t b pc stack below ks here u q ks' (record { low = low; calm = calm }) (subst (λ z. WorkAt s code m fs (λ v. ChainAt s code m fs rest v below) inst z.text z.runs z.used w q ks') same k) op a
+  stage_moves m inst w vals rest fs t b c pc stack below ks here u q ks' low op (stays a calm same) k = op_moves s code compiled l o m inst w vals rest fs t b pc stack below ks here u q ks' (record { at = low; calm = calm }) (subst (λ z. WorkAt s code m fs (λ v. ChainAt s code m fs rest v below) inst z.text z.runs z.used w q ks') same k) op a
   stage_moves m inst w vals rest fs t b c pc stack below ks here u q ks' low op (declares level e a) k =
       subst (λ z. Moves (record { chain = record { instance = inst; work = Do z ∷ w; values = vals } ∷ rest; memory = m }) (record { chain = act inst pc stack b ∷ below; memory = fs })) (sym e)
       (both (stages.declared s code l compiled o m inst w vals rest fs t b pc stack below ks here u q ks' low level c a k))
@@ -297,29 +303,31 @@ module _ (s : Source) (code : CodeOf) (compiled : Compiled s code) (l : Limits) 
       subst (λ z. Moves (record { chain = record { instance = inst; work = Do z ∷ w; values = vals } ∷ rest; memory = m }) (record { chain = act inst pc stack b ∷ below; memory = fs })) (sym e)
       (several (λ ruled. process_ends.process_ends s code compiled l o m inst w vals rest fs t b pc stack below ks here u q ks' c a k ruled))
 
-  work_moves : (m : Instances) (inst : ℕ) (work : List Item) (vals : List Val) (rest : List Activation) (fs : Frames) (t : ℕ) (b : Runs) (pc : ℕ) (stack : List Value) (below : List machine.Activation) (ks : List Kind) (used : ℕ) → Here s code m fs inst rest t b ks vals stack → NowAt s code m fs (λ v. ChainAt s code m fs rest v below) inst t b used work pc ks
+  work_moves : (m : Instances) (inst : ℕ) (work : List Item) (vals : List Val) (rest : List Activation) (fs : Frames) (t : ℕ) (b : Runs) (pc : ℕ) (stack : List Value) (below : List machine.Activation) (ks : List Kind) (used : ℕ) → Here s code m fs inst rest t b ks vals stack → AllLead s o m vals → NowAt s code m fs (λ v. ChainAt s code m fs rest v below) inst t b used work pc ks
       → Moves (record { chain = record { instance = inst; work = work; values = vals } ∷ rest; memory = m }) (record { chain = act inst pc stack b ∷ below; memory = fs })
-  work_moves m inst [] vals rest fs t b pc stack below ks used here a = absurd a
-  work_moves m inst (Do op ∷ w) vals rest fs t b pc stack below ks used here a =
+  work_moves m inst [] vals rest fs t b pc stack below ks used here leads a = absurd a
+  work_moves m inst (Do op ∷ w) vals rest fs t b pc stack below ks used here leads a =
       let frame = a.5 in
-      stage_moves m inst w vals rest fs a.3 b a.4 pc stack below ks (here_at s code frame here) a.0 a.1 a.2 (subst (λ z. own_end s code z ≤ a.0) (sym frame.frame) a.7) op a.8 a.9
-  work_moves m inst (EndBlock ∷ w) vals rest fs t b pc stack below ks used here a = both (ends.end_block s code compiled l o m inst w vals rest fs t b pc stack below ks here used a)
-  work_moves m inst (EndProcedure leaves ∷ w) vals rest fs t b pc stack below ks used here a = both (ends.end_procedure s code compiled l o m inst w vals rest fs t b pc stack below ks here used leaves a)
-  work_moves m inst (EndProgram ∷ w) vals rest fs t b pc stack below ks used here a = both (ends.end_program s code compiled l o m inst w vals rest fs t b pc stack below ks here used a)
-  work_moves m inst (EndObject ∷ w) vals rest fs t b pc stack below ks used here a = both (ends.end_object s code compiled l o m inst w vals rest fs t b pc stack below ks here used a)
-  work_moves m inst (EndPrefixed ∷ w) vals rest fs t b pc stack below ks used here a = both (ends.end_prefixed s code compiled l o m inst w vals rest fs t b pc stack below ks here used a)
-  work_moves m inst (EndLevel level ∷ w) vals rest fs t b pc stack below ks used here a = both (stages.end_level s code l compiled o m inst w vals rest fs t b pc stack below ks here level a.0 a.1 a.2 a.3)
+      stage_moves m inst w vals rest fs a.3 b a.4 pc stack below ks (here_at s code frame here) a.0 a.1 a.2 (low_same s code a.3 t b a.0 frame a.7) op a.8 a.9
+  work_moves m inst (EndBlock ∷ w) vals rest fs t b pc stack below ks used here leads a = both (ends.end_block s code compiled l o m inst w vals rest fs t b pc stack below ks here used a)
+  work_moves m inst (EndProcedure leaves ∷ w) vals rest fs t b pc stack below ks used here leads a = both (ends.end_procedure s code compiled l o m inst w vals rest fs t b pc stack below ks here used leaves a)
+  work_moves m inst (EndProgram ∷ w) vals rest fs t b pc stack below ks used here leads a = both (ends.end_program s code compiled l o m inst w vals rest fs t b pc stack below ks here used a)
+  work_moves m inst (EndObject ∷ w) vals rest fs t b pc stack below ks used here leads a = both (ends.end_object s code compiled l o m inst w vals rest fs t b pc stack below ks here used a)
+  work_moves m inst (EndPrefixed ∷ w) vals rest fs t b pc stack below ks used here leads a = both (ends.end_prefixed s code compiled l o m inst w vals rest fs t b pc stack below ks here used a)
+  work_moves m inst (EndEvaluation wanted ∷ w) vals rest fs t b pc stack below ks used here leads a = both (evaluations.end_evaluation s code compiled l o m inst w vals rest fs t b pc stack below ks here wanted leads a)
+  work_moves m inst (EndLevel level ∷ w) vals rest fs t b pc stack below ks used here leads a = both (stages.end_level s code l compiled o m inst w vals rest fs t b pc stack below ks here level a.0 a.1 a.2 a.3)
 
-  chain_moves : (m : Instances) (chain : List Activation) (fs : Frames) (acts : List machine.Activation) → StoreAt s code m fs → StandingsAt s code m fs → SaneOn m chain → NamesOn s m chain → ChainNow s code m fs chain acts → Moves (record { chain = chain; memory = m }) (record { chain = acts; memory = fs })
+  chain_moves : (m : Instances) (chain : List Activation) (fs : Frames) (acts : List machine.Activation) → StoreAt s code m fs → StandingsAt s code m fs → SaneOn m chain → NamesOn s o m chain → ChainNow s code m fs chain acts → Moves (record { chain = chain; memory = m }) (record { chain = acts; memory = fs })
   chain_moves m [] fs [] store parked sane names c = both (entries.first_alike s code compiled l o m fs store parked)
   chain_moves m [] fs (y ∷ below) store parked sane names c = absurd (cc (c.is))
   chain_moves m (a ∷ rest) fs [] store parked sane names c = absurd c
   chain_moves m (a ∷ rest) fs (y ∷ below) store parked sane names c =
-      let free : suspended m a.instance ≡ None = free_top m a rest sane.3 in
-      let here : Here s code m fs a.instance rest c.text c.block c.kinds a.values y.stack = record { store = store; parked = parked; lives = sane.0; alone = sane.1; kept_alone = sane.2; formed = formed_as (system_head m) m.standings rest a sane.3; names = names; stands = c.stands; own = c.own; roomy = c.roomy; found = c.found; values = c.values; free = free } in
+      let flag = now_flag s code m fs (λ v. ChainAt s code m fs rest v below) a.instance c.text c.block c.used a.work y.pc _ c.goes in
+      let Work : (t : ℕ) → Runs → (used p : ℕ) → List Kind → Type 0 = λ t b used p ks. NowAt s code m fs (λ v. ChainAt s code m fs rest v below) a.instance t b used a.work p ks in
+      let here = here_top s code m fs a rest y Work c flag store parked sane names.0 in
       subst (λ z. Moves (record { chain = a ∷ rest; memory = m }) (record { chain = z ∷ below; memory = fs })) (sym (as_act s code l y a.instance c.block c.base c.home c.room c.stage))
-      (work_moves m a.instance a.work a.values rest fs c.text c.block y.pc y.stack below c.kinds c.used here
-      (subst (λ g. NowAt s code m fs (λ v. ChainAt s code m fs rest v below) a.instance c.text c.block c.used a.work y.pc (given g c.kinds)) (gets_free (suspended m a.instance) false c.gets free c.gets_is) c.goes))
+      (work_moves m a.instance a.work a.values rest fs c.text c.block y.pc y.stack below c.kinds c.used here names.1
+      (subst (λ g. NowAt s code m fs (λ v. ChainAt s code m fs rest v below) a.instance c.text c.block c.used a.work y.pc (given_by g c.kinds)) (gets_free (suspended_by m (owner_of c.block.thunk a.instance)) NoValue c.gets (top_is_free s code m fs a rest y Work c flag sane) c.gets_is) c.goes))
 
-  pub moves_now : (c : Configuration) (x : Machine) → Sane c → NamesOn s c.memory c.chain → StateNow s code c x → MovesNow s code l o c x
+  pub moves_now : (c : Configuration) (x : Machine) → Sane c → NamesOn s o c.memory c.chain → StateNow s code c x → MovesNow s code l o c x
   moves_now c x sane names a = chain_moves c.memory c.chain x.memory x.chain a.store a.parked sane names a.chain

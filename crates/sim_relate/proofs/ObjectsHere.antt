@@ -5,7 +5,6 @@ use Rattle.std.proofs.lemmas.Option.{slice_get_past}
 use Rattle.std.specs.Option.{option_map}
 use Rattle.std.specs.Prelude.{is_some, pos, slice_get}
 use Rattle.sim_scope.specs.Source.{Source}
-use Rattle.sim_scope.specs.Tables as scope
 use Rattle.sim_values.specs.Plain.{Character, Integer, MainOf, Nothing, Object, Plain, Text as PlainText, Truth}
 use Rattle.sim_code.specs.declared.code.BlockKind.{BlockKind}
 use Rattle.sim_code.specs.declared.code.BlockKind.TheVariants as kind
@@ -77,7 +76,7 @@ module _ (s : Source) (code : CodeOf) (coding : Compiled s code) (m : Instances)
 
   pub object_here : (j : ℕ) → IsObject s m j → ObjectHere j
   object_here j x =
-      let y = both_found (InstanceAt s code) (live m j) (live fs j) x.instance x.lives (live_pair s code m fs store j) in
+      let y = both_found (InstanceAt s code m) (live m j) (live fs j) x.instance x.lives (live_pair s code m fs store j) in
       record { instance = x.instance; there = (is_live_at (slice_get m.instances j) x.instance x.lives).there; levels = x.levels; frame = y.it; lives = y.is; number = (y.related).number }
 
   pub text_is_at : (j : ℕ) (x : ObjectHere j) → text_at m j ≡ Some x.instance.text
@@ -122,7 +121,7 @@ module _ (s : Source) (code : CodeOf) (coding : Compiled s code) (m : Instances)
 
   living : (j : ℕ) (x : Instance (List Held)) → live m j ≡ Some x → Living j x
   living j x lives =
-      let y = both_found (InstanceAt s code) (live m j) (live fs j) x lives (live_pair s code m fs store j) in
+      let y = both_found (InstanceAt s code m) (live m j) (live fs j) x lives (live_pair s code m fs store j) in
       record { there = (is_live_at (slice_get m.instances j) x lives).there; frame = y.it; lives = y.is; number = (y.related).number; solid = (y.related).solid }
 
   -- ---- levels

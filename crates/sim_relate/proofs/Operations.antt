@@ -1,35 +1,31 @@
 -- The instructions that stand for the operators of a program.
-use Rattle.std.proofs.Common.{◌≡◌, ◌<◌, ◌≤◌, ◌*◌, ℕ, suc, Bool, true, false, List, [], ◌∷◌, length, Option, Some}
+use Rattle.std.proofs.Common.{◌≡◌, ◌<◌, ◌≤◌, ◌+◌, ◌*◌, ℕ, suc, Bool, true, false, List, [], ◌∷◌, length, Option, Some}
 use Rattle.std.specs.Prelude.{pos}
 use Rattle.sim_scope.specs.Access.{encloser}
 use Rattle.sim_scope.specs.Source.{Source, level_of}
-use Rattle.sim_tree.specs.Syntax as syntax
 use Rattle.sim_values.specs.declared.kind.Kind.{Kind as TypeKind}
 use Rattle.sim_values.specs.declared.standard.Standard.{Standard}
 use Rattle.sim_values.specs.Standard.{row_of}
-use Rattle.sim_code.specs.declared.code.BlockKind.TheVariants as block_kind
-use Rattle.sim_code.specs.declared.code.CodeType.TheVariants as type
 use Rattle.sim_code.specs.declared.instr.Instr.{Instr}
 use Rattle.sim_code.specs.declared.instr.Instr.TheVariants as i
-use Rattle.sim_code.specs.declared.stage.Stage.TheVariants as stage
 use Rattle.sim_code.specs.Code.{CodeOf}
 use Rattle.sim_code.specs.Machine.{Frames, Value}
-use Rattle.sim_code.specs.Machine as machine
 use Rattle.sim_code.specs.Scheduling.{Timing, has_operand}
 use Rattle.sim_meaning.specs.Levels.{has_levels, is_class}
-use Rattle.sim_meaning.specs.Pending.{Instances, Key, Target, Term, ToAddress, ToCell, ToPlace, ToReference, ToReferenceAt, ToText, ToTextAt, ToTextOf, Val}
+use Rattle.sim_meaning.specs.Pending.{Instances, Key, Target, Term, ToAddress, ToCell, ToNamed, ToPlace, ToReference, ToReferenceAt, ToText, ToTextAt, ToTextOf, Use, Val}
 use Rattle.sim_meaning.specs.Entries.{formals_of}
 use Rattle.sim_meaning.specs.Meaning.{has_result}
 use Rattle.sim_meaning.specs.Statements.{has_value}
 use Rattle.sim_meaning.specs.Texts.{text}
 use Rattle.sim_meaning.specs.Texts as Texts
-use Rattle.codegen_expr.specs.Sites.{Ahead, At, HasCell, Is, Pushes, Site, block_number, class_number, frame_text, own_end, slot_of}
+use Rattle.codegen_expr.specs.Sites.{Ahead, At, HasCell, Is, Pushes, Site, block_number, class_number, expression_temps, frame_text, own_end, slot_of}
 use Rattle.codegen_expr.specs.CodeExpr.{StandardIs}
 use Rattle.codegen.specs.CodeArrays.{element_number}
 use Rattle.codegen.specs.Agrees.{is_prefixed}
 use Rattle.codegen.specs.CodeStm.{activation_number}
-use Rattle.sim_relate.proofs.Known.{AllRead, Any, IsLink, IsRead, Kind, LinkTo, OwnerOf, Reaches, Refers, ValAt, anys, attribute_kind, given, is_declared, is_fixed, is_process_in, placed, reads, LeavesIs, LinkOf, MatchOf, virtual_gives}
-use Rattle.sim_relate.proofs.Trees.{Classed, JoinsIs, ProcedureIs, FoundIs, FetchesAt, FitsIs, ProcessIs, SetIs, SimulationNameIs, TermAt, OperandAt, IsVirtual, list_number}
+use Rattle.sim_relate.proofs.Known.{AllRead, Any, IsLink, IsRead, Kind, LinkTo, Named, OwnerOf, Reaches, Refers, ValAt, anys, attribute_kind, given, is_declared, is_fixed, is_process_in, placed, LeavesIs, LinkOf, MatchOf, virtual_gives}
+use Rattle.sim_relate.proofs.Waiting.{kind_used}
+use Rattle.sim_relate.proofs.Trees.{Classed, JoinsIs, UseIs, ProcedureIs, FoundIs, FetchesAt, FitsIs, ProcessIs, SetIs, SimulationNameIs, TermAt, OperandAt, IsVirtual, list_number}
 
 -- the operand of an activation, if there is one, is on top of the process
 abbrev pub operands_with : Bool → ℕ
@@ -154,6 +150,11 @@ module _ (s : Source) (code : CodeOf) where
     pub «in» : before ≡ anys 1 left
     pub out : behind ≡ anys 1 left
 
+  -- a use of a parameter by name
+  pub record NamedOpIs (m : Instances) (inst : ℕ) (site : Site) (j : ℕ) (key : Key) (wanted : Use) (p q : ℕ) (before behind : List Kind) : Type 0 where
+    pub is : UseIs s code m inst site (length before) j key wanted p q
+    pub out : behind ≡ kind_used wanted ∷ before
+
   pub record FetchOpIs (site : Site) (p q : ℕ) (before behind : List Kind) : Type 0 where
     pub kind : Kind
     pub left : List Kind
@@ -169,12 +170,17 @@ module _ (s : Source) (code : CodeOf) where
     pub «in» : before ≡ first ∷ Any ∷ left
     pub out : behind ≡ Any ∷ first ∷ left
 
+  -- where a reference may be put
+  pub data IsReferred : Kind → Type 0 where
+    of_class : {k : ℕ} → Classed s k → IsReferred (Refers k)
+    by_name : IsReferred Named
+
   pub record ReferIs (line p q : ℕ) (before behind : List Kind) : Type 0 where
     pub is : At code i.Put line p q
-    pub class : ℕ
-    pub is_class : Classed s class
+    pub place : Kind
+    pub refers : IsReferred place
     pub left : List Kind
-    pub «in» : before ≡ Any ∷ Refers class ∷ left
+    pub «in» : before ≡ Any ∷ place ∷ left
     pub out : behind ≡ left
 
   pub record StandardOpIs (site : Site) (name : Standard) (line p q : ℕ) (before behind : List Kind) : Type 0 where
@@ -264,13 +270,20 @@ module _ (s : Source) (code : CodeOf) where
     pub reads : IsRead place
     pub «in» : before ≡ Any ∷ place ∷ behind
 
-  abbrev pub TargetAt : Instances → (inst : ℕ) → Target → (p q : ℕ) → (before behind : List Kind) → Type 0
-  TargetAt m inst (ToCell j key) p q before behind = CellStoreIs m inst j key p q × (before ≡ anys 1 behind)
-  TargetAt m inst ToAddress p q before behind = Is code i.Put p q × PutsOn before behind
-  TargetAt m inst (ToText line) p q before behind = At code i.AssignT line p q × (before ≡ anys 2 behind)
-  TargetAt m inst (ToTextOf j key line) p q before behind = At code i.AssignT line p q × (before ≡ anys 2 behind)
-  TargetAt m inst (ToReference line) p q before behind = ReferIs line p q before behind
-  TargetAt m inst _ p q before behind = ⊥
+  -- a reference goes to where a parameter by name lies, which has a class of its own
+  pub record NamedStoreIs (site : Site) (k line p q : ℕ) (before behind : List Kind) : Type 0 where
+    pub x : ℕ
+    pub fits : FitsOpIs site k line p x before before
+    pub put : ReferIs line x q before behind
+
+  abbrev pub TargetAt : Instances → (inst : ℕ) → Site → Target → (p q : ℕ) → (before behind : List Kind) → Type 0
+  TargetAt m inst site (ToCell j key) p q before behind = CellStoreIs m inst j key p q × (before ≡ anys 1 behind)
+  TargetAt m inst site ToAddress p q before behind = Is code i.Put p q × PutsOn before behind
+  TargetAt m inst site (ToText line) p q before behind = At code i.AssignT line p q × (before ≡ anys 2 behind)
+  TargetAt m inst site (ToTextOf j key line) p q before behind = At code i.AssignT line p q × (before ≡ anys 2 behind)
+  TargetAt m inst site (ToReference line) p q before behind = ReferIs line p q before behind
+  TargetAt m inst site (ToNamed k line) p q before behind = NamedStoreIs site k line p q before behind
+  TargetAt m inst site _ p q before behind = ⊥
 
   -- the value in hand goes to a place that is found then
   pub record PlaceStoreIs (m : Instances) (inst : ℕ) (site : Site) (a : Term) (kind : Kind) (Put : ℕ → ℕ → Type 0) (p q : ℕ) (before behind : List Kind) : Type 0 where
@@ -286,18 +299,18 @@ module _ (s : Source) (code : CodeOf) where
   StoreIs m inst site (ToPlace a) p q before behind = (kind : Kind) × IsRead kind × PlaceStoreIs m inst site a kind (λ x y. Is code i.Put x y) p q before behind
   StoreIs m inst site (ToTextAt a line) p q before behind = At code i.AssignT line p q × (before ≡ anys 2 behind)
   StoreIs m inst site (ToReferenceAt a line) p q before behind = (k : ℕ) × Classed s k × PlaceStoreIs m inst site a (Refers k) (λ x y. At code i.Put line x y) p q before behind
-  StoreIs m inst site t p q before behind = TargetAt m inst t p q before behind
+  StoreIs m inst site t p q before behind = TargetAt m inst site t p q before behind
 
-  -- a temp of the frame: it stands behind the own part of the text
+  -- a temp of statements: it stands behind those of expressions, which stand behind the own part of the text
   pub record TempIs (site : Site) (temp : ℕ) : Type 0 where
-    pub behind : own_end s code (frame_text s site.text) ≤ temp
+    pub behind : own_end s code (frame_text s site.text) + expression_temps ≤ temp
     pub within : temp < site.size
 
   -- what is in a temp goes to one left side after another
   abbrev pub GivesIs : Instances → (inst : ℕ) → Site → (temp : ℕ) → List Target → (p q : ℕ) → (before behind : List Kind) → Type 0
   GivesIs m inst site temp [] p q before behind = (q ≡ p) × (behind ≡ before)
   GivesIs m inst site temp (t ∷ ts) p q before behind =
-      (x : ℕ) × (y : ℕ) × (next : List Kind) × Pushes code site (length before) (i.Load (pos (level_of s site.text)) (pos temp)) p x × TargetAt m inst t x y (Any ∷ before) next × GivesIs m inst site temp ts y q next behind
+      (x : ℕ) × (y : ℕ) × (next : List Kind) × Pushes code site (length before) (i.Load (pos (level_of s site.text)) (pos temp)) p x × TargetAt m inst site t x y (Any ∷ before) next × GivesIs m inst site temp ts y q next behind
 
   pub record ShareIs (m : Instances) (inst : ℕ) (site : Site) (ts : List Target) (p q : ℕ) (before behind : List Kind) : Type 0 where
     pub temp : ℕ
@@ -312,8 +325,8 @@ module _ (s : Source) (code : CodeOf) where
   pub record GiveIs (m : Instances) (fs : Frames) (inst : ℕ) (site : Site) (v : Val) (ts : List Target) (p q : ℕ) (before behind : List Kind) : Type 0 where
     pub temp : ℕ
     pub x : Value
-    pub like : ValAt v x
-    pub «in_use» : temp < site.used
+    pub like : ValAt s code m v x
+    pub last : site.used ≡ suc temp
     pub is_temp : TempIs site temp
     pub holds : placed fs inst temp ≡ Some x
     pub gives : GivesIs m inst site temp ts p q before behind

@@ -29,7 +29,7 @@ use Rattle.sim_meaning.specs.Pending as meaning
 use Rattle.sim_meaning.specs.Steps.{go}
 use Rattle.codegen_expr.specs.Sites.{Ahead, Is, slot_of}
 use Rattle.codegen_expr.specs.CodeExpr.{one_instr, two_instr}
-use Rattle.sim_relate.proofs.Known.{Any, HandAt, Kind, StackAt, ValAt, anys, array_at, element_at, link_at, more_at, plain_at, site_at, IsImage, image_at, of_input, of_output, Runs, Settled}
+use Rattle.sim_relate.proofs.Known.{actual_at, Any, HandAt, Kind, StackAt, ValAt, anys, array_at, element_at, link_at, more_at, plain_at, site_at, IsImage, image_at, of_input, of_output, Runs, Settled}
 use Rattle.sim_relate.proofs.Trees.{OperandAt, TextIs, empty, listed}
 use Rattle.sim_relate.proofs.Relation.{ChainAt, OpAt, StateAt, WorkAt}
 use Rattle.sim_relate.proofs.Hands.{hand_finding, hand_one, hand_popping, hand_truth, hand_two, stack_length}
@@ -74,19 +74,21 @@ row_one code l o fs a below line monadic.Negate = refl
 row_one code l o fs a below line monadic.Not = refl
 
 -- related values tell the same
-pub same_plain : (v : Val) (x : Value) → ValAt v x → plain v ≡ machine.plain x
+pub same_plain : {s : Source} {code : CodeOf} {m : Instances} (v : Val) (x : Value) → ValAt s code m v x → plain v ≡ machine.plain x
 same_plain _ _ plain_at = refl
 same_plain _ _ link_at = refl
 same_plain _ _ array_at = refl
 same_plain _ _ element_at = refl
 same_plain _ _ image_at = refl
+same_plain _ _ (actual_at h) = refl
 
-pub same_array : (v : Val) (x : Value) → ValAt v x → array_in v ≡ machine.array_in x
+pub same_array : {s : Source} {code : CodeOf} {m : Instances} (v : Val) (x : Value) → ValAt s code m v x → array_in v ≡ machine.array_in x
 same_array _ _ plain_at = refl
 same_array _ _ link_at = refl
 same_array _ _ array_at = refl
 same_array _ _ element_at = refl
 same_array _ _ image_at = refl
+same_array _ _ (actual_at h) = refl
 
 pub chosen : {A : Type 0} (P : A → Type 0) (b : Bool) (x y : A) → b ≡ true → P x → P (if b then x else y)
 chosen P true x y e h = h
@@ -105,13 +107,13 @@ module _ (s : Source) (code : CodeOf) (l : Limits) (o : World) (m : Instances) (
   top = act inst pc stack b
 
   -- a value is pushed where there is room
-  pub room_is : length ks < b.block.room → nat_lt (length stack) b.room ≡ true
+  pub room_is : length ks < b.limit → nat_lt (length stack) b.room ≡ true
   room_is lt =
       let e = stack_length ks vals stack here.values in
       let roomy = here.roomy in
       grind (arith, lt, e, roomy)
 
-  pub pushes : (p : World) (x : Value) (r : Run Configuration) (go : List Value → Run Machine) → length ks < b.block.room → Alike R r (go (x ∷ stack)) → Alike R r (pushing b.room stack x p go)
+  pub pushes : (p : World) (x : Value) (r : Run Configuration) (go : List Value → Run Machine) → length ks < b.limit → Alike R r (go (x ∷ stack)) → Alike R r (pushing b.room stack x p go)
   unfolding pushing when
   pushes p x r go lt h = chosen (λ z. Alike R r z) (nat_lt (length stack) b.room) (go (x ∷ stack)) (no_rule p) (room_is lt) h
 
@@ -171,13 +173,13 @@ module _ (s : Source) (code : CodeOf) (l : Limits) (o : World) (m : Instances) (
     given_text : (texts : code.texts ≡ constants_of s) (x : TextVal) → TextIs s code (site_at t b u) (length ks) x pc q → ks' ≡ Any ∷ ks → Alike R (do_op s l o m inst w vals rest (Eval (Given (Text x)))) (on_top code l o fs top below)
     given_text texts x (listed c y) out =
         let there : slice_get code.texts x.text_frame ≡ Some c.bytes = ap (λ z. slice_get z x.text_frame) texts ∙ c.listed in
-        let same : ValAt (meaning.Of (Text x)) (machine.Of (text_value x.text_frame c.bytes)) = subst (λ z. ValAt (meaning.Of (Text x)) (machine.Of z)) c.whole plain_at in
+        let same : ValAt s code m (meaning.Of (Text x)) (machine.Of (text_value x.text_frame c.bytes)) = subst (λ z. ValAt s code m (meaning.Of (Text x)) (machine.Of z)) c.whole plain_at in
         at_row s code l o fs top below _ (i.TextK (pos x.text_frame)) y.is.line q y.is.is
         (alike_indexed x.text_frame _ _
         (alike_found Configuration Machine R (List ℕ) (slice_get code.texts x.text_frame) c.bytes o _ _ there
         (pushes o _ _ _ y.fits (onward (more_at same here.values) out y.is.is.on))))
     given_text texts x (empty e y) out =
-        let same : ValAt (meaning.Of (Text x)) (machine.Of (Text notext)) = subst (λ z. ValAt (meaning.Of (Text x)) (machine.Of (Text z))) e plain_at in
+        let same : ValAt s code m (meaning.Of (Text x)) (machine.Of (Text notext)) = subst (λ z. ValAt s code m (meaning.Of (Text x)) (machine.Of (Text z))) e plain_at in
         at_row s code l o fs top below _ i.NoText y.is.line q y.is.is (pushes o _ _ _ y.fits (onward (more_at same here.values) out y.is.is.on))
 
     pub constant : (texts : code.texts ≡ constants_of s) (v : Plain) → Follows (Eval (Given v))
@@ -228,7 +230,7 @@ module _ (s : Source) (code : CodeOf) (l : Limits) (o : World) (m : Instances) (
         let c = a.0 in
         at_row s code l o fs top below _ (i.Load (pos (level_of s c.text)) (pos (slot_of s code c.text key))) c.load.is.line q c.load.is.is
         (at_cell o (level_of s c.text) j (slot_of s code c.text key) _ _ (reached s m inst c.text j here.lives c.reaches)
-        (alike_having Configuration Machine R Val Value ValAt (cell m j key) (machine.cell fs j (slot_of s code c.text key)) o _ _ (cell_read s code m fs j c.text key here.store c.reaches.stands c.own c.has c.varies)
+        (alike_having Configuration Machine R Val Value (ValAt s code m) (cell m j key) (machine.cell fs j (slot_of s code c.text key)) o _ _ (cell_read s code m fs j c.text key here.store c.reaches.stands c.own c.has c.varies)
         (λ v x ev ex h. pushes o x _ _ c.load.fits (onward (more_at h here.values) a.1 c.load.is.is.on))))
 
     -- ---- operators on plain values

@@ -33,6 +33,7 @@ use Rattle.sim_relate.proofs.Linkages.{block_same}
 use Rattle.sim_relate.proofs.OfClass.{block_owns}
 use Rattle.sim_relate.proofs.Operations.{PrefixedOpIs}
 use Rattle.sim_relate.proofs.Relation.{ChainAt, OpAt, StateAt, WorkAt}
+use Rattle.sim_relate.proofs.Waiting.{NoValue}
 
 module _ (s : Source) (code : CodeOf) (compiled : Compiled s code) (l : Limits) (o : World) (m : Instances) (inst : ℕ) (w : List Item) (vals : List Val) (rest : List Activation) (fs : Frames) (t : ℕ) (b : Runs) (pc : ℕ) (stack : List Value) (below : List machine.Activation) (ks : List Kind) (here : Here s code m fs inst rest t b ks vals stack) (u q : ℕ) (ks' : List Kind) (low : Settled s code t b u) (work : WorkAt s code m fs (λ v. ChainAt s code m fs rest v below) inst t b u w q ks') where
   abbrev Related : Configuration → Machine → Type 0
@@ -44,15 +45,15 @@ module _ (s : Source) (code : CodeOf) (compiled : Compiled s code) (l : Limits) 
   abbrev Follows : Op → Type 0
   Follows op = OpAt s code m fs inst (site_at t b u) op pc q ks ks' → Alike Related (do_op s l o m inst w vals rest op) (on_top code l o fs top below)
 
-  module _ (g n line : ℕ) (x : ClassHas s code g) (a : PrefixedOpIs s code (site_at t b u) g n line pc q ks ks') (values : List Val) (values' : List Value) (each : EachAt ValAt values values') (vals1 : List Val) (stack1 : List Value) (left_hand : StackAt (HandAt s code m) ks' vals1 stack1) where
+  module _ (g n line : ℕ) (x : ClassHas s code g) (a : PrefixedOpIs s code (site_at t b u) g n line pc q ks ks') (values : List Val) (values' : List Value) (each : EachAt (ValAt s code m) values values') (vals1 : List Val) (stack1 : List Value) (left_hand : StackAt (HandAt s code m) ks' vals1 stack1) where
     abbrev chain : List Activation
     chain = record { instance = inst; work = w; values = vals1 } ∷ rest
 
     abbrev under : List machine.Activation
     under = waiting top stack1 ∷ below
 
-    under_there : ChainAt s code m fs chain false under
-    under_there = waits s code compiled l o m inst w vals rest fs t b pc stack below ks here u q ks' low work false ks' vals1 stack1 left_hand (λ no. absurd (cc)) refl (a.is).on
+    under_there : ChainAt s code m fs chain NoValue under
+    under_there = waits s code compiled l o m inst w vals rest fs t b pc stack below ks here u q ks' low work NoValue ks' vals1 stack1 left_hand (λ no. absurd (cc)) tt refl (a.is).on
 
     -- what the machine does with the block
     abbrev Goes : BlockOf → (start : ℕ) → Run Machine
@@ -80,13 +81,13 @@ module _ (s : Source) (code : CodeOf) (compiled : Compiled s code) (l : Limits) 
     prefixed_alike =
         subst (λ z. Alike Related (having (levels s g) o (λ xs. prefixed_entered s l o m chain g line values (Some inst) EndPrefixed xs)) (levelled code z (block_number s g) o Goes)) (x.of_block a.no_class)
         (entry_alike s code compiled l o m fs here.store here.parked g line x values values' each inst t a.stands_in here.stands (block_owns s compiled.agrees g a.prefixed) false false refl (block_begun s g (length m.instances)) (block_begun_of_code code x.block.class (length fs.instances)) begun_same EndPrefixed (NoObject None) (NoObject None) refl chain under (λ m' fs' number is. tt) under_there
-        (λ m' fs' there block t' p last at. record {
+        (λ m' fs' there block limit temps t' p last at. record {
           levels = x.levels;
           not_first = not_first s code compiled g t x.levels a.stands_in;
           was = refl;
           block = x.block;
           found = x.found;
-          ends = record { last = last; at = at; heads = block_heads; none = refl; below = there };
+          ends = record { base = (refl, refl); last = last; at = at; heads = block_heads; none = refl; below = there };
         }) Goes follows)
 
   pub prefixed_op : (k n line : ℕ) → Follows (PrefixedOp k n line)

@@ -1,5 +1,5 @@
 -- The entry of a program whose block has a prefix: the prefix gives no level, so that the block is its only one.
-use Rattle.std.proofs.Common.{◌≡◌, ◌<◌, ◌≤◌, ℕ, Bool, false, List, [], ◌∷◌, length, Option, Some, None, refl, sym, ap, ◌∙◌, subst, arith, true}
+use Rattle.std.proofs.Common.{◌+◌, ◌≡◌, ◌<◌, ◌≤◌, ℕ, Bool, false, List, [], ◌∷◌, length, Option, Some, None, refl, sym, ap, ◌∙◌, subst, arith, true}
 use Rattle.std.proofs.lemmas.List.{length-map}
 use Rattle.std.proofs.lemmas.Option.{slice_get_within}
 use Rattle.std.specs.Prelude.{pos, slice_get}
@@ -32,13 +32,13 @@ use Rattle.sim_meaning.specs.Meaning.{program_entered}
 use Rattle.sim_meaning.specs.Objects.{block_begun, cells_of_levels, levels_work}
 use Rattle.sim_meaning.specs.Pending.{Configuration, Do, EndProgram, Held, Instances, Level, PastOp}
 use Rattle.sim_meaning.specs.Texts.{PrefixedText, is_class_free, text}
-use Rattle.codegen_expr.specs.Sites.{block_number, class_in, class_number, frame_text, lined, own_end}
+use Rattle.codegen_expr.specs.Sites.{expression_temps, block_number, class_in, class_number, frame_text, lined, own_end}
 use Rattle.codegen.specs.Compiled.{Compiled, PrefixedProgramOf}
 use Rattle.sim_relate.proofs.ClassLevels.{levels_solid}
 use Rattle.sim_relate.proofs.ClassTexts.{ClassHas, class_has}
 use Rattle.sim_relate.proofs.Entering.{enters, instance_of, later_fs, later_m, new_frame, parked_entered, program_alike}
 use Rattle.sim_relate.proofs.FirstCells.{all_attributes, attributes_count, first_cells_of, made_cells}
-use Rattle.sim_relate.proofs.Known.{HasClass, Runs, Stands, is_process_in}
+use Rattle.sim_relate.proofs.Known.{Low, HasClass, Runs, Stands, is_process_in}
 use Rattle.sim_relate.proofs.LevelCode.{LevelCode, level_code, levels_frame, made_of, none_made}
 use Rattle.sim_relate.proofs.LevelEntries.{levels_laid}
 use Rattle.sim_relate.proofs.LevelLists.{levels_first}
@@ -47,8 +47,9 @@ use Rattle.sim_relate.proofs.ObjectWork.{levels_pend}
 use Rattle.sim_relate.proofs.OfClass.{alone_owns, process_is}
 use Rattle.sim_relate.proofs.Pending.{pends}
 use Rattle.sim_relate.proofs.Reach.{same_some}
-use Rattle.sim_relate.proofs.Relation.{ChainAt, StandingsAt, StateAt, StoreAt, WorkAt}
+use Rattle.sim_relate.proofs.Relation.{at_level, ChainAt, StandingsAt, StateAt, StoreAt, WorkAt}
 use Rattle.sim_relate.proofs.Stores.{new_outermost}
+use Rattle.sim_relate.proofs.Waiting.{Wait}
 
 -- the program's block may be a simulation block
 prefixed_begun : (code : CodeOf) (b : BlockOf) → b.kind ≡ block_kind.Prefixed → (p : World) → rows.program_begun code b p ≡ block_begun_of_code code b.class 0 p
@@ -68,7 +69,7 @@ module _ (s : Source) (code : CodeOf) (compiled : Compiled s code) (l : Limits) 
 
   module _ (m : Instances) (fs : Frames) (store : StoreAt s code m fs) (parked : StandingsAt s code m fs) (empty : length m.instances ≡ 0) (line : ℕ) (ds : Declarations) (ss : Statements) (x : ClassHas s code 0) (h : PrefixedProgramOf s code line ds ss x.block) where
     abbrev attributes : List Held
-    attributes = all_attributes s code compiled (levels_laid s code compiled) 0
+    attributes = all_attributes s code m compiled (levels_laid s code compiled) 0
 
     abbrev cells : Cells
     cells = machine.first_cells x.block
@@ -89,15 +90,15 @@ module _ (s : Source) (code : CodeOf) (compiled : Compiled s code) (l : Limits) 
     own = levels_frame s code compiled 0 x.levels
 
     words : words_of_block x.block ≡ words_of_cells attributes
-    words = ap (λ n. instance_words n false) (attributes_count s code compiled (levels_laid s code compiled) 0 x)
+    words = ap (λ n. instance_words n false) (attributes_count s code m compiled (levels_laid s code compiled) 0 x)
 
     stands : Stands s new_m (length m.instances) 0
     stands = new_outermost s m 0 new (NoObject None) (sym own) refl refl (ap (encloser s.tables) own ∙ compiled.agrees.outermost)
 
     abbrev runs : Runs
-    runs = record { own = 0; room = x.block.room; block = x.block; stage = stage.NoStage }
+    runs = record { own = 0; thunk = None; room = x.block.room; limit = x.block.room; temps = own_end s code 0; block = x.block; stage = stage.NoStage }
 
-    abbrev Below : Bool → Type 0
+    abbrev Below : Wait → Type 0
     Below v = ChainAt s code new_m new_fs [] v []
 
     enough_room : x.block.room ≤ x.block.room
@@ -116,10 +117,10 @@ module _ (s : Source) (code : CodeOf) (compiled : Compiled s code) (l : Limits) 
     -- the block is the only level
     module _ (x0 : Level) (xs : List Level) (first_made : level_made s 0 (text s 0) ≡ Some x0) (rest_made : levels_made s [] ≡ Some xs) where
       outermost : LevelCode s code compiled runs 0 0 x0
-      outermost = level_code s code compiled runs x.block x.found enough_room x.levels of_class 0 0 x0 (ap (λ z. slice_get z 0) levels_are) first_made
+      outermost = level_code s code compiled runs x.block x.found enough_room x.levels of_class refl 0 0 x0 (ap (λ z. slice_get z 0) levels_are) first_made
 
       abbrev begins : Runs
-      begins = record { own = 0; room = x.block.room; block = outermost.block; stage = stage.Declaring 0 }
+      begins = (at_level s code runs 0 outermost.block (stage.Declaring 0)).runs
 
       same_block : outermost.block ≡ x.block
       same_block = same_some (slice_get code.blocks (block_number s 0)) outermost.block x.block outermost.level.found x.found
@@ -131,35 +132,35 @@ module _ (s : Source) (code : CodeOf) (compiled : Compiled s code) (l : Limits) 
           let number : class_number s code 0 ≡ x.block.class = ap class_in x.found in
           ap (λ (z : ClassOf). z.declarations) (same_some (class_numbered code x.block.class) h.class outermost.class h.is.numbered (sym (ap (class_numbered code) number) ∙ outermost.level.numbered))
 
-      pending : WorkAt s code new_m new_fs Below (length m.instances) 0 begins (own_end s code 0) (levels_work (x0 ∷ xs) EndProgram) outermost.class.declarations []
+      pending : WorkAt s code new_m new_fs Below (length m.instances) 0 begins (own_end s code 0 + expression_temps) (levels_work (x0 ∷ xs) EndProgram) outermost.class.declarations []
       pending =
-          levels_pend s code compiled new_m new_fs Below (length m.instances) runs x.block x.found enough_room x.levels of_class EndProgram 0 [] x0 xs outermost levels_are rest_made
-          (λ p last at. record { first = own; last = last; at = at; none = refl; below = record { still = refl; is = refl } })
+          levels_pend s code compiled new_m new_fs Below (length m.instances) runs x.block x.found enough_room x.levels of_class refl EndProgram 0 [] x0 xs outermost levels_are rest_made
+          (λ p last at. record { base = (refl, refl); first = own; last = last; at = at; none = refl; below = record { still = refl; is = refl } })
 
-      low : own_end s code (frame_text s 0) ≤ own_end s code 0
-      low = let same = ap (own_end s code) own in omega (arith, same)
+      low : Low s code 0 begins (own_end s code 0 + expression_temps)
+      low = let same = ap (own_end s code) own in record { low = omega (arith, same); temps = sym same; full = λ n e. absurd (cc (e)) }
 
       -- a jump leads there
-      work : WorkAt s code new_m new_fs Below (length m.instances) 0 begins (own_end s code 0) (Do PastOp ∷ levels_work (x0 ∷ xs) EndProgram) x.block.entry []
+      work : WorkAt s code new_m new_fs Below (length m.instances) 0 begins (own_end s code 0 + expression_temps) (Do PastOp ∷ levels_work (x0 ∷ xs) EndProgram) x.block.entry []
       work =
           let start = h.class.declarations in
           let next = (h.enter).on in
           let ahead : x.block.entry < start = omega (arith, next) in
-          pends s code new_m new_fs Below (length m.instances) 0 begins (own_end s code 0) (record { low = low; calm = refl }) (levels_work (x0 ∷ xs) EndProgram) PastOp x.block.entry start [] []
+          pends s code new_m new_fs Below (length m.instances) 0 begins (own_end s code 0 + expression_temps) (record { at = low; calm = refl }) (levels_work (x0 ∷ xs) EndProgram) PastOp x.block.entry start [] []
           (start, record { line = line; is = h.enter }, record { forward = ahead; there = (h.level).declared_there }, refl)
-          (subst (λ z. WorkAt s code new_m new_fs Below (length m.instances) 0 begins (own_end s code 0) (levels_work (x0 ∷ xs) EndProgram) z []) (sym same_start) pending)
+          (subst (λ z. WorkAt s code new_m new_fs Below (length m.instances) 0 begins (own_end s code 0 + expression_temps) (levels_work (x0 ∷ xs) EndProgram) z []) (sym same_start) pending)
 
-      entered_state : R (record { chain = record { instance = length m.instances; work = Do PastOp ∷ levels_work (x0 ∷ xs) EndProgram; values = [] } ∷ []; memory = new_m }) (record { chain = record { thunk = false; home = length fs.instances; pc = x.block.entry; stack = []; room = x.block.room; stage = stage.Declaring 0 } ∷ []; memory = new_fs })
+      entered_state : R (record { chain = record { instance = length m.instances; work = Do PastOp ∷ levels_work (x0 ∷ xs) EndProgram; values = [] } ∷ []; memory = new_m }) (record { chain = record { thunk = None; home = length fs.instances; pc = x.block.entry; stack = []; room = x.block.room; stage = stage.Declaring 0 } ∷ []; memory = new_fs })
       entered_state =
-          let pair = instance_of s code 0 x.kind type.Nothing x.block x.has.heads x.found (x.passes (is_class_free s 0)) own (levels_solid s code compiled 0 x.levels) (levels_laid s code compiled 0 x.levels) None attributes cells (first_cells_of s code compiled (levels_laid s code compiled) 0 x) (length-map x.block.types first_value) in
-          enters s code m fs store new frame (NoObject None) (NoObject None) refl (parked_entered s code m fs store new frame (NoObject None) (NoObject None) refl tt parked) [] [] 0 begins pair
-          (ap (λ z. slice_get code.blocks (block_number s z)) own ∙ outermost.level.found) stands stands refl outermost.level.roomy (Do PastOp ∷ levels_work (x0 ∷ xs) EndProgram) (own_end s code 0) x.block.entry work
+          let pair = instance_of s code m 0 x.kind type.Nothing x.block x.has.heads x.found (x.passes (is_class_free s 0)) own (levels_solid s code compiled 0 x.levels) (levels_laid s code compiled 0 x.levels) None attributes cells (first_cells_of s code m compiled (levels_laid s code compiled) 0 x) (length-map x.block.types first_value) in
+          enters s code m fs store new frame (NoObject None) (NoObject None) refl (parked_entered s code m fs store new frame (NoObject None) (NoObject None) refl tt parked) [] [] 0 begins refl pair
+          (ap (λ z. slice_get code.blocks (block_number s z)) own ∙ outermost.level.found) stands stands refl outermost.level.roomy (Do PastOp ∷ levels_work (x0 ∷ xs) EndProgram) (own_end s code 0 + expression_temps) x.block.entry work
 
       abbrev entered : Configuration
       entered = record { chain = record { instance = length m.instances; work = Do PastOp ∷ levels_work (x0 ∷ xs) EndProgram; values = [] } ∷ []; memory = new_m }
 
       abbrev entered_frame : Machine
-      entered_frame = record { chain = record { thunk = false; home = length fs.instances; pc = x.block.entry; stack = []; room = x.block.room; stage = stage.Declaring 0 } ∷ []; memory = new_fs }
+      entered_frame = record { chain = record { thunk = None; home = length fs.instances; pc = x.block.entry; stack = []; room = x.block.room; stage = stage.Declaring 0 } ∷ []; memory = new_fs }
 
       made_alike : levels_made s (levels_of s 0) ≡ Some (x0 ∷ xs) → Alike R (Begins m line (x0 ∷ xs)) (FrameBegins fs)
       unfolding block_number

@@ -30,7 +30,7 @@ use Rattle.sim_meaning.specs.Meaning.{do_op}
 use Rattle.sim_meaning.specs.Objects.{decided}
 use Rattle.sim_meaning.specs.Pending.{Activation, Configuration, EndProcessOp, Held, Instances, Item, Val}
 use Rattle.sim_meaning.specs.Texts.{text}
-use Rattle.codegen_expr.specs.Sites.{Is, class_number}
+use Rattle.codegen_expr.specs.Sites.{class_number}
 use Rattle.codegen.specs.CodeStm.{EndOfAt, EndsAt}
 use Rattle.codegen.specs.Compiled.{Compiled}
 use Rattle.sim_relate.proofs.ClassLevels.{levels_solid}
@@ -48,7 +48,8 @@ use Rattle.sim_relate.proofs.Silent.{jumps, matched, place_at, silent, stays_row
 use Rattle.sim_relate.proofs.Simulations.{ends_told}
 use Rattle.sim_relate.proofs.Stores.{levels_same}
 use Rattle.sim_relate.proofs.Straight.{RowIs, found, pushes_on, step_at}
-use Rattle.sim_relate.proofs.Waiting.{GetsIs}
+use Rattle.sim_relate.proofs.Waiting.{NoValue, Wait, GetsIs}
+use Rattle.sim_relate.proofs.Carried.{work_flag}
 
 -- ---- rows
 
@@ -93,7 +94,7 @@ module _ (s : Source) (code : CodeOf) (compiled : Compiled s code) (l : Limits) 
   abbrev stands_at : ℕ → List Value → Machine
   stands_at p stack' = place_at code l inst b below p stack' fs
 
-  abbrev Below : Bool → Type 0
+  abbrev Below : Wait → Type 0
   Below v = ChainAt s code m fs rest v below
 
   abbrev ends : Run Configuration
@@ -129,7 +130,7 @@ module _ (s : Source) (code : CodeOf) (compiled : Compiled s code) (l : Limits) 
     at_end : (p : ℕ) (stack' : List Value) → ending_process code fs (act inst p stack' b) ≡ Some inst
     unfolding ending_process
     at_end p stack' =
-        ap (λ c. frame_if c (Some inst)) (ends_told s code compiled m fs inst rest t b ks vals stack here has_own ∙ ap (behind_process s b.own) a.was ∙ ap (is_process_level s) a.level.place_is ∙ a.process)
+        ap (λ z. ending_process code fs (record { thunk = z; home = inst; pc = p; stack = stack'; room = b.room; stage = b.stage })) a.level.base ∙ ap (λ c. frame_if c (Some inst)) (ends_told s code compiled m fs inst rest t b ks vals stack here has_own ∙ ap (behind_process s b.own) a.was ∙ ap (is_process_level s) a.level.place_is ∙ a.process)
 
     -- what is left in hand
     empty : StackAt (HandAt s code m) [] vals stack
@@ -142,12 +143,12 @@ module _ (s : Source) (code : CodeOf) (compiled : Compiled s code) (l : Limits) 
     no_stack = none_left vals stack empty
 
     -- the process waits behind its `passivate`
-    waits : (p : ℕ) → WorkAt s code m fs Below inst t b u w (suc p) [] → ChainAt s code m fs (record { instance = inst; work = w; values = vals } ∷ rest) false (act inst (suc p) [] b ∷ below)
+    waits : (p : ℕ) → WorkAt s code m fs Below inst t b u w (suc p) [] → ChainAt s code m fs (record { instance = inst; work = w; values = vals } ∷ rest) NoValue (act inst (suc p) [] b ∷ below)
     waits p later = record {
-      base = refl;
       home = refl;
       text = t;
       block = b;
+      base = refl;
       found = here.found;
       stands = here.stands;
       own = here.own;
@@ -156,9 +157,10 @@ module _ (s : Source) (code : CodeOf) (compiled : Compiled s code) (l : Limits) 
       stage = refl;
       kinds = [];
       values = subst (λ z. StackAt (HandAt s code m) [] vals z) no_stack empty;
-      gets = false;
-      gets_is = subst (λ z. GetsIs z false false) (sym here.free) refl;
+      gets = NoValue;
+      gets_is = subst (λ z. GetsIs z NoValue NoValue) (sym here.free) refl;
       fits = λ no. absurd (cc (no));
+      asked = tt;
       used = u;
       goes = later;
     }
@@ -172,7 +174,7 @@ module _ (s : Source) (code : CodeOf) (compiled : Compiled s code) (l : Limits) 
         subst (λ y. Alike R (having (located o.simulations z) o (λ x. decided m inst w rest (end_line s m inst) o (x.0, with_ended inst x.1) (Ok (passivated x.1.notices)) vals)) (Passivates code l inst b below line fs o p y)) same
         (subst (λ n. Alike R (having (located o.simulations z) o (λ x. decided m inst w rest (end_line s m inst) o (x.0, with_ended inst x.1) (Ok (passivated x.1.notices)) vals)) (Passivates code l inst b below n fs o p z)) (ap (end_line_of s) here.own ∙ at)
         (alike_same Configuration Machine R (ℕ × Simulation) (located o.simulations z) o _ _
-        (λ x. decides s code compiled o m fs here.store here.parked (end_line s m inst) _ _ (waits p later) (here.formed w vals) (x.0, with_ended inst x.1) (Ok (passivated x.1.notices))))))
+        (λ x. decides s code compiled o m fs here.store here.parked (end_line s m inst) _ _ (waits p later) (here.formed w vals (work_flag s code m fs Below inst t b u w (suc p) [] later)) (x.0, with_ended inst x.1) (Ok (passivated x.1.notices))))))
 
     same_number : (x y : ℕ) → (x == y) ≡ true → x ≡ y
     same_number x y e = grind (arith, e)

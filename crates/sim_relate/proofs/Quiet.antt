@@ -1,5 +1,5 @@
 -- Steps of the program that the machine makes no step for, and how many of them there can be in a row.
-use Rattle.std.proofs.Common.{◌≡◌, ℕ, suc, Bool, List, [], ◌∷◌, length, Option, refl, sym, ap, ◌∙◌, subst, arith}
+use Rattle.std.proofs.Common.{◌≡◌, ℕ, suc, List, [], ◌∷◌, length, Option, refl, sym, ap, ◌∙◌, subst, arith}
 use Rattle.sim_scope.specs.Source.{Source}
 use Rattle.sim_tree.specs.Syntax.{Also, Arrayed, Arrays, BoundPair, Declarations, DeclareClass, DeclareProcedure, Element, NoDeclaration, NoStatement, Statement, Statements, Variables, With}
 use Rattle.sim_tree.specs.declared.expr.Identifier.{Identifier}
@@ -12,15 +12,17 @@ use Rattle.sim_values.specs.declared.standard.Standard.{Standard}
 use Rattle.sim_code.specs.Code.{CodeOf}
 use Rattle.sim_code.specs.Machine.{Frames}
 use Rattle.sim_code.specs.Transfers.{Transfer}
-use Rattle.sim_meaning.specs.Closing.{close}
+use Rattle.sim_meaning.specs.Closing.{close, close_actual}
 use Rattle.sim_meaning.specs.Entries.{arrays_declared, arrays_of, bounds_of, segments_of}
-use Rattle.sim_meaning.specs.Pending.{Activation, DeclareOp, AttributeOf, AttributeOp, CallOp, FitsOf, FitsOp, KeepOp, KeptOf, Key, MemberOf, MemberOp, NotNoneOf, NotNoneOp, ObjectOp, QuaOf, QuaOp, QualifiedElementOf, QualifiedElementOp, ReferOp, RemoteCallOf, SetOf, SetOp, StoreOp, SwapOp, ToAddress, ToPlace, ToReference, ToReferenceAt, CallOf, Cell, Configuration, CopyOf, CopyOp, Do, Either, ElementOf, ElementOp, ElementsOp, Eval, Exec, Execs, FetchOp, Further, GiveOp, Given, IfOp, ImageOf, Instances, Item, JoinOp, Joined, NoTerm, One, OneOp, Op, PlaceOf, RaiseOp, StandardOf, StandardOp, Target, Term, Terms, TransferOf, TransferOp, Two, TwoOp, Val, ValueAt, ProcessOf, ProcessOp, VirtualOf, VirtualOp, CheckOp, CallValueOp}
+use Rattle.sim_meaning.specs.Pending.{Activation, CloseOp, DeclareOp, ForPlace, ForValue, NamedOf, NamedOp, ToNamed, Use, AttributeOf, AttributeOp, CallOp, FitsOf, FitsOp, KeepOp, KeptOf, Key, MemberOf, MemberOp, NotNoneOf, NotNoneOp, ObjectOp, QuaOf, QuaOp, QualifiedElementOf, QualifiedElementOp, ReferOp, RemoteCallOf, SetOf, SetOp, StoreOp, SwapOp, ToAddress, ToPlace, ToReference, ToReferenceAt, CallOf, Cell, Configuration, CopyOf, CopyOp, Do, Either, ElementOf, ElementOp, ElementsOp, Eval, Exec, Execs, FetchOp, Further, GiveOp, Given, IfOp, ImageOf, Instances, Item, JoinOp, Joined, NoTerm, One, OneOp, Op, PlaceOf, RaiseOp, StandardOf, StandardOp, Target, Term, Terms, TransferOf, TransferOp, Two, TwoOp, Val, ValueAt, ProcessOf, ProcessOp, VirtualOf, VirtualOp, CheckOp, CallValueOp}
 use Rattle.sim_meaning.specs.Steps.{count, each}
 use Rattle.sim_meaning.specs.Texts.{kind_named, text}
 use Rattle.sim_relate.proofs.Pending.{anys_more, each_pends, each_reads, evals, pends}
-use Rattle.sim_relate.proofs.Known.{Any, Kind, OwnerOf, Refers, given, leaves_as, text_gives, anys, site_at, AllRead, Runs, Settled, MatchOf}
+use Rattle.sim_relate.proofs.Known.{Any, Kind, OwnerOf, Refers, given, leaves_as, leaving, text_gives, anys, site_at, AllRead, Runs, Settled, MatchOf}
 use Rattle.sim_relate.proofs.Trees.{OperandAt}
+use Rattle.sim_relate.proofs.Operations.{of_class}
 use Rattle.sim_relate.proofs.Relation.{BeginsAt, OpAt, WorkAt, straight}
+use Rattle.sim_relate.proofs.Waiting.{Wait, kind_used}
 
 -- ---- how much is taken apart before the next step of both
 
@@ -52,6 +54,7 @@ abbrev mutual
   opened (SetOf name ts) = suc (opened_first ts)
   opened (VirtualOf a v n line) = suc (opened a)
   opened (ProcessOf name line a) = suc (opened a)
+  opened (NamedOf j key wanted) = 1
   opened _ = 0
 
   pub opened_first : Terms → ℕ
@@ -80,6 +83,7 @@ given_left (t ∷ ts) rest = 0
 -- a reference, and a variable that is found anew
 abbrev pub stored_first : Target → ℕ
 stored_first (ToReference line) = 1
+stored_first (ToNamed k line) = 1
 stored_first (ToPlace a) = suc (opened a)
 stored_first (ToReferenceAt a line) = suc (opened a)
 stored_first _ = 0
@@ -111,6 +115,7 @@ op_weight s m i (Execs ss) rest = begun_all ss rest
 op_weight s m i (GiveOp v ts) rest = given_left ts rest
 op_weight s m i (StoreOp t) rest = stored_first t
 op_weight s m i (ElementsOp t es a) rest = elements_begun s m i es rest
+op_weight s m i (CloseOp e) rest = suc (opened (close_actual s m i e))
 op_weight s m i (DeclareOp ds) rest = suc (arrays_begun s m i ds rest)
 op_weight s m i (RaiseOp t line step limit a) rest = suc (opened (close s m i step))
 op_weight s m i _ rest = 0
@@ -151,7 +156,7 @@ each_weight s m i (Further t ts) w e = refl
 
 -- ---- what is pending then
 
-module _ (s : Source) (code : CodeOf) (m : Instances) (fs : Frames) (Below : Bool → Type 0) (inst t : ℕ) (b : Runs) (u : ℕ) (low : Settled s code t b u) (w : List Item) (p q : ℕ) (ks ks' : List Kind) (k : WorkAt s code m fs Below inst t b u w q ks') where
+module _ (s : Source) (code : CodeOf) (m : Instances) (fs : Frames) (Below : Wait → Type 0) (inst t : ℕ) (b : Runs) (u : ℕ) (low : Settled s code t b u) (w : List Item) (p q : ℕ) (ks ks' : List Kind) (k : WorkAt s code m fs Below inst t b u w q ks') where
   abbrev Pends : List Item → ℕ → List Kind → Type 0
   Pends x place before = WorkAt s code m fs Below inst t b u x place before
 
@@ -270,6 +275,15 @@ module _ (s : Source) (code : CodeOf) (m : Instances) (fs : Frames) (Below : Boo
   pub process_opened : (name : Standard) (line : ℕ) (x : Term) → Becomes (Do (Eval x) ∷ Do (ProcessOp name line) ∷ w) (Eval (ProcessOf name line x))
   process_opened name line x a = let y = a.0 in opens x (ProcessOp name line) y.0 y.1 (record { is = y.2; left = ks; «in» = refl; out = a.1 })
 
+  -- ---- parameters by name
+
+  used_leaves : (j : ℕ) (key : Key) (wanted : Use) → leaving s (NamedOf j key wanted) ks ≡ kind_used wanted ∷ ks
+  used_leaves j key (ForValue class line) = refl
+  used_leaves j key (ForPlace value_too line) = refl
+
+  pub named_opened : (j : ℕ) (key : Key) (wanted : Use) → Becomes (Do (NamedOp j key wanted) ∷ w) (Eval (NamedOf j key wanted))
+  named_opened j key wanted a = puts w (NamedOp j key wanted) p q ks ks' (record { is = a.0; out = a.1 ∙ used_leaves j key wanted }) k
+
   -- ---- sets
 
   pub set_opened : (name : Standard) (ts : Terms) → Becomes (each ts (Do (SetOp name) ∷ w)) (Eval (SetOf name ts))
@@ -282,6 +296,10 @@ module _ (s : Source) (code : CodeOf) (m : Instances) (fs : Frames) (Below : Boo
   -- a reference goes where its address leads
   pub reference_stored : (line : ℕ) → Becomes (Do (ReferOp line) ∷ w) (StoreOp (ToReference line))
   reference_stored line a = puts w (ReferOp line) p q ks ks' a k
+
+  -- and so to where a parameter by name lies, when it is held against the class of that
+  pub named_stored : (c line : ℕ) → Becomes (Do (FitsOp c line) ∷ Do (ReferOp line) ∷ w) (StoreOp (ToNamed c line))
+  named_stored c line a = puts (Do (ReferOp line) ∷ w) (FitsOp c line) p a.x ks ks a.fits (puts w (ReferOp line) a.x q ks ks' a.put k)
 
   -- a variable is found anew
   pub place_stored : (x : Term) → Becomes (Do (Eval x) ∷ Do SwapOp ∷ Do (StoreOp ToAddress) ∷ w) (StoreOp (ToPlace x))
@@ -300,7 +318,7 @@ module _ (s : Source) (code : CodeOf) (m : Instances) (fs : Frames) (Below : Boo
       subst (λ z. Pends (Do (Eval x) ∷ Do SwapOp ∷ Do (ReferOp line) ∷ w) p z) (sym a.«in»)
       (puts (Do SwapOp ∷ Do (ReferOp line) ∷ w) (Eval x) p a.x (Any ∷ ks') (Refers c ∷ Any ∷ ks') (a.place, a.is_place (Any ∷ ks'))
       (puts (Do (ReferOp line) ∷ w) SwapOp a.x a.y (Refers c ∷ Any ∷ ks') (Any ∷ Refers c ∷ ks') (record { is = a.under; first = Refers c; left = ks'; «in» = refl; out = refl })
-      (puts w (ReferOp line) a.y q (Any ∷ Refers c ∷ ks') ks' (record { is = a.put; class = c; is_class = h.1; left = ks'; «in» = refl; out = refl }) k)))
+      (puts w (ReferOp line) a.y q (Any ∷ Refers c ∷ ks') ks' (record { is = a.put; place = Refers c; refers = of_class h.1; left = ks'; «in» = refl; out = refl }) k)))
 
   -- ---- statements
 

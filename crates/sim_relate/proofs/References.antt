@@ -1,6 +1,6 @@
 -- Objects and references: attributes, classes that are tested, and references that are held against their classes.
 use Rattle.std.proofs.Common.{◌≡◌, ℕ, suc, Bool, true, false, List, ◌∷◌, Option, Some, None, refl, sym, ap, ◌∙◌, subst}
-use Rattle.std.specs.Prelude.{pos}
+use Rattle.std.specs.Prelude.{⊤, pos}
 use Rattle.sim_base.specs.declared.limits.Limits.{Limits}
 use Rattle.sim_scope.specs.Source.{Source, level_of}
 use Rattle.sim_tree.specs.declared.expr.Membership.{Membership}
@@ -13,29 +13,29 @@ use Rattle.sim_code.specs.Arrays.{element_set, keeping_array, live_array}
 use Rattle.sim_code.specs.Events.{choosing, having, pop_object, pop_plain, popping, qualifying, referring, not_nothing, pop_reference}
 use Rattle.sim_code.specs.Machine.{Frames, Machine, Value}
 use Rattle.sim_code.specs.Machine as machine
+use Rattle.sim_code.specs.Instances.{CellPlace, ElementPlace, ImagePlace, Place}
 use Rattle.sim_code.specs.Outcome.{ArrayOf, Going, Run, World}
 use Rattle.sim_code.specs.Rows.{on_top}
 use Rattle.sim_code.specs.Rows as rows
 use Rattle.sim_code.proofs.Lifts.{alike_having, alike_choosing, alike_found, alike_passes, alike_same, alike_stopping, alike_unruled}
 use Rattle.sim_code.proofs.Simulation.{Alike}
-use Rattle.sim_meaning.specs.Levels.{belongs, has_procedure, is_in, is_in_any, is_of, main_belongs, stands_in}
+use Rattle.sim_meaning.specs.Levels.{belongs, has_procedure, is_in, is_in_any, main_belongs, stands_in}
 use Rattle.sim_meaning.specs.Meaning.{do_op}
 use Rattle.sim_meaning.specs.Objects.{is_member, putting_reference}
 use Rattle.sim_meaning.specs.Pending.{Activation, AttributeOp, Configuration, Declared, Eval, QualifiedPlaceOf, Instances, Item, KeepOp, Key, MemberOp, NotNoneOp, ObjectOp, Op, QuaOp, QualifiedElementOp, ReferOp, SwapOp, Val, array_in, cell_set, place_in, plain}
 use Rattle.sim_meaning.specs.Pending as meaning
 use Rattle.sim_meaning.specs.Sane.{AllName, Names}
 use Rattle.sim_meaning.specs.Steps.{go}
-use Rattle.sim_meaning.specs.Texts.{text}
 use Rattle.codegen_expr.specs.Sites.{class_number, slot_of}
 use Rattle.codegen.specs.Compiled.{Compiled}
 use Rattle.sim_relate.proofs.Assigns.{wrote_on}
-use Rattle.sim_relate.proofs.ClassLevels.{class_levels, counts, number_is}
-use Rattle.sim_relate.proofs.ClassTexts.{class_has}
+use Rattle.sim_relate.proofs.Admitting.{admitting_alike, number_found}
 use Rattle.sim_relate.proofs.Hands.{hand_finding, hand_popping}
 use Rattle.sim_relate.proofs.Here.{Here, act, at_row, kinds_as}
-use Rattle.sim_relate.proofs.Known.{Any, Every, RefersAt, FixedOf, Located, Refers, is_fixed, kind_unless, HandAt, Kind, Runs, StackAt, ValAt, anys, array_at, element_at, image_at, link_at, more_at, plain_at, refers_cell, refers_element, site_at, Settled, IsReference}
+use Rattle.sim_relate.proofs.Known.{NamedAt, actual_at, named_place, named_reference, named_value, Any, Every, RefersAt, FixedOf, Located, Refers, is_fixed, kind_unless, HandAt, Kind, Runs, StackAt, ValAt, anys, array_at, element_at, image_at, link_at, more_at, plain_at, refers_cell, refers_element, site_at, Settled, IsReference}
 use Rattle.sim_relate.proofs.Living.{reached}
-use Rattle.sim_relate.proofs.ObjectsHere.{ObjectHere, class_named, in_class_same, is_of_same, main_in_same, main_is_same, named_in_same, object_here, object_in_same, of_text}
+use Rattle.sim_relate.proofs.Operations.{IsReferred, by_name, of_class}
+use Rattle.sim_relate.proofs.ObjectsHere.{ObjectHere, class_named, in_class_same, is_of_same, main_in_same, main_is_same, named_in_same, object_here, of_text}
 use Rattle.sim_relate.proofs.Operators.{alike_indexed, at_cell, onward, pushes, same_array, same_plain}
 use Rattle.sim_relate.proofs.Pending.{anys_more}
 use Rattle.sim_relate.proofs.Relation.{ChainAt, Changed, OpAt, StateAt, WorkAt}
@@ -63,7 +63,7 @@ module _ (s : Source) (code : CodeOf) (coding : Compiled s code) (l : Limits) (o
   object_named j n = object_here s code coding m fs here.store j n
 
   -- the reference on top: none is E6
-  referred_on : (line : ℕ) (v : Val) (x : Value) (r : ℕ → Run Configuration) (z : ℕ → Run Machine) → ValAt v x → Names s m v → ((j : ℕ) → Names s m (meaning.Of (Object j)) → Alike R (r j) (z j)) → Alike R (having (plain v) o (λ p. referring line p o r)) (having (machine.plain x) o (λ p. referring line p o z))
+  referred_on : (line : ℕ) (v : Val) (x : Value) (r : ℕ → Run Configuration) (z : ℕ → Run Machine) → ValAt s code m v x → Names s m v → ((j : ℕ) → Names s m (meaning.Of (Object j)) → Alike R (r j) (z j)) → Alike R (having (plain v) o (λ p. referring line p o r)) (having (machine.plain x) o (λ p. referring line p o z))
   unfolding having referring
   referred_on line _ _ r z (plain_at {p = Object j}) n f = f j n
   referred_on line _ _ r z (plain_at {p = Nothing}) n f = alike_stopping Configuration Machine R _ o
@@ -76,6 +76,7 @@ module _ (s : Source) (code : CodeOf) (coding : Compiled s code) (l : Limits) (o
   referred_on line _ _ r z array_at n f = alike_unruled Configuration Machine R o _
   referred_on line _ _ r z element_at n f = alike_unruled Configuration Machine R o _
   referred_on line _ _ r z image_at n f = alike_unruled Configuration Machine R o _
+  referred_on line _ _ r z (actual_at h) n f = alike_unruled Configuration Machine R o _
 
   pub pops_object : (line : ℕ) (left : List Kind) (r : ℕ → List Val → Run Configuration) (z : ℕ → List Value → Run Machine) → ks ≡ anys 1 left → ((j : ℕ) (vals' : List Val) (stack' : List Value) → Names s m (meaning.Of (Object j)) → StackAt (HandAt s code m) left vals' stack' → Alike R (r j vals') (z j stack')) → Alike R (pop_object plain line vals o r) (pop_object machine.plain line stack o z)
   unfolding pop_object pop_plain
@@ -84,7 +85,7 @@ module _ (s : Source) (code : CodeOf) (coding : Compiled s code) (l : Limits) (o
       (λ v x vals' stack' ev ex h hs. referred_on line v x (λ j. r j vals') (λ j. z j stack') h (named v vals' ev) (λ j n. f j vals' stack' n hs))
 
   -- a reference that is none, or names an object or a main program
-  told_on : (line : ℕ) (v : Val) (x : Value) (r : Plain → Run Configuration) (z : Plain → Run Machine) → ValAt v x → Names s m v → ((p : Plain) → Names s m (meaning.Of p) → IsReference p → Alike R (r p) (z p)) → Alike R (having (plain v) o (λ p. not_nothing line p o (r p))) (having (machine.plain x) o (λ p. not_nothing line p o (z p)))
+  told_on : (line : ℕ) (v : Val) (x : Value) (r : Plain → Run Configuration) (z : Plain → Run Machine) → ValAt s code m v x → Names s m v → ((p : Plain) → Names s m (meaning.Of p) → IsReference p → Alike R (r p) (z p)) → Alike R (having (plain v) o (λ p. not_nothing line p o (r p))) (having (machine.plain x) o (λ p. not_nothing line p o (z p)))
   unfolding having not_nothing
   told_on line _ _ r z (plain_at {p = Object j}) n f = f (Object j) n tt
   told_on line _ _ r z (plain_at {p = MainOf j}) n f = f (MainOf j) n tt
@@ -97,6 +98,7 @@ module _ (s : Source) (code : CodeOf) (coding : Compiled s code) (l : Limits) (o
   told_on line _ _ r z array_at n f = alike_unruled Configuration Machine R o _
   told_on line _ _ r z element_at n f = alike_unruled Configuration Machine R o _
   told_on line _ _ r z image_at n f = alike_unruled Configuration Machine R o _
+  told_on line _ _ r z (actual_at h) n f = alike_unruled Configuration Machine R o _
 
   pops_reference : (line : ℕ) (left : List Kind) (r : Plain → List Val → Run Configuration) (z : Plain → List Value → Run Machine) → ks ≡ anys 1 left → ((p : Plain) (vals' : List Val) (stack' : List Value) → Names s m (meaning.Of p) → IsReference p → StackAt (HandAt s code m) left vals' stack' → Alike R (r p vals') (z p stack')) → Alike R (pop_reference plain line vals o r) (pop_reference machine.plain line stack o z)
   unfolding pop_reference pop_plain
@@ -105,7 +107,7 @@ module _ (s : Source) (code : CodeOf) (coding : Compiled s code) (l : Limits) (o
       (λ v x vals' stack' ev ex h hs. told_on line v x (λ p. r p vals') (λ p. z p stack') h (named v vals' ev) (λ p n i. f p vals' stack' n i hs))
 
   -- the object on top, where the machine lets a main program go on too
-  object_told : (line : ℕ) (v : Val) (x : Value) (r : ℕ → Run Configuration) (z : Plain → Run Machine) → ValAt v x → Names s m v → ((j : ℕ) → Names s m (meaning.Of (Object j)) → Alike R (r j) (z (Object j))) → Alike R (having (plain v) o (λ p. referring line p o r)) (having (machine.plain x) o (λ p. not_nothing line p o (z p)))
+  object_told : (line : ℕ) (v : Val) (x : Value) (r : ℕ → Run Configuration) (z : Plain → Run Machine) → ValAt s code m v x → Names s m v → ((j : ℕ) → Names s m (meaning.Of (Object j)) → Alike R (r j) (z (Object j))) → Alike R (having (plain v) o (λ p. referring line p o r)) (having (machine.plain x) o (λ p. not_nothing line p o (z p)))
   unfolding having referring not_nothing
   object_told line _ _ r z (plain_at {p = Object j}) n f = f j n
   object_told line _ _ r z (plain_at {p = Nothing}) n f = alike_stopping Configuration Machine R _ o
@@ -118,6 +120,7 @@ module _ (s : Source) (code : CodeOf) (coding : Compiled s code) (l : Limits) (o
   object_told line _ _ r z array_at n f = alike_unruled Configuration Machine R o _
   object_told line _ _ r z element_at n f = alike_unruled Configuration Machine R o _
   object_told line _ _ r z image_at n f = alike_unruled Configuration Machine R o _
+  object_told line _ _ r z (actual_at h) n f = alike_unruled Configuration Machine R o _
 
   tests_object : (line : ℕ) (left : List Kind) (r : ℕ → List Val → Run Configuration) (z : Plain → List Value → Run Machine) → ks ≡ anys 1 left → ((j : ℕ) (vals' : List Val) (stack' : List Value) → Names s m (meaning.Of (Object j)) → StackAt (HandAt s code m) left vals' stack' → Alike R (r j vals') (z (Object j) stack')) → Alike R (pop_object plain line vals o r) (pop_reference machine.plain line stack o z)
   unfolding pop_object pop_reference pop_plain
@@ -126,16 +129,8 @@ module _ (s : Source) (code : CodeOf) (coding : Compiled s code) (l : Limits) (o
       (λ v x vals' stack' ev ex h hs. object_told line v x (λ j. r j vals') (λ p. z p stack') h (named v vals' ev) (λ j n. f j vals' stack' n hs))
 
   -- the class of an address
-  by_number : (c n : ℕ) → class_number s code c ≡ suc n → Classed s c → (r : Run Configuration) (z : ℕ → Run Machine) → Alike R r (z (class_number s code c)) → Alike R r (rows.qualified code (pos (class_number s code c)) o z)
-  by_number c n e h r z f =
-      let named : classes.class_named code (pos (suc n)) ≡ Some (class_number s code c) = subst (λ y. classes.class_named code (pos y) ≡ Some (class_number s code c)) e (class_named s code coding m fs here.store c h) in
-      subst (λ y. Alike R r (rows.qualified code (pos y) o z)) (sym e) (alike_found Configuration Machine R ℕ (classes.class_named code (pos (suc n))) (class_number s code c) o r z named f)
-
   qualified_found : (c : ℕ) → Classed s c → (r : Run Configuration) (z : ℕ → Run Machine) → Alike R r (z (class_number s code c)) → Alike R r (rows.qualified code (pos (class_number s code c)) o z)
-  qualified_found c h r z f =
-      let x = class_has s code coding c (class_levels s code coding c h) in
-      let n = counts s code coding c x in
-      by_number c n.0 (number_is s code coding c x ∙ n.1) h r z f
+  qualified_found c h r z f = number_found s code coding o m fs here.store c h r z f
 
   -- ---- objects that are detached
 
@@ -191,7 +186,7 @@ module _ (s : Source) (code : CodeOf) (coding : Compiled s code) (l : Limits) (o
   none_same membership.Is c = refl
   none_same membership.In c = refl
 
-  tested_on : (member : Membership) (c : ℕ) → Classed s c → (v : Val) (x : Value) (r : Bool → Run Configuration) (z : Bool → Run Machine) → ValAt v x → Names s m v → ((e : Bool) → Alike R (r e) (z e)) → Alike R (having (plain v) o (λ p. having (is_member s m member c p) o r)) (having (machine.plain x) o (λ p. having (machine_member member (class_number s code c) p) o z))
+  tested_on : (member : Membership) (c : ℕ) → Classed s c → (v : Val) (x : Value) (r : Bool → Run Configuration) (z : Bool → Run Machine) → ValAt s code m v x → Names s m v → ((e : Bool) → Alike R (r e) (z e)) → Alike R (having (plain v) o (λ p. having (is_member s m member c p) o r)) (having (machine.plain x) o (λ p. having (machine_member member (class_number s code c) p) o z))
   unfolding having
   tested_on member c h _ _ r z (plain_at {p = Object j}) n f = alike_found Configuration Machine R Bool (machine_member member (class_number s code c) (Object j)) (belongs s m member c j) o _ _ (member_same member c j h n) (f (belongs s m member c j))
   tested_on member c h _ _ r z (plain_at {p = MainOf j}) n f = alike_found Configuration Machine R Bool (machine_member member (class_number s code c) (MainOf j)) (main_belongs s m member c j) o _ _ (main_same member c j h n) (f (main_belongs s m member c j))
@@ -204,6 +199,7 @@ module _ (s : Source) (code : CodeOf) (coding : Compiled s code) (l : Limits) (o
   tested_on member c h _ _ r z array_at n f = alike_unruled Configuration Machine R o _
   tested_on member c h _ _ r z element_at n f = alike_unruled Configuration Machine R o _
   tested_on member c h _ _ r z image_at n f = alike_unruled Configuration Machine R o _
+  tested_on member c h _ _ r z (actual_at y) n f = alike_unruled Configuration Machine R o _
 
   pub member : (x : Membership) (c : ℕ) → Follows (MemberOp x c)
   unfolding pop_plain
@@ -224,7 +220,7 @@ module _ (s : Source) (code : CodeOf) (coding : Compiled s code) (l : Limits) (o
 
   -- ---- values in hand
 
-  kept_on : (v : Val) (x : Value) (vals' : List Val) (stack' : List Value) (left : List Kind) → ValAt v x → StackAt (HandAt s code m) left vals' stack' → ks' ≡ anys 1 left → q ≡ suc pc
+  kept_on : (v : Val) (x : Value) (vals' : List Val) (stack' : List Value) (left : List Kind) → ValAt s code m v x → StackAt (HandAt s code m) left vals' stack' → ks' ≡ anys 1 left → q ≡ suc pc
       → Alike R (having (array_in v) o (λ array. keeping_array array o (λ p. go p m inst w (meaning.ArrayValue array ∷ vals') rest))) (having (machine.array_in x) o (λ array. keeping_array array o (λ p. machine.on p fs top (x ∷ stack') below)))
   unfolding having keeping_array
   kept_on _ _ vals' stack' left (array_at {a}) hs e place = alike_same Configuration Machine R ArrayOf (live_array o a) o _ _ (λ y. on_with (more_at array_at hs) e place)
@@ -232,6 +228,7 @@ module _ (s : Source) (code : CodeOf) (coding : Compiled s code) (l : Limits) (o
   kept_on _ _ vals' stack' left link_at hs e place = alike_unruled Configuration Machine R o _
   kept_on _ _ vals' stack' left element_at hs e place = alike_unruled Configuration Machine R o _
   kept_on _ _ vals' stack' left image_at hs e place = alike_unruled Configuration Machine R o _
+  kept_on _ _ vals' stack' left (actual_at h) hs e place = alike_unruled Configuration Machine R o _
 
   pub keep : Follows KeepOp
   keep y =
@@ -305,31 +302,6 @@ module _ (s : Source) (code : CodeOf) (coding : Compiled s code) (l : Limits) (o
 
   -- ---- references go where they belong
 
-  -- a reference may stand where those of a class stand, or E7
-  admitted_on : (c line : ℕ) → Classed s c → (p : Plain) → Names s m (meaning.Of p) → (r : Run Configuration) (z : Run Machine) → Alike R r z → Alike R (qualifying line (stands_in s m c) p o r) (classes.qualifying line (classes.may_stand code fs (class_number s code c) (Some p)) o z)
-  unfolding qualifying having choosing
-  admitted_on c line h (Object j) n r z f =
-      alike_found Configuration Machine R Bool (classes.in_class code fs (class_number s code c) j) (stands_in s m c (Object j)) o _ _ (object_in_same s code coding m fs here.store j c n h) (alike_choosing Configuration Machine R (stands_in s m c (Object j)) r _ z _ f (alike_stopping Configuration Machine R _ o))
-  admitted_on c line h (MainOf j) n r z f =
-      alike_found Configuration Machine R Bool (classes.main_in_class code fs (class_number s code c) j) (stands_in s m c (MainOf j)) o _ _ (main_in_same s code coding m fs here.store j c n h) (alike_choosing Configuration Machine R (stands_in s m c (MainOf j)) r _ z _ f (alike_stopping Configuration Machine R _ o))
-  admitted_on c line h Nothing n r z f = f
-  admitted_on c line h (Integer x) n r z f = alike_unruled Configuration Machine R o _
-  admitted_on c line h (Truth x) n r z f = alike_unruled Configuration Machine R o _
-  admitted_on c line h (Character x) n r z f = alike_unruled Configuration Machine R o _
-  admitted_on c line h (Text x) n r z f = alike_unruled Configuration Machine R o _
-
-  -- where the class of an address is one
-  admitting_on : (c line : ℕ) → Classed s c → (p : Plain) → Names s m (meaning.Of p) → (r : Run Configuration) (z : Run Machine) → Alike R r z → Alike R (qualifying line (stands_in s m c) p o r) (classes.admitting code fs line (class_number s code c) (machine.Of p) o z)
-  admitting_on c line h p n r z f =
-      let x = class_has s code coding c (class_levels s code coding c h) in
-      let y = counts s code coding c x in
-      by_count y.0 (number_is s code coding c x ∙ y.1)
-    where
-      by_count : (i : ℕ) → class_number s code c ≡ suc i → Alike R (qualifying line (stands_in s m c) p o r) (classes.admitting code fs line (class_number s code c) (machine.Of p) o z)
-      by_count i e =
-          subst (λ d. Alike R (qualifying line (stands_in s m c) p o r) (classes.admitting code fs line d (machine.Of p) o z)) (sym e)
-          (subst (λ d. Alike R (qualifying line (stands_in s m c) p o r) (classes.qualifying line (classes.may_stand code fs d (Some p)) o z)) e (admitted_on c line h p n r z f))
-
   -- a reference is put where an address leads
   abbrev meaning_refers : (line : ℕ) → Val → Plain → List Val → Run Configuration
   meaning_refers line v p vals2 = having (place_in v) o (λ place. putting_reference s line place p o m (λ o m. go o m inst w vals2 rest))
@@ -340,25 +312,58 @@ module _ (s : Source) (code : CodeOf) (coding : Compiled s code) (l : Limits) (o
   refers_to : (line c : ℕ) → Classed s c → (p : Plain) → Names s m (meaning.Of p) → (v : Val) (x : Value) (vals2 : List Val) (stack2 : List Value) → RefersAt s code m c v x → StackAt (HandAt s code m) ks' vals2 stack2 → q ≡ suc pc → Alike R (meaning_refers line v p vals2) (machine_refers line x p stack2)
   unfolding having putting_reference rows.putting
   refers_to line c h p n _ _ vals2 stack2 (refers_cell {j} {t = z} {key} st own has varies declared) hs place =
-      admitting_on c line h p n _ _
+      admitting_alike s code coding o m fs here.store c h line p n _ _
       (alike_having Configuration Machine R Instances Frames (Changed s code Every m fs) (cell_set m j key (meaning.Of p)) (machine.cell_set fs j (slot_of s code z key) (machine.Of p)) o _ _ (cell_write s code m fs j z key (meaning.Of p) (machine.Of p) here.store st own has varies declared plain_at)
       (λ m' fs' em efs r. wrote_on s code l o m inst w vals rest fs t b pc stack below ks here u q ks' low k m' fs' r ks' hs refl place))
   refers_to line c h p n _ _ vals2 stack2 (refers_element {a} {n = e}) hs place =
-      admitting_on c line h p n _ _ (alike_same Configuration Machine R World (element_set o a e p) o _ _ (λ p. on_with hs refl place))
+      admitting_alike s code coding o m fs here.store c h line p n _ _ (alike_same Configuration Machine R World (element_set o a e p) o _ _ (λ p. on_with hs refl place))
 
-  refers_on : (line c : ℕ) → Classed s c → (v : Val) (x : Value) (vals1 : List Val) (stack1 : List Value) → ValAt v x → Names s m v → StackAt (HandAt s code m) (Refers c ∷ ks') vals1 stack1 → q ≡ suc pc
+  -- what has no class has no rule here
+  abbrev WithoutClass : Place Key (Option ℕ) → Type 0
+  WithoutClass (CellPlace j key class) = class ≡ None
+  WithoutClass (ElementPlace a n class) = class ≡ None
+  WithoutClass (ImagePlace n) = ⊤
+
+  unclassed : (line : ℕ) (p : Plain) (place : Place Key (Option ℕ)) (z : Run Machine) (vals2 : List Val) → WithoutClass place → Alike R (meaning_refers line (meaning.Address place) p vals2) z
+  unfolding having putting_reference
+  unclassed line p (CellPlace j key None) z vals2 e = alike_unruled Configuration Machine R o _
+  unclassed line p (CellPlace j key (Some k)) z vals2 e = absurd (cc (e))
+  unclassed line p (ElementPlace a n None) z vals2 e = alike_unruled Configuration Machine R o _
+  unclassed line p (ElementPlace a n (Some k)) z vals2 e = absurd (cc (e))
+  unclassed line p (ImagePlace n) z vals2 e = alike_unruled Configuration Machine R o _
+
+  value_refers : (line : ℕ) (p : Plain) (v : Val) (x : Value) (vals2 : List Val) (z : Run Machine) → ValAt s code m v x → Alike R (meaning_refers line v p vals2) z
+  unfolding having
+  value_refers line p _ _ vals2 z plain_at = alike_unruled Configuration Machine R o _
+  value_refers line p _ _ vals2 z link_at = alike_unruled Configuration Machine R o _
+  value_refers line p _ _ vals2 z array_at = alike_unruled Configuration Machine R o _
+  value_refers line p _ _ vals2 z (element_at {a} {n}) = unclassed line p (ElementPlace a n None) z vals2 refl
+  value_refers line p _ _ vals2 z (image_at {n}) = unclassed line p (ImagePlace n) z vals2 tt
+  value_refers line p _ _ vals2 z (actual_at h) = alike_unruled Configuration Machine R o _
+
+  named_refers : (line : ℕ) → (p : Plain) → Names s m (meaning.Of p) → (v : Val) (x : Value) (vals2 : List Val) (stack2 : List Value) → NamedAt s code m v x → StackAt (HandAt s code m) ks' vals2 stack2 → q ≡ suc pc → Alike R (meaning_refers line v p vals2) (machine_refers line x p stack2)
+  named_refers line p n v x vals2 stack2 (named_reference c h w) hs place = refers_to line c h p n v x vals2 stack2 w hs place
+  named_refers line p n v x vals2 stack2 (named_place w) hs place = subst (λ z. Alike R (meaning_refers line z p vals2) (machine_refers line x p stack2)) (sym w.is_val) (unclassed line p (CellPlace w.instance w.key None) (machine_refers line x p stack2) vals2 refl)
+  named_refers line p n v x vals2 stack2 (named_value w) hs place = value_refers line p v x vals2 (machine_refers line x p stack2) w
+
+  place_refers : (line : ℕ) → (place : Kind) → IsReferred s code place → (p : Plain) → Names s m (meaning.Of p) → (v : Val) (x : Value) (vals2 : List Val) (stack2 : List Value) → HandAt s code m place v x → StackAt (HandAt s code m) ks' vals2 stack2 → q ≡ suc pc → Alike R (meaning_refers line v p vals2) (machine_refers line x p stack2)
+  place_refers line _ (of_class {k = c} h) p n v x vals2 stack2 w hs place = refers_to line c h p n v x vals2 stack2 w hs place
+  place_refers line _ by_name p n v x vals2 stack2 w hs place = named_refers line p n v x vals2 stack2 w hs place
+
+  refers_on : (line : ℕ) (kind : Kind) → IsReferred s code kind → (v : Val) (x : Value) (vals1 : List Val) (stack1 : List Value) → ValAt s code m v x → Names s m v → StackAt (HandAt s code m) (kind ∷ ks') vals1 stack1 → q ≡ suc pc
       → Alike R (having (plain v) o (λ p. popping vals1 o (λ v vals2. meaning_refers line v p vals2))) (popping stack1 o (λ p stack2. having (machine.variable_in p) o (λ place. rows.storing code line place x o fs (λ o m. machine.on o m top stack2 below))))
   unfolding having
-  refers_on line c h _ _ vals1 stack1 (plain_at {p}) n h1 place =
-      hand_popping Configuration Machine R Val Value (HandAt s code m) plain machine.plain same_plain (Refers c) ks' vals1 stack1 o _ _ h1
-      (λ v x vals2 stack2 ev ex hv h2. refers_to line c h p n v x vals2 stack2 hv h2 place)
-  refers_on line c h _ _ vals1 stack1 link_at n h1 place = alike_unruled Configuration Machine R o _
-  refers_on line c h _ _ vals1 stack1 array_at n h1 place = alike_unruled Configuration Machine R o _
-  refers_on line c h _ _ vals1 stack1 element_at n h1 place = alike_unruled Configuration Machine R o _
-  refers_on line c h _ _ vals1 stack1 image_at n h1 place = alike_unruled Configuration Machine R o _
+  refers_on line kind h _ _ vals1 stack1 (plain_at {p}) n h1 place =
+      hand_popping Configuration Machine R Val Value (HandAt s code m) plain machine.plain same_plain kind ks' vals1 stack1 o _ _ h1
+      (λ v x vals2 stack2 ev ex hv h2. place_refers line kind h p n v x vals2 stack2 hv h2 place)
+  refers_on line kind h _ _ vals1 stack1 link_at n h1 place = alike_unruled Configuration Machine R o _
+  refers_on line kind h _ _ vals1 stack1 array_at n h1 place = alike_unruled Configuration Machine R o _
+  refers_on line kind h _ _ vals1 stack1 element_at n h1 place = alike_unruled Configuration Machine R o _
+  refers_on line kind h _ _ vals1 stack1 image_at n h1 place = alike_unruled Configuration Machine R o _
+  refers_on line kind h _ _ vals1 stack1 (actual_at y) n h1 place = alike_unruled Configuration Machine R o _
 
   pub refer : (line : ℕ) → Follows (ReferOp line)
   unfolding pop_plain
   refer line a = at_row s code l o fs top below _ i.Put line q (a.is)
-      (hand_popping Configuration Machine R Val Value (HandAt s code m) plain machine.plain same_plain Any (Refers a.class ∷ a.left) vals stack o _ _ (kinds_as s code a.«in» here.values)
-      (λ v x vals1 stack1 ev ex h h1. refers_on line a.class a.is_class v x vals1 stack1 h (named v vals1 ev) (kinds_as s code (ap (λ z. Refers a.class ∷ z) (sym a.out)) h1) (a.is).on))
+      (hand_popping Configuration Machine R Val Value (HandAt s code m) plain machine.plain same_plain Any (a.place ∷ a.left) vals stack o _ _ (kinds_as s code a.«in» here.values)
+      (λ v x vals1 stack1 ev ex h h1. refers_on line a.place a.refers v x vals1 stack1 h (named v vals1 ev) (kinds_as s code (ap (λ z. a.place ∷ z) (sym a.out)) h1) (a.is).on))

@@ -1,5 +1,5 @@
 -- Which states of the machine stand for which states of a program.
-use Rattle.std.proofs.Common.{◌≡◌, ◌≢◌, ◌<◌, ◌≤◌, ℕ, suc, Bool, true, false, List, [], ◌∷◌, length, Option, Some, None}
+use Rattle.std.proofs.Common.{◌≡◌, ◌≢◌, ◌+◌, ◌<◌, ◌≤◌, ℕ, suc, Bool, true, false, List, [], ◌∷◌, length, Option, Some, None}
 use Rattle.std.specs.Prelude.{⊤, drop, pos, slice_get}
 use Rattle.sim_chains.specs.Components.{AttachedObject, DetachedObject, NoObject, ResumedObject, Standing, TerminatedObject}
 use Rattle.sim_scope.specs.Access.{encloser}
@@ -23,21 +23,22 @@ use Rattle.sim_code.specs.Machine.{Frames, Machine, Cells, joined}
 use Rattle.sim_code.specs.Machine as machine
 use Rattle.sim_code.proofs.Lifts.{Both}
 use Rattle.sim_meaning.specs.Levels.{has_levels, is_class, levels_made, levels_of, text_at}
-use Rattle.sim_meaning.specs.Pending.{Activation, ActivateOp, AgainOp, ArrayOp, AttributeOp, BackOp, BlockOp, BranchOp, CallOp, ChooseOp, Configuration, ConnectOp, CopyOp, DeclareOp, Do, DropOp, ElementOp, ElementsOp, EndBlock, EndLevel, EndObject, EndPrefixed, EndProcedure, EndProcessOp, EndProgram, EnterOp, Eval, Exec, Execs, FetchOp, FitsOp, GiveOp, Held, IfOp, InnerOp, Instances, Item, JoinOp, KeepOp, Key, Level, LevelOp, MemberOp, NewOp, NotNoneOp, ObjectOp, OneOp, Op, PastOp, PrefixedOp, ProcessOp, QuaOp, QualifiedElementOp, RaiseOp, ReferOp, SelfOp, SetOp, ShareOp, SimulationOp, StandardOp, StepOp, StepTestOp, StoreOp, SwapOp, Target, Term, TestOp, ToReferenceAt, TransferOp, TwoOp, WhenOp, WhileElementOp, held, VirtualOp, CheckOp, CallValueOp}
+use Rattle.sim_meaning.specs.Pending.{Activation, ActivateOp, AgainOp, ArrayOp, AttributeOp, BackOp, BlockOp, BranchOp, CallOp, ChooseOp, CloseOp, Configuration, ConnectOp, CopyOp, DeclareOp, Do, DropOp, ElementOp, ElementsOp, EndBlock, EndEvaluation, EndLevel, EndObject, EndPrefixed, EndProcedure, EndProcessOp, EndProgram, EnterOp, Eval, Exec, Execs, FetchOp, FitsOp, GiveOp, Held, IfOp, InnerOp, Instances, Item, JoinOp, KeepOp, Key, Level, LevelOp, MemberOp, NamedOp, NewOp, NotNoneOp, ObjectOp, OneOp, Op, PastOp, PrefixedOp, ProcessOp, QuaOp, QualifiedElementOp, RaiseOp, ReferOp, SelfOp, SetOp, ShareOp, SimulationOp, StandardOp, StepOp, StepTestOp, StoreOp, SwapOp, Target, Term, TestOp, ToReferenceAt, TransferOp, TwoOp, WhenOp, WhileElementOp, held, VirtualOp, CheckOp, CallValueOp}
 use Rattle.sim_meaning.specs.Entries.{passes}
 use Rattle.sim_meaning.specs.Meaning.{has_result}
 use Rattle.sim_meaning.specs.Texts.{BlockText, ProcedureText, is_class_free, text}
 use Rattle.sim_meaning.specs.Texts as Texts
-use Rattle.codegen_expr.specs.Sites.{Ahead, At, HasCell, Is, LevelOf, LoopAt, Pushes, Site, block_number, class_number, frame_text, is_connected, own_end, place_of, slot_of}
+use Rattle.codegen_expr.specs.Sites.{Ahead, At, HasCell, Is, LevelOf, LoopAt, Pushes, Site, block_number, class_number, expression_temps, frame_text, is_connected, own_end, place_of, slot_of}
 use Rattle.codegen_expr.specs.CodeExpr.{ExprAt, PlaceAt, ReferencePlaceAt, member_instr, one_instr, two_instr}
 use Rattle.codegen.specs.CodeArrays.{ArraysAt}
 use Rattle.codegen.specs.CodeFor.{ElementsAt, OfCell, OfPlace, OfReference, ReturnsAt, StepAt, TurnAt, Variable, WhileElementAt}
 use Rattle.codegen.specs.CodeStm.{ArmsAt, ConnectsAt, EndsAt, StmAt, StmsAt, WithInnerAt}
 use Rattle.codegen.specs.Compiled.{RecordOf, type_of_name}
-use Rattle.sim_relate.proofs.Known.{HasClass, Calm, HandAt, IsTemp, Keeps, Kind, Later, Reaches, Refers, Runs, SameFrame, SlotAt, Spot, StackAt, Stands, anys, at_stage, given, is_declared, is_fixed, is_process_in, place_target, placed, reads, site_at, spot, variable_target, LeavesIs}
-use Rattle.sim_relate.proofs.Waiting.{GetsIs, demand, suspended}
+use Rattle.sim_relate.proofs.Known.{HasClass, Calm, HandAt, InTemps, IsGiven, IsTemp, Keeps, Kind, Later, Low, Reaches, Refers, Runs, SameFrame, SlotAt, Spot, StackAt, Stands, anys, at_stage, is_declared, is_fixed, is_process_in, owner_of, place_target, placed, reads, site_at, spot, variable_target, LeavesIs}
+use Rattle.sim_relate.proofs.Thunks.{AskedAt, CloseIs}
+use Rattle.sim_relate.proofs.Waiting.{GetsIs, NoValue, OfName, Wait, demand, gets_any, given_by, suspended_by, value_if}
 use Rattle.sim_relate.proofs.Trees.{Classed, TermAt, transfer_instr}
-use Rattle.sim_relate.proofs.Operations.{Works, WorksAnyLine, ChoiceIs, IfIs, CallOpIs, NewOpIs, PrefixedOpIs, AttributeOpIs, ObjectOpIs, QualifiedElementOpIs, FitsOpIs, FetchOpIs, SwapIs, ReferIs, StandardOpIs, SetOpIs, ProcessOpIs, SimulationOpIs, BlockOpIs, ActivateOpIs, SelfOpIs, JoinOpIs, AgainIs, ArrayIs, StoreIs, TempIs, ShareIs, GiveIs, VirtualOpIs, CheckOpIs, CallValueOpIs}
+use Rattle.sim_relate.proofs.Operations.{Works, WorksAnyLine, ChoiceIs, IfIs, CallOpIs, NewOpIs, PrefixedOpIs, AttributeOpIs, NamedOpIs, ObjectOpIs, QualifiedElementOpIs, FitsOpIs, FetchOpIs, SwapIs, ReferIs, StandardOpIs, SetOpIs, ProcessOpIs, SimulationOpIs, BlockOpIs, ActivateOpIs, SelfOpIs, JoinOpIs, AgainIs, ArrayIs, StoreIs, TempIs, ShareIs, GiveIs, VirtualOpIs, CheckOpIs, CallValueOpIs}
 
 module _ (s : Source) (code : CodeOf) where
   -- ---- statements
@@ -70,6 +71,7 @@ module _ (s : Source) (code : CodeOf) where
     pub first : ℕ
     pub returns : List ℕ
     pub was : ℕ
+    pub frame : b.thunk ≡ None
     pub «in_use» : temp < used
     pub is_temp : TempIs s code (site_at t b was) temp
     pub holds : placed fs inst temp ≡ Some (machine.Of (Integer (pos number)))
@@ -243,6 +245,8 @@ module _ (s : Source) (code : CodeOf) where
   OpAt m fs inst site (VirtualOp v line) p q before behind = VirtualOpIs s code v line p q before behind
   OpAt m fs inst site (CheckOp n line) p q before behind = CheckOpIs s code n line p q before behind
   OpAt m fs inst site (CallValueOp line) p q before behind = CallValueOpIs s code site line p q before behind
+  OpAt m fs inst site (NamedOp j key wanted) p q before behind = NamedOpIs s code m inst site j key wanted p q before behind
+  OpAt m fs inst site (CloseOp e) p q before behind = CloseIs s code site e p q before behind
   OpAt m fs inst site (QualifiedElementOp n line k) p q before behind = QualifiedElementOpIs s code n line k p q before behind
   OpAt m fs inst site (MemberOp member k) p q before behind = Classed s k × WorksAnyLine s code (member_instr member (class_number s code k)) 1 true p q before behind
   OpAt m fs inst site (QuaOp k line) p q before behind = Classed s k × Works s code (i.Qua (pos (class_number s code k))) line 1 true p q before behind
@@ -273,10 +277,11 @@ module _ (s : Source) (code : CodeOf) where
     -- all levels have room
     pub own_roomy : (x : BlockOf) → slice_get code.blocks (block_number s b.own) ≡ Some x → x.room ≤ b.room
     pub of_class : HasClass s b.own
+    pub base : b.thunk ≡ None
 
-  -- at a level and a stage, with no temp in use
+  -- at a level and a stage, with no temp of statements in use
   abbrev pub at_level : Runs → (text : ℕ) → BlockOf → Stage → Spot
-  at_level b k block stage = spot k (record b { block = block; stage = stage }) (own_end s code k)
+  at_level b k block stage = spot k (record b { limit = block.room; temps = own_end s code k; block = block; stage = stage }) (own_end s code k + expression_temps)
 
   -- The declarations of a level are made: those of the next one follow, or behind the last one the statements of the first one.
   pub record NextIs (b : Runs) (place : ℕ) (c : Spot) (q : ℕ) : Type 0 where
@@ -317,7 +322,9 @@ module _ (s : Source) (code : CodeOf) where
     pub level : LevelIs b site.text place b.block class
     pub leads : class.after_inner ≡ after
     pub there : after < length code.instrs
-    pub low : site.used ≡ own_end s code site.text
+    pub low : site.used ≡ own_end s code site.text + expression_temps
+    pub limit_is : b.limit ≡ b.block.room
+    pub temps_are : b.temps ≡ own_end s code site.text
     pub goes_on : c ≡ spot site.text (at_stage b (stage.Behind place)) site.used
     pub none : before ≡ []
     pub none_behind : behind ≡ []
@@ -361,7 +368,7 @@ module _ (s : Source) (code : CodeOf) where
     pub own_at : ℕ
     pub own_is : slice_get classes own_at ≡ Some b.own
     pub ends : EndsAt s code site around classes p q
-    pub low : site.used ≡ own_end s code site.text
+    pub low : site.used ≡ own_end s code site.text + expression_temps
     pub goes_on : c ≡ spot site.text b site.used
     pub none : before ≡ []
     pub none_behind : behind ≡ []
@@ -378,7 +385,8 @@ module _ (s : Source) (code : CodeOf) where
   -- ---- pending work
 
   -- the instruction that ends a text; its block's record
-  pub record EndIs (x : Instr) (kind : BlockKind) (result : CodeType) (t : ℕ) (b : BlockOf) (p : ℕ) (before : List Kind) (Below : Type 0) : Type 0 where
+  pub record EndIs (x : Instr) (kind : BlockKind) (result : CodeType) (t : ℕ) (Base : Type 0) (b : BlockOf) (p : ℕ) (before : List Kind) (Below : Type 0) : Type 0 where
+    pub base : Base
     pub last : ℕ
     pub at : Is code x p last
     pub heads : RecordOf s code t kind result b
@@ -400,7 +408,8 @@ module _ (s : Source) (code : CodeOf) where
     pub ends : Ends result
 
   -- the end of the program, whose block may have a prefix
-  pub record ProgramEnds (t p : ℕ) (before : List Kind) (Below : Type 0) : Type 0 where
+  pub record ProgramEnds (t : ℕ) (Base : Type 0) (p : ℕ) (before : List Kind) (Below : Type 0) : Type 0 where
+    pub base : Base
     pub first : t ≡ 0
     pub last : ℕ
     pub at : Is code (i.EndLevel (pos 0)) p last
@@ -408,13 +417,13 @@ module _ (s : Source) (code : CodeOf) where
     pub below : Below
 
   -- the end of an object or a prefixed block
-  pub record OutermostEnds (kind : BlockKind) (b : Runs) (p : ℕ) (before : List Kind) (Below : Type 0) : Type 0 where
+  pub record OutermostEnds (kind : BlockKind) (b : Runs) (Base : Type 0) (p : ℕ) (before : List Kind) (Below : Type 0) : Type 0 where
     pub levels : has_levels (text s b.own) ≡ true
     pub not_first : block_number s b.own ≢ 0
     pub was : b.stage ≡ stage.Behind 0
     pub block : BlockOf
     pub found : slice_get code.blocks (block_number s b.own) ≡ Some block
-    pub ends : EndIs (i.EndLevel (pos 0)) kind type.Nothing b.own block p before Below
+    pub ends : EndIs (i.EndLevel (pos 0)) kind type.Nothing b.own Base block p before Below
 
   -- The end of a level inside another one: control goes on behind `inner` of that.
   pub record LevelEnds (b : Runs) (c : Spot) (p q : ℕ) (before : List Kind) : Type 0 where
@@ -431,15 +440,32 @@ module _ (s : Source) (code : CodeOf) where
     pub goes_on : c ≡ at_level b text block (stage.Behind place)
     pub none : before ≡ []
 
+  -- the end of the evaluation of an actual parameter by name, with what it gives in hand
+  pub record EvaluationEnds (thunk : Option ℕ) (rest : List Item) (p : ℕ) (before : List Kind) (Below : Type 0) : Type 0 where
+    pub number : ℕ
+    pub is_thunk : thunk ≡ Some number
+    pub alone : rest ≡ []
+    pub last : ℕ
+    pub at : Is code i.EndThunk p last
+    pub kind : Kind
+    pub given : IsGiven s kind
+    pub one : before ≡ kind ∷ []
+    pub below : Below
+
+  -- an end of an instance, behind which nothing is pending
+  abbrev pub IsBase : Runs → (rest : List Item) → Type 0
+  IsBase b rest = (b.thunk ≡ None) × (rest ≡ [])
+
   -- the end of a text
-  abbrev pub EndAt : (Below : Bool → Type 0) → (t : ℕ) → Runs → Item → (p : ℕ) → (before : List Kind) → Type 0
-  EndAt Below t b (Do op) p before = ⊥
-  EndAt Below t b EndBlock p before = BlockEnds t × EndIs i.Leave block_kind.SubBlock type.Nothing t b.block p before (Below false)
-  EndAt Below t b (EndProcedure leaves) p before = ProcedureEnds t leaves (λ result. EndIs i.Return block_kind.Procedure (type_of_name result) t b.block p before (Below leaves))
-  EndAt Below t b EndProgram p before = ProgramEnds t p before (Below false)
-  EndAt Below t b EndObject p before = OutermostEnds block_kind.Object b p before (Below false)
-  EndAt Below t b EndPrefixed p before = OutermostEnds block_kind.Prefixed b p before (Below false)
-  EndAt Below t b _ p before = ⊥
+  abbrev pub EndAt : (Below : Wait → Type 0) → (t : ℕ) → Runs → Item → (rest : List Item) → (p : ℕ) → (before : List Kind) → Type 0
+  EndAt Below t b (Do op) rest p before = ⊥
+  EndAt Below t b EndBlock rest p before = BlockEnds t × EndIs i.Leave block_kind.SubBlock type.Nothing t (IsBase b rest) b.block p before (Below NoValue)
+  EndAt Below t b (EndProcedure leaves) rest p before = ProcedureEnds t leaves (λ result. EndIs i.Return block_kind.Procedure (type_of_name result) t (IsBase b rest) b.block p before (Below (value_if leaves)))
+  EndAt Below t b EndProgram rest p before = ProgramEnds t (IsBase b rest) p before (Below NoValue)
+  EndAt Below t b EndObject rest p before = OutermostEnds block_kind.Object b (IsBase b rest) p before (Below NoValue)
+  EndAt Below t b EndPrefixed rest p before = OutermostEnds block_kind.Prefixed b (IsBase b rest) p before (Below NoValue)
+  EndAt Below t b (EndEvaluation wanted) rest p before = EvaluationEnds b.thunk rest p before (Below (OfName wanted))
+  EndAt Below t b _ rest p before = ⊥
 
   -- an operator in its own place
   abbrev pub BeginsAt : Instances → Frames → (inst : ℕ) → Site → Op → (p q : ℕ) → (before behind : List Kind) → Type 0
@@ -447,84 +473,89 @@ module _ (s : Source) (code : CodeOf) where
   BeginsAt m fs inst site op p q before behind = OpAt m fs inst site op p q before behind
 
   -- The pending work of an instance at the text t, whose block is b, from the place p on, where cells and temps up to `used` are in use. An
-  -- operator may use more of them than those behind it, and no fewer than the text has cells; it may stand in another text whose frames are
+  -- operator may use more of them than those behind it, and no fewer than the text has cells and temps of expressions; it may stand in another text whose frames are
   -- these, as in a connection. Behind it the work may go on at another level or stage. `Below` tells of what is below on the chain, and whether that waits for a value.
-  abbrev pub WorkAt : Instances → Frames → (Below : Bool → Type 0) → (inst t : ℕ) → Runs → (used : ℕ) → List Item → (p : ℕ) → (before : List Kind) → Type 0
+  abbrev pub WorkAt : Instances → Frames → (Below : Wait → Type 0) → (inst t : ℕ) → Runs → (used : ℕ) → List Item → (p : ℕ) → (before : List Kind) → Type 0
   WorkAt m fs Below inst t b used [] p before = ⊥
   WorkAt m fs Below inst t b used (Do op ∷ w) p before =
-      (at : ℕ) × (u : ℕ) × (q : ℕ) × (behind : List Kind) × (v : ℕ) × (c : Spot) × SameFrame s v t × ComesTo fs inst t b used (length before) at p × (u ≤ used) × (own_end s code (frame_text s t) ≤ u)
+      (at : ℕ) × (u : ℕ) × (q : ℕ) × (behind : List Kind) × (v : ℕ) × (c : Spot) × SameFrame s v t × ComesTo fs inst t b used (length before) at p × (u ≤ used) × Low s code t b u
       × InStage (OpAt m fs inst (site_at v b u)) (site_at v b u) op b c at q before behind × WorkAt m fs Below inst c.text c.runs c.used w q behind
-  WorkAt m fs Below inst t b used (EndBlock ∷ w) p before = (at : ℕ) × ComesTo fs inst t b used (length before) at p × EndAt Below (frame_text s t) b EndBlock at before
-  WorkAt m fs Below inst t b used (EndProcedure leaves ∷ w) p before = (at : ℕ) × ComesTo fs inst t b used (length before) at p × EndAt Below (frame_text s t) b (EndProcedure leaves) at before
-  WorkAt m fs Below inst t b used (EndProgram ∷ w) p before = (at : ℕ) × ComesTo fs inst t b used (length before) at p × EndAt Below (frame_text s t) b EndProgram at before
-  WorkAt m fs Below inst t b used (EndObject ∷ w) p before = (at : ℕ) × ComesTo fs inst t b used (length before) at p × EndAt Below (frame_text s t) b EndObject at before
-  WorkAt m fs Below inst t b used (EndPrefixed ∷ w) p before = (at : ℕ) × ComesTo fs inst t b used (length before) at p × EndAt Below (frame_text s t) b EndPrefixed at before
+  WorkAt m fs Below inst t b used (EndBlock ∷ w) p before = (at : ℕ) × ComesTo fs inst t b used (length before) at p × EndAt Below (frame_text s t) b EndBlock w at before
+  WorkAt m fs Below inst t b used (EndProcedure leaves ∷ w) p before = (at : ℕ) × ComesTo fs inst t b used (length before) at p × EndAt Below (frame_text s t) b (EndProcedure leaves) w at before
+  WorkAt m fs Below inst t b used (EndProgram ∷ w) p before = (at : ℕ) × ComesTo fs inst t b used (length before) at p × EndAt Below (frame_text s t) b EndProgram w at before
+  WorkAt m fs Below inst t b used (EndObject ∷ w) p before = (at : ℕ) × ComesTo fs inst t b used (length before) at p × EndAt Below (frame_text s t) b EndObject w at before
+  WorkAt m fs Below inst t b used (EndPrefixed ∷ w) p before = (at : ℕ) × ComesTo fs inst t b used (length before) at p × EndAt Below (frame_text s t) b EndPrefixed w at before
+  WorkAt m fs Below inst t b used (EndEvaluation wanted ∷ w) p before = (at : ℕ) × ComesTo fs inst t b used (length before) at p × EndAt Below (frame_text s t) b (EndEvaluation wanted) w at before
   WorkAt m fs Below inst t b used (EndLevel k ∷ w) p before =
       (at : ℕ) × (q : ℕ) × (c : Spot) × ComesTo fs inst t b used (length before) at p × LevelEnds b c at q before × WorkAt m fs Below inst c.text c.runs c.used w q []
 
   -- The same where control has come to the first part, which a statement begins in its own place.
-  abbrev pub NowAt : Instances → Frames → (Below : Bool → Type 0) → (inst t : ℕ) → Runs → (used : ℕ) → List Item → (p : ℕ) → (before : List Kind) → Type 0
+  abbrev pub NowAt : Instances → Frames → (Below : Wait → Type 0) → (inst t : ℕ) → Runs → (used : ℕ) → List Item → (p : ℕ) → (before : List Kind) → Type 0
   NowAt m fs Below inst t b used [] p before = ⊥
   NowAt m fs Below inst t b used (Do op ∷ w) p before =
-      (u : ℕ) × (q : ℕ) × (behind : List Kind) × (v : ℕ) × (c : Spot) × SameFrame s v t × (u ≤ used) × (own_end s code (frame_text s t) ≤ u) × InStage (BeginsAt m fs inst (site_at v b u)) (site_at v b u) op b c p q before behind × WorkAt m fs Below inst c.text c.runs c.used w q behind
-  NowAt m fs Below inst t b used (EndBlock ∷ w) p before = EndAt Below (frame_text s t) b EndBlock p before
-  NowAt m fs Below inst t b used (EndProcedure leaves ∷ w) p before = EndAt Below (frame_text s t) b (EndProcedure leaves) p before
-  NowAt m fs Below inst t b used (EndProgram ∷ w) p before = EndAt Below (frame_text s t) b EndProgram p before
-  NowAt m fs Below inst t b used (EndObject ∷ w) p before = EndAt Below (frame_text s t) b EndObject p before
-  NowAt m fs Below inst t b used (EndPrefixed ∷ w) p before = EndAt Below (frame_text s t) b EndPrefixed p before
+      (u : ℕ) × (q : ℕ) × (behind : List Kind) × (v : ℕ) × (c : Spot) × SameFrame s v t × (u ≤ used) × Low s code t b u × InStage (BeginsAt m fs inst (site_at v b u)) (site_at v b u) op b c p q before behind × WorkAt m fs Below inst c.text c.runs c.used w q behind
+  NowAt m fs Below inst t b used (EndBlock ∷ w) p before = EndAt Below (frame_text s t) b EndBlock w p before
+  NowAt m fs Below inst t b used (EndProcedure leaves ∷ w) p before = EndAt Below (frame_text s t) b (EndProcedure leaves) w p before
+  NowAt m fs Below inst t b used (EndProgram ∷ w) p before = EndAt Below (frame_text s t) b EndProgram w p before
+  NowAt m fs Below inst t b used (EndObject ∷ w) p before = EndAt Below (frame_text s t) b EndObject w p before
+  NowAt m fs Below inst t b used (EndPrefixed ∷ w) p before = EndAt Below (frame_text s t) b EndPrefixed w p before
+  NowAt m fs Below inst t b used (EndEvaluation wanted ∷ w) p before = EndAt Below (frame_text s t) b (EndEvaluation wanted) w p before
   NowAt m fs Below inst t b used (EndLevel k ∷ w) p before = (q : ℕ) × (c : Spot) × LevelEnds b c p q before × WorkAt m fs Below inst c.text c.runs c.used w q []
 
   -- ---- chains
 
-  -- An instance on a chain, and the activation that stands for it; `waits` tells whether what is directly above it gives a value.
-  pub record TopIs (m : Instances) (fs : Frames) (a : Activation) (waits : Bool) (x : machine.Activation) (Work : (t : ℕ) → Runs → (used p : ℕ) → List Kind → Type 0) : Type 0 where
-    pub base : x.thunk ≡ false
+  -- An instance or an evaluation on a chain, and the activation that stands for it; `waits` tells what is given by what is directly above it. What
+  -- waits for a parameter by name stands behind the instruction that uses it.
+  pub record TopIs (m : Instances) (fs : Frames) (a : Activation) (waits : Wait) (x : machine.Activation) (Work : (t : ℕ) → Runs → (used p : ℕ) → List Kind → Type 0) : Type 0 where
     pub home : x.home ≡ a.instance
     pub text : ℕ
     pub block : Runs
+    pub base : x.thunk ≡ block.thunk
     pub found : slice_get code.blocks (block_number s (frame_text s text)) ≡ Some block.block
     pub stands : Stands s m a.instance text
     pub own : text_at m a.instance ≡ Some block.own
-    pub roomy : block.block.room ≤ block.room
+    pub roomy : block.limit ≤ block.room
     pub room : x.room ≡ block.room
     pub stage : x.stage ≡ block.stage
     pub kinds : List Kind
     pub values : StackAt (HandAt s code m) kinds a.values x.stack
-    pub gets : Bool
-    pub gets_is : GetsIs (suspended m a.instance) waits gets
-    pub fits : gets ≡ true → length kinds < block.room
+    pub gets : Wait
+    pub gets_is : GetsIs (suspended_by m (owner_of block.thunk a.instance)) waits gets
+    pub fits : gets_any gets ≡ true → length kinds < block.room
+    pub asked : AskedAt s code gets x.pc
     pub used : ℕ
-    pub goes : Work text block used x.pc (given gets kinds)
+    pub goes : Work text block used x.pc (given_by gets kinds)
 
   -- A chain that stands on a ground.
-  abbrev pub ChainOn : (Ground : Bool → List machine.Activation → Type 0) → Instances → Frames → List Activation → Bool → List machine.Activation → Type 0
+  abbrev pub ChainOn : (Ground : Wait → List machine.Activation → Type 0) → Instances → Frames → List Activation → Wait → List machine.Activation → Type 0
   ChainOn Ground m fs [] waits below = Ground waits below
   ChainOn Ground m fs (a ∷ rest) waits [] = ⊥
   ChainOn Ground m fs (a ∷ rest) waits (x ∷ below) =
       TopIs m fs a waits x (λ t b used p ks. WorkAt m fs (λ value. ChainOn Ground m fs rest value below) a.instance t b used a.work p ks)
 
-  -- nothing is below, where the end of the chain gives a value or not
-  pub record Bottom (gives waits : Bool) (below : List machine.Activation) : Type 0 where
+  -- nothing is below, where the end of the chain gives this
+  pub record Bottom (gives waits : Wait) (below : List machine.Activation) : Type 0 where
     pub still : waits ≡ gives
     pub is : below ≡ []
 
-  abbrev pub ChainAt : Instances → Frames → List Activation → Bool → List machine.Activation → Type 0
-  ChainAt m fs chain waits below = ChainOn (Bottom false) m fs chain waits below
+  abbrev pub ChainAt : Instances → Frames → List Activation → Wait → List machine.Activation → Type 0
+  ChainAt m fs chain waits below = ChainOn (Bottom NoValue) m fs chain waits below
 
   -- ---- stores
 
   -- How the frames of a text are laid out: the cells of its levels have slots of their own, apart from the temps of all levels, and each frame
-  -- has room for those of all levels.
+  -- has room for those of all levels. The temps of the statements of a level are apart from those of the expressions of all levels.
   pub record Laid (own : ℕ) : Type 0 where
     pub one_level : (t u : ℕ) (key : Key) → LevelOf s.tables own t → LevelOf s.tables own u → HasCell s t key → HasCell s u key → t ≡ u
     pub one_key : (t u : ℕ) (k l : Key) → LevelOf s.tables own t → LevelOf s.tables own u → HasCell s t k → HasCell s u l → slot_of s code t k ≡ slot_of s code u l → k ≡ l
-    pub apart : (t u temp : ℕ) (k : Key) (b : BlockOf) → LevelOf s.tables own t → LevelOf s.tables own (frame_text s u) → HasCell s t k → slice_get code.blocks (block_number s (frame_text s u)) ≡ Some b → IsTemp s code u temp b → slot_of s code t k ≢ temp
+    pub apart : (t u temp : ℕ) (k : Key) (b : BlockOf) → LevelOf s.tables own t → LevelOf s.tables own (frame_text s u) → HasCell s t k → slice_get code.blocks (block_number s (frame_text s u)) ≡ Some b → InTemps s code u temp b → slot_of s code t k ≢ temp
+    pub temps_apart : (t u c d : ℕ) (x y : BlockOf) → LevelOf s.tables own (frame_text s t) → LevelOf s.tables own (frame_text s u) → slice_get code.blocks (block_number s (frame_text s t)) ≡ Some x → slice_get code.blocks (block_number s (frame_text s u)) ≡ Some y → own_end s code (frame_text s t) ≤ c → c < own_end s code (frame_text s t) + expression_temps → c < length x.types → IsTemp s code u d y → c ≢ d
     pub fits : (t : ℕ) (k : Key) (b : BlockOf) → LevelOf s.tables own t → HasCell s t k → slice_get code.blocks (block_number s own) ≡ Some b → slot_of s code t k < length b.types
     pub longer : (t : ℕ) (x b : BlockOf) → LevelOf s.tables own t → slice_get code.blocks (block_number s t) ≡ Some x → slice_get code.blocks (block_number s own) ≡ Some b → length x.types ≤ length b.types
     pub block : (b : BlockOf) × (slice_get code.blocks (block_number s own) ≡ Some b)
 
   -- an instance and its frame
-  pub record InstanceAt (x : Instance (List Held)) (y : Instance Cells) : Type 0 where
+  pub record InstanceAt (m : Instances) (x : Instance (List Held)) (y : Instance Cells) : Type 0 where
     pub number : y.text ≡ block_number s x.text
     pub level : y.level ≡ x.level
     pub encloser : y.encloser ≡ x.encloser
@@ -536,13 +567,13 @@ module _ (s : Source) (code : CodeOf) where
     pub solid : is_connected s.tables x.text ≡ false
     pub laid : Laid x.text
     -- each cell of each level, by its key; those that are declared are there
-    pub cells : (t : ℕ) (key : Key) → LevelOf s.tables x.text t → HasCell s t key → SlotAt s (is_fixed s key) key (held key x.cells) (joined (slice_get y.cells (slot_of s code t key)))
+    pub cells : (t : ℕ) (key : Key) → LevelOf s.tables x.text t → HasCell s t key → SlotAt s code m (is_fixed s key) key (held key x.cells) (joined (slice_get y.cells (slot_of s code t key)))
     pub there : (t : ℕ) (key : Key) → LevelOf s.tables x.text t → HasCell s t key → is_declared key ≡ true → place_of key x.cells < length x.cells
     pub size : (b : BlockOf) → slice_get code.blocks (block_number s x.text) ≡ Some b → length y.cells ≡ length b.types
 
   pub record StoreAt (m : Instances) (fs : Frames) : Type 0 where
     pub as_many : length m.instances ≡ length fs.instances
-    pub at : (j : ℕ) → Both InstanceAt (slice_get m.instances j) (slice_get fs.instances j)
+    pub at : (j : ℕ) → Both (InstanceAt m) (slice_get m.instances j) (slice_get fs.instances j)
     pub all : (j : ℕ) (x : Instance (List Held)) → slice_get m.instances j ≡ Some x → Stands s m j x.text
 
   -- an object: its own text is a class, so that its end gives no value
@@ -555,9 +586,9 @@ module _ (s : Source) (code : CodeOf) where
   -- and a main chain gives at its end what its head waits for.
   abbrev pub StandingAt : Instances → Frames → (instance : ℕ) → Standing Activation → Standing machine.Activation → Type 0
   StandingAt m fs j (NoObject None) (NoObject None) = ⊤
-  StandingAt m fs j (NoObject (Some chain)) (NoObject (Some below)) = ChainOn (Bottom (demand false chain)) m fs chain false below
+  StandingAt m fs j (NoObject (Some chain)) (NoObject (Some below)) = ChainOn (Bottom (demand NoValue chain)) m fs chain NoValue below
   StandingAt m fs j AttachedObject AttachedObject = ObjectIs m j
-  StandingAt m fs j (DetachedObject chain) (DetachedObject below) = ObjectIs m j × ChainAt m fs chain false below
+  StandingAt m fs j (DetachedObject chain) (DetachedObject below) = ObjectIs m j × ChainAt m fs chain NoValue below
   StandingAt m fs j ResumedObject ResumedObject = ObjectIs m j
   StandingAt m fs j TerminatedObject TerminatedObject = ⊤
   StandingAt m fs j _ _ = ⊥
@@ -578,16 +609,16 @@ module _ (s : Source) (code : CodeOf) where
     pub as_many : length m'.instances ≡ length m.instances
 
   pub record StateAt (c : Configuration) (x : Machine) : Type 0 where
-    pub chain : ChainAt c.memory x.memory c.chain false x.chain
+    pub chain : ChainAt c.memory x.memory c.chain NoValue x.chain
     pub store : StoreAt c.memory x.memory
     pub parked : StandingsAt c.memory x.memory
 
   -- the same where control has come to the first part
   abbrev pub ChainNow : Instances → Frames → List Activation → List machine.Activation → Type 0
-  ChainNow m fs [] below = Bottom false false below
+  ChainNow m fs [] below = Bottom NoValue NoValue below
   ChainNow m fs (a ∷ rest) [] = ⊥
   ChainNow m fs (a ∷ rest) (x ∷ below) =
-      TopIs m fs a false x (λ t b used p ks. NowAt m fs (λ value. ChainAt m fs rest value below) a.instance t b used a.work p ks)
+      TopIs m fs a NoValue x (λ t b used p ks. NowAt m fs (λ value. ChainAt m fs rest value below) a.instance t b used a.work p ks)
 
   pub record StateNow (c : Configuration) (x : Machine) : Type 0 where
     pub chain : ChainNow c.memory x.memory c.chain x.chain

@@ -91,7 +91,10 @@ module _ (s : Source) (code : CodeOf) (site : Site) where
   array_fits d line n (Then e es) Inner p q a = let x = a.1 in ((x.array).load).fits
 
   formal_fits : (d : DeclNo) (line n : ℕ) (by : Mode) (kind : FormalKind) (es : Expressions) (Inner : ℕ → ℕ → Type 0) (p q : ℕ) → FormalAt s code site n line d by kind es Inner p q → Fits n
-  formal_fits d line n mode.ByName kind es Inner p q a = absurd a
+  formal_fits d line n mode.ByName shape.Simple NoMore Inner p q a = a.fits
+  formal_fits d line n mode.ByName shape.Simple (Then e es) Inner p q a = absurd a
+  formal_fits d line n mode.ByName shape.Array es Inner p q a = absurd a
+  formal_fits d line n mode.ByName shape.Procedure es Inner p q a = absurd a
   formal_fits d line n mode.ByValue shape.Simple es Inner p q a = variable_fits d es n p q a
   formal_fits d line n mode.ByValue shape.Array es Inner p q a = array_fits d line n es Inner p q a
   formal_fits d line n mode.ByValue shape.Procedure es Inner p q a = absurd a

@@ -14,26 +14,27 @@ use Rattle.sim_code.specs.declared.instr.Instr.TheVariants as i
 use Rattle.sim_code.specs.Code.{CodeOf}
 use Rattle.sim_code.specs.Outcome.{Going, Run, World}
 use Rattle.sim_code.specs.Events.{answering, applying_two, choosing, computing, having, no_rule, pop_plain, pop_truth, popping, when}
-use Rattle.sim_code.specs.Instances.{at_level, system_head}
+use Rattle.sim_code.specs.Instances.{at_level}
 use Rattle.sim_code.specs.Machine.{Frames, Machine, Value, at, index, is_there, is_tick, jumping, level, on, pushing}
 use Rattle.sim_code.specs.Machine as machine
 use Rattle.sim_code.specs.Rows.{mstep, pushed, row}
-use Rattle.sim_meaning.specs.Pending.{Activation, Configuration, Do, EndBlock, EndLevel, EndObject, EndPrefixed, EndProcedure, EndProgram, Exec, Instances, Item, Op}
+use Rattle.sim_meaning.specs.Pending.{EndEvaluation, Activation, Configuration, Do, EndBlock, EndLevel, EndObject, EndPrefixed, EndProcedure, EndProgram, Exec, Instances, Item, Op}
 use Rattle.sim_meaning.specs.Pending as meaning
 use Rattle.sim_meaning.specs.Sane.{NamesOn, Sane, SaneOn}
-use Rattle.codegen_expr.specs.Sites.{Ahead, At, Is, frame_text, own_end}
+use Rattle.codegen_expr.specs.Sites.{Ahead, At, Is}
 use Rattle.codegen.specs.CodeFor.{ReturnsAt}
-use Rattle.sim_relate.proofs.Formed.{formed_as, free_top}
-use Rattle.sim_relate.proofs.Waiting.{GetsIs, gets_free, suspended}
-use Rattle.sim_relate.proofs.Known.{Kind, Runs, given, Spot, placed, site_at, spot, Calm}
-use Rattle.sim_relate.proofs.Relation.{ChainAt, ComesTo, NowAt, OpAt, ReturningIs, StandingsAt, StateAt, StateNow, StoreAt, TurningIs, WorkAt, over, returning, straight, there, turning, BeginsAt, InStage, declares, inner_here, inner_last, stays, with_inner, ends_process}
+use Rattle.sim_relate.proofs.Waiting.{given_by, suspended_by, NoValue, Wait, GetsIs, gets_free}
+use Rattle.sim_relate.proofs.Known.{low_same, owner_of, Low, is_frame, Kind, Runs, Spot, placed, site_at, spot, Calm}
+use Rattle.sim_relate.proofs.Relation.{Bottom, ChainAt, ComesTo, NowAt, OpAt, ReturningIs, StandingsAt, StateAt, StateNow, StoreAt, TurningIs, WorkAt, over, returning, straight, there, turning, BeginsAt, InStage, declares, inner_here, inner_last, stays, with_inner, ends_process}
 use Rattle.sim_relate.proofs.Hands.{stack_length}
 use Rattle.sim_relate.proofs.Here.{Here, There, act, there_of, here_at}
 use Rattle.sim_relate.proofs.Frames.{same_frame}
 use Rattle.sim_relate.proofs.Living.{own_level}
 use Rattle.sim_relate.proofs.Moved.{moved, work_more, work_moved}
 use Rattle.sim_relate.proofs.Operators.{chosen, is_instr}
-use Rattle.sim_relate.proofs.Stores.{levels_same, placed_here, temp_written}
+use Rattle.sim_relate.proofs.Stores.{low_behind, levels_same, placed_here, temp_written}
+use Rattle.sim_relate.proofs.Carried.{top_flag}
+use Rattle.sim_relate.proofs.Tops.{here_top, top_is_free}
 
 -- so many steps of the machine that show nothing and leave the world as it is
 pub data Slows (code : CodeOf) (l : Limits) : ℕ → Machine → Machine → Type 0 where
@@ -154,7 +155,7 @@ numbers_differ a b lt =
     let greater : int_lt (pos a) (pos b) ≡ true = grind (arith, lt) in
     ap (λ z. holds comparison.Equal (cond z order.Less (cond (int_lt (pos a) (pos b)) order.Greater order.Equal))) less ∙ ap (λ z. holds comparison.Equal (cond z order.Greater order.Equal)) greater
 
-module _ (s : Source) (code : CodeOf) (l : Limits) (fs : Frames) (inst t : ℕ) (b : Runs) (stack : List Value) (below : List machine.Activation) (n : ℕ) (deep : length stack ≡ n) (roomy : b.block.room ≤ b.room) (own : at_level fs (level_of s t) inst ≡ Some inst) (reads : (c : ℕ) → machine.cell fs inst c ≡ placed fs inst c) where
+module _ (s : Source) (code : CodeOf) (l : Limits) (fs : Frames) (inst t : ℕ) (b : Runs) (stack : List Value) (below : List machine.Activation) (n : ℕ) (deep : length stack ≡ n) (roomy : b.limit ≤ b.room) (own : at_level fs (level_of s t) inst ≡ Some inst) (reads : (c : ℕ) → machine.cell fs inst c ≡ placed fs inst c) where
   abbrev In : ℕ → Machine
   In p = machine_at fs inst p stack b below
 
@@ -199,7 +200,7 @@ module _ (s : Source) (code : CodeOf) (l : Limits) (fs : Frames) (inst t : ℕ) 
 
 -- what is pending behind a turn is come back to
 -- from a place a jump leads to pending work
-pub comes_over : (s : Source) (code : CodeOf) (m : Instances) (fs : Frames) (Below : Bool → Type 0) (inst t : ℕ) (b : Runs) (used : ℕ) (w : List Item) (p p' x : ℕ) (ks : List Kind) → Is code (i.Jump (pos p')) p x → Ahead code p p' → WorkAt s code m fs Below inst t b used w p' ks → WorkAt s code m fs Below inst t b used w p ks
+pub comes_over : (s : Source) (code : CodeOf) (m : Instances) (fs : Frames) (Below : Wait → Type 0) (inst t : ℕ) (b : Runs) (used : ℕ) (w : List Item) (p p' x : ℕ) (ks : List Kind) → Is code (i.Jump (pos p')) p x → Ahead code p p' → WorkAt s code m fs Below inst t b used w p' ks → WorkAt s code m fs Below inst t b used w p ks
 comes_over s code m fs Below inst t b used [] p p' x ks j h a = a
 comes_over s code m fs Below inst t b used (Do op ∷ w) p p' x ks j h a = (a.0, a.1, a.2, a.3, a.4, a.5, a.6, over j h a.7, a.8, a.9, a.10, a.11)
 comes_over s code m fs Below inst t b used (EndBlock ∷ w) p p' x ks j h a = (a.0, over j h a.1, a.2)
@@ -207,9 +208,10 @@ comes_over s code m fs Below inst t b used (EndProcedure v ∷ w) p p' x ks j h 
 comes_over s code m fs Below inst t b used (EndProgram ∷ w) p p' x ks j h a = (a.0, over j h a.1, a.2)
 comes_over s code m fs Below inst t b used (EndObject ∷ w) p p' x ks j h a = (a.0, over j h a.1, a.2)
 comes_over s code m fs Below inst t b used (EndPrefixed ∷ w) p p' x ks j h a = (a.0, over j h a.1, a.2)
+comes_over s code m fs Below inst t b used (EndEvaluation wanted ∷ w) p p' x ks j h a = (a.0, over j h a.1, a.2)
 comes_over s code m fs Below inst t b used (EndLevel k ∷ w) p p' x ks j h a = (a.0, a.1, a.2, over j h a.3, a.4, a.5)
 
-pub comes_back : (s : Source) (code : CodeOf) (m : Instances) (fs : Frames) (Below : Bool → Type 0) (inst t : ℕ) (b : Runs) (used : ℕ) (w : List Item) (p p' : ℕ) (ks : List Kind) → ReturningIs s code fs inst t b used (length ks) p p' → WorkAt s code m fs Below inst t b used w p' ks → WorkAt s code m fs Below inst t b used w p ks
+pub comes_back : (s : Source) (code : CodeOf) (m : Instances) (fs : Frames) (Below : Wait → Type 0) (inst t : ℕ) (b : Runs) (used : ℕ) (w : List Item) (p p' : ℕ) (ks : List Kind) → ReturningIs s code fs inst t b used (length ks) p p' → WorkAt s code m fs Below inst t b used w p' ks → WorkAt s code m fs Below inst t b used w p ks
 comes_back s code m fs Below inst t b used [] p p' ks r a = a
 comes_back s code m fs Below inst t b used (Do op ∷ w) p p' ks r a = (a.0, a.1, a.2, a.3, a.4, a.5, a.6, returning r a.7, a.8, a.9, a.10, a.11)
 comes_back s code m fs Below inst t b used (EndBlock ∷ w) p p' ks r a = (a.0, returning r a.1, a.2)
@@ -217,6 +219,7 @@ comes_back s code m fs Below inst t b used (EndProcedure v ∷ w) p p' ks r a = 
 comes_back s code m fs Below inst t b used (EndProgram ∷ w) p p' ks r a = (a.0, returning r a.1, a.2)
 comes_back s code m fs Below inst t b used (EndObject ∷ w) p p' ks r a = (a.0, returning r a.1, a.2)
 comes_back s code m fs Below inst t b used (EndPrefixed ∷ w) p p' ks r a = (a.0, returning r a.1, a.2)
+comes_back s code m fs Below inst t b used (EndEvaluation wanted ∷ w) p p' ks r a = (a.0, returning r a.1, a.2)
 comes_back s code m fs Below inst t b used (EndLevel k ∷ w) p p' ks r a = (a.0, a.1, a.2, returning r a.3, a.4, a.5)
 
 module _ (s : Source) (code : CodeOf) (l : Limits) where
@@ -225,7 +228,7 @@ module _ (s : Source) (code : CodeOf) (l : Limits) where
   Settles c x = (y : Machine) × SlowTo code l x y × StateNow s code c y
 
   module _ (m : Instances) (inst : ℕ) (vals : List meaning.Val) (rest : List Activation) (fs : Frames) (t : ℕ) (b : Runs) (stack : List Value) (below : List machine.Activation) (ks : List Kind) (here : Here s code m fs inst rest t b ks vals stack) where
-    abbrev Below : Bool → Type 0
+    abbrev Below : Wait → Type 0
     Below v = ChainAt s code m fs rest v below
 
     abbrev Stood : List Item → Configuration
@@ -241,10 +244,10 @@ module _ (s : Source) (code : CodeOf) (l : Limits) where
     now_at : (fs' : Frames) → There s code m fs' inst t b ks vals stack → (used : ℕ) (w : List Item) (p : ℕ) → NowAt s code m fs' (λ v. ChainAt s code m fs' rest v below) inst t b used w p ks → StateNow s code (Stood w) (machine_at fs' inst p stack b below)
     now_at fs' there' used w p a = record {
       chain = record {
-        base = refl;
         home = refl;
         text = t;
         block = b;
+        base = refl;
         found = there'.found;
         stands = there'.stands;
         own = there'.own;
@@ -253,9 +256,10 @@ module _ (s : Source) (code : CodeOf) (l : Limits) where
         stage = refl;
         kinds = ks;
         values = there'.values;
-        gets = false;
-        gets_is = subst (λ z. GetsIs z false false) (sym there'.free) refl;
+        gets = NoValue;
+        gets_is = subst (λ z. GetsIs z NoValue NoValue) (sym there'.free) refl;
         fits = λ no. absurd (cc);
+        asked = tt;
         used = used;
         goes = a;
       };
@@ -264,7 +268,7 @@ module _ (s : Source) (code : CodeOf) (l : Limits) where
     }
 
     -- a turn goes to the statement
-    turns : (used u : ℕ) (w : List Item) (x : Statement) (p q : ℕ) (behind : List Kind) → u ≤ used → own_end s code (frame_text s t) ≤ u → Calm s b → TurningIs s code (site_at t b u) (length ks) x p q → behind ≡ ks → WorkAt s code m fs Below inst t b u w q behind → Settles (Stood (Do (Exec x) ∷ w)) (machine_at fs inst p stack b below)
+    turns : (used u : ℕ) (w : List Item) (x : Statement) (p q : ℕ) (behind : List Kind) → u ≤ used → Low s code t b u → Calm s b → TurningIs s code (site_at t b u) (length ks) x p q → behind ≡ ks → WorkAt s code m fs Below inst t b u w q behind → Settles (Stood (Do (Exec x) ∷ w)) (machine_at fs inst p stack b below)
     turns used u w x p q behind le low calm a e k =
         let number = machine.Of (Integer (pos a.number)) in
         let r = temp_written s code m fs inst t b a.temp number here.store here.stands here.lives here.found a.is_temp.behind a.is_temp.within in
@@ -273,10 +277,11 @@ module _ (s : Source) (code : CodeOf) (l : Limits) where
         let more : u ≤ suc a.temp = omega (arith, a.unused) in
         let again : suc a.temp ≤ suc a.temp = omega arith in
         let in_use : a.temp < suc a.temp = omega arith in
-        let low' : own_end s code (frame_text s t) ≤ suc a.temp = omega (arith, a.is_temp.behind) in
-        let there' = moved s code r.changed here.kept_alone here here.values in
+        let frame = is_frame s code t b u a.temp low a.unused a.is_temp.within in
+        let low' = low_behind s code t b u a.temp frame low a.is_temp.behind in
+        let there' = moved s code r.changed (here.kept_alone frame) here here.values in
         let k1 = subst (λ z. WorkAt s code m fs Below inst t b u w q z) e k in
-        let k2 = work_moved s code r.changed here here.alone below u (λ n le within lt. r.others n (λ same. let no : ⊥ = omega (arith, same, lt, a.unused) in no)) w q ks k1 in
+        let k2 = work_moved s code r.changed here (here.alone frame) below u (λ base n le within lt. r.others n (λ same. let no : ⊥ = omega (arith, same, lt, a.unused) in no)) w q ks k1 in
         let k3 = work_more s code m r.frames (λ v. ChainAt s code m r.frames rest v below) inst t b u (suc a.temp) more w q ks k2 in
         let k4 = comes_back s code m r.frames (λ v. ChainAt s code m r.frames rest v below) inst t b (suc a.temp) w a.done q ks (record {
           temp = a.temp;
@@ -284,6 +289,7 @@ module _ (s : Source) (code : CodeOf) (l : Limits) where
           first = a.first;
           returns = a.returns;
           was = u;
+          frame = frame;
           «in_use» = in_use;
           is_temp = record { behind = a.is_temp.behind; within = a.is_temp.within };
           holds = r.holds;
@@ -297,16 +303,16 @@ module _ (s : Source) (code : CodeOf) (l : Limits) where
           now_at r.frames there' (suc a.temp) (Do (Exec x) ∷ w) a.start (suc a.temp, a.done, ks, t, spot t b (suc a.temp), same_frame s t, again, low', stays (a.body, refl) calm refl, k4),
         )
 
-    stands_now : (used : ℕ) (w : List Item) (op : Op) (p u q : ℕ) (behind : List Kind) (c : Spot) → u ≤ used → own_end s code (frame_text s t) ≤ u → InStage s code (BeginsAt s code m fs inst (site_at t b u)) (site_at t b u) op b c p q ks behind → WorkAt s code m fs Below inst c.text c.runs c.used w q behind → Settles (Stood (Do op ∷ w)) (machine_at fs inst p stack b below)
+    stands_now : (used : ℕ) (w : List Item) (op : Op) (p u q : ℕ) (behind : List Kind) (c : Spot) → u ≤ used → Low s code t b u → InStage s code (BeginsAt s code m fs inst (site_at t b u)) (site_at t b u) op b c p q ks behind → WorkAt s code m fs Below inst c.text c.runs c.used w q behind → Settles (Stood (Do op ∷ w)) (machine_at fs inst p stack b below)
     stands_now used w op p u q behind c le low a k = (_, (0, no_step), now_at fs (there_of s code here) used (Do op ∷ w) p (u, q, behind, t, c, same_frame s t, le, low, a, k))
 
     -- an operator in its own place, or a turn
-    begins : (used : ℕ) (w : List Item) (op : Op) (p u q : ℕ) (behind : List Kind) → u ≤ used → own_end s code (frame_text s t) ≤ u → Calm s b → OpAt s code m fs inst (site_at t b u) op p q ks behind → WorkAt s code m fs Below inst t b u w q behind → Settles (Stood (Do op ∷ w)) (machine_at fs inst p stack b below)
+    begins : (used : ℕ) (w : List Item) (op : Op) (p u q : ℕ) (behind : List Kind) → u ≤ used → Low s code t b u → Calm s b → OpAt s code m fs inst (site_at t b u) op p q ks behind → WorkAt s code m fs Below inst t b u w q behind → Settles (Stood (Do op ∷ w)) (machine_at fs inst p stack b below)
     begins used w (Exec x) p u q behind le low calm (straight a, e) k = stands_now used w (Exec x) p u q behind (spot t b u) le low (stays (a, e) calm refl) k
     begins used w (Exec x) p u q behind le low calm (turning a, e) k = turns used u w x p q behind le low calm a e k
     begins used w op p u q behind le low calm a k = stands_now used w op p u q behind (spot t b u) le low (stays a calm refl) k
 
-    pub begins_in : (used : ℕ) (w : List Item) (op : Op) (p u q : ℕ) (behind : List Kind) (c : Spot) → u ≤ used → own_end s code (frame_text s t) ≤ u → InStage s code (OpAt s code m fs inst (site_at t b u)) (site_at t b u) op b c p q ks behind → WorkAt s code m fs Below inst c.text c.runs c.used w q behind → Settles (Stood (Do op ∷ w)) (machine_at fs inst p stack b below)
+    pub begins_in : (used : ℕ) (w : List Item) (op : Op) (p u q : ℕ) (behind : List Kind) (c : Spot) → u ≤ used → Low s code t b u → InStage s code (OpAt s code m fs inst (site_at t b u)) (site_at t b u) op b c p q ks behind → WorkAt s code m fs Below inst c.text c.runs c.used w q behind → Settles (Stood (Do op ∷ w)) (machine_at fs inst p stack b below)
     begins_in used w op p u q behind c le low (stays a calm g) k = begins used w op p u q behind le low calm a (subst (λ z. WorkAt s code m fs Below inst z.text z.runs z.used w q behind) g k)
     begins_in used w op p u q behind c le low (declares x e a) k = stands_now used w op p u q behind c le low (declares x e a) k
     begins_in used w op p u q behind c le low (inner_last x e a) k = stands_now used w op p u q behind c le low (inner_last x e a) k
@@ -327,7 +333,7 @@ module _ (s : Source) (code : CodeOf) (l : Limits) where
       → Settles (record { chain = record { instance = inst; work = w; values = vals } ∷ rest; memory = m }) (machine_at fs inst p stack b below)
   top_settles m inst vals rest fs t b stack below ks here used [] p a = absurd a
   top_settles m inst vals rest fs t b stack below ks here used (Do op ∷ w) p a =
-      let less = subst (λ z. own_end s code z ≤ a.1) (sym (a.6).frame) a.9 in
+      let less = low_same s code a.4 t b a.1 a.6 a.9 in
       first_come m inst vals rest fs t b stack below ks here _ _ _ (come m inst vals rest fs t b stack below ks here used a.0 p a.7)
       (begins_in m inst vals rest fs a.4 b stack below ks (here_at s code a.6 here) used w op a.0 a.1 a.2 a.3 a.5 a.8 less a.10 a.11)
   top_settles m inst vals rest fs t b stack below ks here used (EndBlock ∷ w) p a = end_settles m inst vals rest fs t b stack below ks here used w EndBlock a.0 p a.1 a.2
@@ -335,24 +341,27 @@ module _ (s : Source) (code : CodeOf) (l : Limits) where
   top_settles m inst vals rest fs t b stack below ks here used (EndProgram ∷ w) p a = end_settles m inst vals rest fs t b stack below ks here used w EndProgram a.0 p a.1 a.2
   top_settles m inst vals rest fs t b stack below ks here used (EndObject ∷ w) p a = end_settles m inst vals rest fs t b stack below ks here used w EndObject a.0 p a.1 a.2
   top_settles m inst vals rest fs t b stack below ks here used (EndPrefixed ∷ w) p a = end_settles m inst vals rest fs t b stack below ks here used w EndPrefixed a.0 p a.1 a.2
+  top_settles m inst vals rest fs t b stack below ks here used (EndEvaluation wanted ∷ w) p a = end_settles m inst vals rest fs t b stack below ks here used w (EndEvaluation wanted) a.0 p a.1 a.2
   top_settles m inst vals rest fs t b stack below ks here used (EndLevel k ∷ w) p a = end_settles m inst vals rest fs t b stack below ks here used w (EndLevel k) a.0 p a.3 (a.1, a.2, a.4, a.5)
 
   -- an activation that is as the relation says
-  pub as_act : (y : machine.Activation) (inst : ℕ) (run : Runs) → y.thunk ≡ false → y.home ≡ inst → y.room ≡ run.room → y.stage ≡ run.stage → y ≡ act inst y.pc y.stack run
+  pub as_act : (y : machine.Activation) (inst : ℕ) (run : Runs) → y.thunk ≡ run.thunk → y.home ≡ inst → y.room ≡ run.room → y.stage ≡ run.stage → y ≡ act inst y.pc y.stack run
   as_act y inst run a h r g =
       ap (λ z. let v : machine.Activation = record { thunk = z; home = y.home; pc = y.pc; stack = y.stack; room = y.room; stage = y.stage } in v) a
-      ∙ ap (λ z. let v : machine.Activation = record { thunk = false; home = z; pc = y.pc; stack = y.stack; room = y.room; stage = y.stage } in v) h
-      ∙ ap (λ z. let v : machine.Activation = record { thunk = false; home = inst; pc = y.pc; stack = y.stack; room = z; stage = y.stage } in v) r
-      ∙ ap (λ z. let v : machine.Activation = record { thunk = false; home = inst; pc = y.pc; stack = y.stack; room = run.room; stage = z } in v) g
+      ∙ ap (λ z. let v : machine.Activation = record { thunk = run.thunk; home = z; pc = y.pc; stack = y.stack; room = y.room; stage = y.stage } in v) h
+      ∙ ap (λ z. let v : machine.Activation = record { thunk = run.thunk; home = inst; pc = y.pc; stack = y.stack; room = z; stage = y.stage } in v) r
+      ∙ ap (λ z. let v : machine.Activation = record { thunk = run.thunk; home = inst; pc = y.pc; stack = y.stack; room = run.room; stage = z } in v) g
 
-  settles : (m : Instances) (chain : List Activation) (fs : Frames) (below : List machine.Activation) → StoreAt s code m fs → StandingsAt s code m fs → SaneOn m chain → NamesOn s m chain → ChainAt s code m fs chain false below → Settles (record { chain = chain; memory = m }) (record { chain = below; memory = fs })
-  settles m [] fs below a parked sane names c = (_, (0, no_step), record { chain = c; store = a; parked = parked })
-  settles m (x ∷ rest) fs [] a parked sane names c = absurd c
-  settles m (x ∷ rest) fs (y ∷ below) a parked sane names c =
+  settles : (o : World) (m : Instances) (chain : List Activation) (fs : Frames) (below : List machine.Activation) → StoreAt s code m fs → StandingsAt s code m fs → SaneOn m chain → NamesOn s o m chain → ChainAt s code m fs chain NoValue below → Settles (record { chain = chain; memory = m }) (record { chain = below; memory = fs })
+  settles o m [] fs below a parked sane names c = (_, (0, no_step), record { chain = c; store = a; parked = parked })
+  settles o m (x ∷ rest) fs [] a parked sane names c = absurd c
+  settles o m (x ∷ rest) fs (y ∷ below) a parked sane names c =
+      let Work = WorkAt s code m fs (λ v. ChainAt s code m fs rest v below) x.instance in
+      let flag = top_flag s code (Bottom s code NoValue) m fs x rest NoValue y below c in
       subst (λ z. Settles (record { chain = x ∷ rest; memory = m }) (record { chain = z ∷ below; memory = fs })) (sym (as_act y x.instance c.block c.base c.home c.room c.stage))
-      (top_settles m x.instance x.values rest fs c.text c.block y.stack below c.kinds (record { store = a; parked = parked; lives = sane.0; alone = sane.1; kept_alone = sane.2; formed = formed_as (system_head m) m.standings rest x sane.3; names = names; stands = c.stands; own = c.own; roomy = c.roomy; found = c.found; values = c.values; free = free_top m x rest sane.3 }) c.used x.work y.pc
-      (subst (λ g. WorkAt s code m fs (λ v. ChainAt s code m fs rest v below) x.instance c.text c.block c.used x.work y.pc (given g c.kinds)) (gets_free (suspended m x.instance) false c.gets (free_top m x rest sane.3) c.gets_is) c.goes))
+      (top_settles m x.instance x.values rest fs c.text c.block y.stack below c.kinds (here_top s code m fs x rest y (λ t b used p ks. Work t b used x.work p ks) c flag a parked sane names.0) c.used x.work y.pc
+      (subst (λ g. Work c.text c.block c.used x.work y.pc (given_by g c.kinds)) (gets_free (suspended_by m (owner_of c.block.thunk x.instance)) NoValue c.gets (top_is_free s code m fs x rest y (λ t b used p ks. Work t b used x.work p ks) c flag sane) c.gets_is) c.goes))
 
   -- where the machine has steps of its own, it makes them
-  pub settle : (c : Configuration) (x : Machine) → Sane c → NamesOn s c.memory c.chain → StateAt s code c x → Settles c x
-  settle c x sane names a = settles c.memory c.chain x.memory x.chain a.store a.parked sane names a.chain
+  pub settle : (o : World) (c : Configuration) (x : Machine) → Sane c → NamesOn s o c.memory c.chain → StateAt s code c x → Settles c x
+  settle o c x sane names a = settles o c.memory c.chain x.memory x.chain a.store a.parked sane names a.chain

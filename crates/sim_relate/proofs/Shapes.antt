@@ -23,7 +23,7 @@ use Rattle.sim_code.specs.Transfers.{Calling, Detaching, Resuming, Transfer}
 use Rattle.sim_code.specs.Sets.{is_set_name}
 use Rattle.sim_code.specs.Simulations.{is_process_name, is_simulation_name}
 use Rattle.sim_meaning.specs.Attributes.{array_attribute, attribute, attribute_place, connected_object, connection_at, declared_attribute, entry_attribute, generation, if_any, own_attribute, parameter_attribute, this_term, transfer_at, transfer_term, variable_attribute, attribute_of_object, block_found, class_made, own_term, process_term, simulation_term}
-use Rattle.sim_meaning.specs.Closing.{formals_at, is_attribute, array_term, behind_dot, close, close_actuals, close_all, close_place, constant_term, declared_term, dot_term, formal_term, home_of, home_of_class, in_instance, is_variable, name_term, named_term, standard_term, stream_of, sysout, variable_term}
+use Rattle.sim_meaning.specs.Closing.{formals_at, is_attribute, array_term, behind_dot, close, close_actuals, close_all, close_place, constant_term, declared_term, dot_term, formal_term, home_of, home_of_class, in_instance, is_variable, standard_name_term, named_term, standard_term, stream_of, sysout, variable_term}
 use Rattle.sim_meaning.specs.Levels.{class_at}
 use Rattle.sim_meaning.specs.Names.{procedure_named}
 use Rattle.sim_meaning.specs.Pending.{Further, Instances, NoTerm, Term, Terms}
@@ -52,7 +52,10 @@ module _ (s : Source) (m : Instances) (i : ℕ) where
   array_leaves line d (Then e es) terms = in_leaves (home_of s m i d) _ (λ j ks. refl)
 
   formal_leaves : (line : ℕ) (d : DeclNo) (by : Mode) (kind : FormalKind) (es : Expressions) (terms : Terms) → Leaves (formal_term s m i line d by kind es terms)
-  formal_leaves line d mode.ByName kind es terms = λ ks. refl
+  formal_leaves line d mode.ByName shape.Simple NoMore terms = in_leaves (home_of s m i d) _ (λ j ks. refl)
+  formal_leaves line d mode.ByName shape.Simple (Then e es) terms = λ ks. refl
+  formal_leaves line d mode.ByName shape.Array es terms = λ ks. refl
+  formal_leaves line d mode.ByName shape.Procedure es terms = λ ks. refl
   formal_leaves line d mode.ByValue shape.Simple es terms = variable_leaves d es
   formal_leaves line d mode.ByValue shape.Array es terms = array_leaves line d es terms
   formal_leaves line d mode.ByValue shape.Procedure es terms = λ ks. refl
@@ -72,7 +75,7 @@ module _ (s : Source) (m : Instances) (i : ℕ) where
   declared_leaves line d (Some (entry.Attribute name parameter result)) es terms actuals = λ ks. refl
   declared_leaves line d None es terms actuals = λ ks. refl
 
-  name_leaves : (is : Bool) (on : Option Standard) (name : Standard) (image line : ℕ) (terms : Terms) → Leaves (name_term is on name image line terms)
+  name_leaves : (is : Bool) (on : Option Standard) (name : Standard) (image line : ℕ) (terms : Terms) → Leaves (standard_name_term is on name image line terms)
   name_leaves true on name image line terms = λ ks. refl
   name_leaves false (Some x) name image line terms = λ ks. refl
   name_leaves false None name image line terms = λ ks. refl

@@ -148,6 +148,10 @@ module _ (code : CodeOf) (l : Limits) (inst : ℕ) (runs : Runs) (below : List m
     pub jumps : {r : Run Configuration} {line p q : ℕ} {stack : List Value} {fs : Frames} {o : World} (x : ℕ) → At code (i.JumpF (pos x)) line p q → Ahead code p x → Meets (mstep code l) (InEach R) r o (place_at x stack fs) → Meets (mstep code l) (InEach R) r o (place_at p (Of (Truth false) ∷ stack) fs)
     jumps {line = line} {p} {q} {stack} {fs} {o} x a ahead more = first (step_at code l line inst runs below (i.JumpF (pos x)) p q o (Of (Truth false) ∷ stack) fs (Going o (place_at x stack fs)) a (jumps_row line fs o p x stack ahead)) more
 
+    -- a jump that is always taken
+    pub over : {r : Run Configuration} {line p q : ℕ} {stack : List Value} {fs : Frames} {o : World} {x : ℕ} → At code (i.Jump (pos x)) line p q → Ahead code p x → Meets (mstep code l) (InEach R) r o (place_at x stack fs) → Meets (mstep code l) (InEach R) r o (place_at p stack fs)
+    over {line = line} {p} {q} {stack} {fs} {o} {x} a ahead more = first (step_at code l line inst runs below (i.Jump (pos x)) p q o stack fs (Going o (place_at x stack fs)) a (jumps_to code p x o _ ahead)) more
+
     -- the step that is matched
     pub matched : {r : Run Configuration} {o : World} {x : Machine} (z : Run Machine) → mstep code l o x ≡ z → Catches (mstep code l) (InEach R) r z → Meets (mstep code l) (InEach R) r o x
     matched {r} z e a = meets (subst (λ y. Catches (mstep code l) (InEach R) r y) (sym e) a)

@@ -50,6 +50,8 @@ use Rattle.sim_relate.proofs.Operators.{at_frame, chosen, onward, pushes, same_p
 use Rattle.sim_relate.proofs.Relation.{ChainAt, OpAt, StateAt, WorkAt}
 use Rattle.sim_relate.proofs.Scheduled.{activates, does}
 use Rattle.sim_relate.proofs.SimulationNames.{process_no_set, simulation_no_process, simulation_no_set}
+use Rattle.sim_relate.proofs.Waiting.{NoValue}
+use Rattle.sim_relate.proofs.Carried.{work_flag}
 
 -- whether a class of the code is that of the class `process`
 abbrev is_marked_level : CodeOf → Option ℕ → Bool
@@ -152,7 +154,7 @@ module _ (s : Source) (code : CodeOf) (compiled : Compiled s code) (l : Limits) 
   -- the notices decide who goes on; the instance waits, with what is left in its hand
   notices_decide : (line : ℕ) (left : List Kind) → ks' ≡ left → q ≡ suc pc → (p : World) (y : ℕ × Simulation) (r : Result (List Notice) RunError) (vals' : List Val) (stack' : List Value) → StackAt (HandAt s code m) left vals' stack' → Alike R (decided m inst w rest line p y r vals') (rows.decided o fs top below line p y r stack')
   notices_decide line left out place p y r vals' stack' h =
-      decides s code compiled p m fs here.store here.parked line _ _ (waits s code compiled l o m inst w vals rest fs t b pc stack below ks here u q ks' low work false left vals' stack' h (λ no. absurd (cc)) out place) (here.formed w vals') y r
+      decides s code compiled p m fs here.store here.parked line _ _ (waits s code compiled l o m inst w vals rest fs t b pc stack below ks here u q ks' low work NoValue left vals' stack' h (λ no. absurd (cc)) tt out place) (here.formed w vals' (work_flag s code m fs (λ v. ChainAt s code m fs rest v below) inst t b u w q ks' work)) y r
 
   pub simulation_op : (name : Standard) (line : ℕ) → Follows (SimulationOp name line)
   simulation_op name line a =

@@ -11,10 +11,11 @@ use Rattle.sim_tree.specs.declared.stmt.TypeName.{TypeName}
 use Rattle.sim_values.specs.declared.kind.Kind.{Kind}
 use Rattle.sim_values.specs.declared.kind.Kind.TheVariants as kind
 use Rattle.sim_code.specs.declared.code.CodeType.{CodeType}
+use Rattle.sim_code.specs.Code.{CodeOf}
 use Rattle.sim_code.specs.Machine.{Value, first_value, joined}
 use Rattle.sim_code.specs.Machine as machine
 use Rattle.sim_code.proofs.Lifts.{Both, EachAt}
-use Rattle.sim_meaning.specs.Pending.{Connection, Declared, Held, Key, Result, Val, held, held_put, held_set, same_key}
+use Rattle.sim_meaning.specs.Pending.{Connection, Declared, Held, Instances, Key, Result, Val, held, held_put, held_set, same_key}
 use Rattle.sim_meaning.specs.Pending as meaning
 use Rattle.sim_meaning.specs.Entries.{cells_from, filled, filled_behind, held_before, of_kind, with_cell, with_result}
 use Rattle.sim_meaning.specs.Objects.{attributes_from, constant_cell, with_attribute}
@@ -227,127 +228,15 @@ place_behind key (h ∷ hs) gs le = behind_if (same_key h.key key) (place_of key
 -- ---- cells and slots, one by one
 
 module _ (s : Source) where
-  abbrev pub HeldAt : List Held → List (Option Value) → Type 0
-  HeldAt [] cells = Unit {0}
-  HeldAt (h ∷ hs) [] = ⊥
-  HeldAt (h ∷ hs) (c ∷ cells) = SlotAt s (is_fixed s h.key) h.key h.value c × HeldAt hs cells
-
-  pub cells_fit : (hs : List Held) (cells : List (Option Value)) → HeldAt hs cells → length hs ≤ length cells
-  cells_fit [] cells a = omega arith
-  cells_fit (h ∷ hs) [] a = absurd a
-  cells_fit (h ∷ hs) (c ∷ cells) a = let e = cells_fit hs cells a.1 in omega (arith, e)
-
-  read_if : (b : Bool) (key : Key) (h : Held) (xs : Option Val) (c : Option Value) (cells : List (Option Value)) (n m : ℕ) → same_key h.key key ≡ b → SlotAt s (is_fixed s h.key) h.key h.value c → (n < m → SlotAt s (is_fixed s key) key xs (joined (slice_get cells n))) → (if b then 0 else suc n) < suc m
-      → SlotAt s (is_fixed s key) key (if b then h.value else xs) (joined (slice_get (c ∷ cells) (if b then 0 else suc n)))
-  read_if true key h xs c cells n m e here there lt = subst (λ z. SlotAt s (is_fixed s z) z h.value c) (same_is h.key key e) here
-  read_if false key h xs c cells n m e here there lt = there (omega (arith, lt))
-
-  -- a cell by its key, and by its place
-  pub cells_read : (key : Key) (hs : List Held) (cells : List (Option Value)) → HeldAt hs cells → place_of key hs < length hs → SlotAt s (is_fixed s key) key (held key hs) (joined (slice_get cells (place_of key hs)))
-  cells_read key [] cells a lt = absurd (omega (arith, lt))
-  cells_read key (h ∷ hs) [] a lt = absurd a
-  cells_read key (h ∷ hs) (c ∷ cells) a lt = read_if (same_key h.key key) key h (held key hs) c cells (place_of key hs) (length hs) refl a.0 (cells_read key hs cells a.1) lt
-
-  -- ---- filling
-
   -- the first cells are no constants'
   abbrev pub VaryFirst : ℕ → List Held → Type 0
   VaryFirst zero hs = Unit {0}
   VaryFirst (suc n) [] = Unit {0}
   VaryFirst (suc n) (h ∷ hs) = (is_fixed s h.key ≡ false) × VaryFirst n hs
 
-  -- other cells of the same keys
-  pub record Written (o : Option (List Held)) (hs : List Held) (cells : List (Option Value)) : Type 0 where
-    pub now : List Held
-    pub is : o ≡ Some now
-    pub at : HeldAt now cells
-    pub keys : map key_of now ≡ map key_of hs
-
-  fill_behind : (h g : Held) (o : Option (List Held)) (hs : List Held) (c : Option Value) (cells : List (Option Value)) → g.key ≡ h.key → SlotAt s (is_fixed s g.key) g.key g.value c → Written o hs cells → Written (held_before g o) (h ∷ hs) (c ∷ cells)
-  fill_behind h g o hs c cells e here w = record { now = g ∷ w.now; is = ap (held_before g) w.is; at = (here, w.at); keys = ap (λ k. k ∷ map key_of w.now) e ∙ ap (λ z. h.key ∷ z) w.keys }
-
-  pub slot_with : (fixed : Bool) (key : Key) (v : Val) (y : Value) → fixed ≡ false → ValAt v y → SlotAt s fixed key (Some v) (Some y)
-  slot_with true key v y e w = absurd (cc)
-  slot_with false key v y e w = w
-
-  pub cells_filled : (vs : List Val) (ys : List Value) (hs : List Held) (cells : List (Option Value)) → HeldAt hs cells → EachAt ValAt vs ys → length vs ≤ length hs → VaryFirst (length vs) hs → Written (filled vs hs) hs (put_from 0 ys cells)
-  cells_filled [] [] hs cells a e le vary = record { now = hs; is = refl; at = a; keys = refl }
-  cells_filled [] (y ∷ ys) hs cells a e le vary = absurd e
-  cells_filled (v ∷ vs) [] hs cells a e le vary = absurd e
-  cells_filled (v ∷ vs) (y ∷ ys) [] cells a e le vary = absurd (omega (arith, le))
-  cells_filled (v ∷ vs) (y ∷ ys) (h ∷ hs) [] a e le vary = absurd a
-  cells_filled (v ∷ vs) (y ∷ ys) (h ∷ hs) (c ∷ cells) a e le vary =
-      fill_behind h (record { key = h.key; value = Some v }) (filled vs hs) hs (Some y) (put_from 0 ys cells) refl (slot_with (is_fixed s h.key) h.key v y vary.0 e.0) (cells_filled vs ys hs cells a.1 e.1 (omega (arith, le)) vary.1)
-
-  pub cells_filled_behind : (result : Option TypeName) (vs : List Val) (ys : List Value) (hs : List Held) (cells : List (Option Value)) → HeldAt hs cells → EachAt ValAt vs ys → results result + length vs ≤ length hs → VaryFirst (results result + length vs) hs → Written (filled_behind result vs hs) hs (put_from (results result) ys cells)
-  cells_filled_behind None vs ys hs cells a e le vary = let same : 0 + length vs ≡ length vs = omega arith in cells_filled vs ys hs cells a e (omega (arith, le)) (subst (λ n. VaryFirst n hs) same vary)
-  cells_filled_behind (Some type) vs ys [] cells a e le vary = absurd (omega (arith, le))
-  cells_filled_behind (Some type) vs ys (h ∷ hs) [] a e le vary = absurd a
-  cells_filled_behind (Some type) vs ys (h ∷ hs) (c ∷ cells) a e le vary =
-      let same : 1 + length vs ≡ suc (length vs) = omega arith in
-      let more = subst (λ n. VaryFirst n (h ∷ hs)) same vary in
-      fill_behind h h (filled vs hs) hs c (put_from 0 ys cells) refl a.0 (cells_filled vs ys hs cells a.1 e (omega (arith, le)) more.1)
-
-  -- ---- first values
-
-  first_kind : (k : Kind) → Both ValAt (of_kind k) (first_value (type_of_value (of_kind k)))
-  first_kind kind.Integer = plain_at
-  first_kind kind.Boolean = plain_at
-  first_kind kind.Character = plain_at
-  first_kind kind.Text = plain_at
-  first_kind kind.Reference = plain_at
-
-  slot_false : (fixed : Bool) (key : Key) (v : Option Val) (c : Option Value) → fixed ≡ false → Both ValAt v c → SlotAt s fixed key v c
-  slot_false true key v c e b = absurd (cc)
-  slot_false false key v c e b = b
-
-  slot_true : (fixed : Bool) (key : Key) (v : Option Val) (c : Option Value) → fixed ≡ true → (v ≡ None) ⊎ (v ≡ fixed_value s key) → SlotAt s fixed key v c
-  slot_true true key v c e b = b
-  slot_true false key v c e b = absurd (cc)
-
-  is_one : (d : DeclNo) (o : Option Entry) → entry_of s.tables d ≡ o → is_fixed s (Declared d.0) ≡ is_constant o
-  is_one d o e = ap is_constant e
-
   -- what the code says of cells, and behind them
   abbrev pub Typed : List CodeType → List Held → List (Option Value)
   Typed rest gs = map first_value (map type_of_cell gs ++ rest)
-
-  module _ (rest : List CodeType) where
-    cell_at : (d : DeclNo) (o : Option Entry) (hs gs : List Held) → entry_of s.tables d ≡ o → HeldAt hs (Typed rest gs) → HeldAt (with_cell d o hs) (Typed rest (with_cell d o gs))
-    cell_at d (Some (entry.Variable type)) hs gs e a = (slot_false (is_fixed s (Declared d.0)) (Declared d.0) _ _ (is_one d _ e) (first_kind (kind_of_type type)), a)
-    cell_at d (Some (entry.Constant type)) hs gs e a = (slot_true (is_fixed s (Declared d.0)) (Declared d.0) _ _ (is_one d _ e) (inl refl), a)
-    cell_at d (Some (entry.Array element dimensions)) hs gs e a = (slot_false (is_fixed s (Declared d.0)) (Declared d.0) None None (is_one d _ e) tt, a)
-    cell_at d (Some (entry.Formal f)) hs gs e a = (slot_false (is_fixed s (Declared d.0)) (Declared d.0) None None (is_one d _ e) tt, a)
-    cell_at d (Some (entry.Procedure result k)) hs gs e a = a
-    cell_at d (Some (entry.Class k)) hs gs e a = a
-    cell_at d (Some (entry.Virtual result own)) hs gs e a = a
-    cell_at d (Some (entry.Unspecified written)) hs gs e a = a
-    cell_at d (Some (entry.Attribute name parameter result)) hs gs e a = a
-    cell_at d None hs gs e a = a
-
-    pub cells_at : (ds : List DeclNo) → HeldAt (cells_from s ds) (Typed rest (cells_from s ds))
-    cells_at [] = tt
-    cells_at (d ∷ ds) = cell_at d (entry_of s.tables d) (cells_from s ds) (cells_from s ds) refl (cells_at ds)
-
-    pub result_at : (result : Option TypeName) (hs gs : List Held) → HeldAt hs (Typed rest gs) → HeldAt (with_result result hs) (Typed rest (with_result result gs))
-    result_at None hs gs a = a
-    result_at (Some type) hs gs a = (first_kind (kind_named type), a)
-
-    attribute_at : (d : DeclNo) (o : Option Entry) (hs gs : List Held) → entry_of s.tables d ≡ o → HeldAt hs (Typed rest gs) → HeldAt (with_attribute s d o hs) (Typed rest (with_cell d o gs))
-    attribute_at d (Some (entry.Variable type)) hs gs e a = cell_at d (Some (entry.Variable type)) hs gs e a
-    attribute_at d (Some (entry.Constant type)) hs gs e a = (slot_true (is_fixed s (Declared d.0)) (Declared d.0) (constant_cell (constant_of s d)) None (is_one d _ e) (inr refl), a)
-    attribute_at d (Some (entry.Array element dimensions)) hs gs e a = cell_at d (Some (entry.Array element dimensions)) hs gs e a
-    attribute_at d (Some (entry.Formal f)) hs gs e a = cell_at d (Some (entry.Formal f)) hs gs e a
-    attribute_at d (Some (entry.Procedure result k)) hs gs e a = a
-    attribute_at d (Some (entry.Class k)) hs gs e a = a
-    attribute_at d (Some (entry.Virtual result own)) hs gs e a = a
-    attribute_at d (Some (entry.Unspecified written)) hs gs e a = a
-    attribute_at d (Some (entry.Attribute name parameter result)) hs gs e a = a
-    attribute_at d None hs gs e a = a
-
-    pub attributes_at : (ds : List DeclNo) → HeldAt (attributes_from s ds) (Typed rest (cells_from s ds))
-    attributes_at [] = tt
-    attributes_at (d ∷ ds) = attribute_at d (entry_of s.tables d) (attributes_from s ds) (cells_from s ds) refl (attributes_at ds)
 
   attribute_keys : (d : DeclNo) (o : Option Entry) (hs gs : List Held) → map key_of hs ≡ map key_of gs → map key_of (with_attribute s d o hs) ≡ map key_of (with_cell d o gs)
   attribute_keys d (Some (entry.Variable type)) hs gs e = ap (λ z. Declared d.0 ∷ z) e
@@ -364,6 +253,119 @@ module _ (s : Source) where
   pub attributes_keys : (ds : List DeclNo) → map key_of (attributes_from s ds) ≡ map key_of (cells_from s ds)
   attributes_keys [] = refl
   attributes_keys (d ∷ ds) = attribute_keys d (entry_of s.tables d) (attributes_from s ds) (cells_from s ds) (attributes_keys ds)
+
+module _ (s : Source) (code : CodeOf) (m : Instances) where
+  abbrev pub HeldAt : List Held → List (Option Value) → Type 0
+  HeldAt [] cells = Unit {0}
+  HeldAt (h ∷ hs) [] = ⊥
+  HeldAt (h ∷ hs) (c ∷ cells) = SlotAt s code m (is_fixed s h.key) h.key h.value c × HeldAt hs cells
+
+  pub cells_fit : (hs : List Held) (cells : List (Option Value)) → HeldAt hs cells → length hs ≤ length cells
+  cells_fit [] cells a = omega arith
+  cells_fit (h ∷ hs) [] a = absurd a
+  cells_fit (h ∷ hs) (c ∷ cells) a = let e = cells_fit hs cells a.1 in omega (arith, e)
+
+  read_if : (b : Bool) (key : Key) (h : Held) (xs : Option Val) (c : Option Value) (cells : List (Option Value)) (n long : ℕ) → same_key h.key key ≡ b → SlotAt s code m (is_fixed s h.key) h.key h.value c → (n < long → SlotAt s code m (is_fixed s key) key xs (joined (slice_get cells n))) → (if b then 0 else suc n) < suc long
+      → SlotAt s code m (is_fixed s key) key (if b then h.value else xs) (joined (slice_get (c ∷ cells) (if b then 0 else suc n)))
+  read_if true key h xs c cells n long e here there lt = subst (λ z. SlotAt s code m (is_fixed s z) z h.value c) (same_is h.key key e) here
+  read_if false key h xs c cells n long e here there lt = there (omega (arith, lt))
+
+  -- a cell by its key, and by its place
+  pub cells_read : (key : Key) (hs : List Held) (cells : List (Option Value)) → HeldAt hs cells → place_of key hs < length hs → SlotAt s code m (is_fixed s key) key (held key hs) (joined (slice_get cells (place_of key hs)))
+  cells_read key [] cells a lt = absurd (omega (arith, lt))
+  cells_read key (h ∷ hs) [] a lt = absurd a
+  cells_read key (h ∷ hs) (c ∷ cells) a lt = read_if (same_key h.key key) key h (held key hs) c cells (place_of key hs) (length hs) refl a.0 (cells_read key hs cells a.1) lt
+
+  -- ---- filling
+
+  -- other cells of the same keys
+  pub record Written (o : Option (List Held)) (hs : List Held) (cells : List (Option Value)) : Type 0 where
+    pub now : List Held
+    pub is : o ≡ Some now
+    pub at : HeldAt now cells
+    pub keys : map key_of now ≡ map key_of hs
+
+  fill_behind : (h g : Held) (o : Option (List Held)) (hs : List Held) (c : Option Value) (cells : List (Option Value)) → g.key ≡ h.key → SlotAt s code m (is_fixed s g.key) g.key g.value c → Written o hs cells → Written (held_before g o) (h ∷ hs) (c ∷ cells)
+  fill_behind h g o hs c cells e here w = record { now = g ∷ w.now; is = ap (held_before g) w.is; at = (here, w.at); keys = ap (λ k. k ∷ map key_of w.now) e ∙ ap (λ z. h.key ∷ z) w.keys }
+
+  pub slot_with : (fixed : Bool) (key : Key) (v : Val) (y : Value) → fixed ≡ false → ValAt s code m v y → SlotAt s code m fixed key (Some v) (Some y)
+  slot_with true key v y e w = absurd (cc)
+  slot_with false key v y e w = w
+
+  pub cells_filled : (vs : List Val) (ys : List Value) (hs : List Held) (cells : List (Option Value)) → HeldAt hs cells → EachAt (ValAt s code m) vs ys → length vs ≤ length hs → VaryFirst s (length vs) hs → Written (filled vs hs) hs (put_from 0 ys cells)
+  cells_filled [] [] hs cells a e le vary = record { now = hs; is = refl; at = a; keys = refl }
+  cells_filled [] (y ∷ ys) hs cells a e le vary = absurd e
+  cells_filled (v ∷ vs) [] hs cells a e le vary = absurd e
+  cells_filled (v ∷ vs) (y ∷ ys) [] cells a e le vary = absurd (omega (arith, le))
+  cells_filled (v ∷ vs) (y ∷ ys) (h ∷ hs) [] a e le vary = absurd a
+  cells_filled (v ∷ vs) (y ∷ ys) (h ∷ hs) (c ∷ cells) a e le vary =
+      fill_behind h (record { key = h.key; value = Some v }) (filled vs hs) hs (Some y) (put_from 0 ys cells) refl (slot_with (is_fixed s h.key) h.key v y vary.0 e.0) (cells_filled vs ys hs cells a.1 e.1 (omega (arith, le)) vary.1)
+
+  pub cells_filled_behind : (result : Option TypeName) (vs : List Val) (ys : List Value) (hs : List Held) (cells : List (Option Value)) → HeldAt hs cells → EachAt (ValAt s code m) vs ys → results result + length vs ≤ length hs → VaryFirst s (results result + length vs) hs → Written (filled_behind result vs hs) hs (put_from (results result) ys cells)
+  cells_filled_behind None vs ys hs cells a e le vary = let same : 0 + length vs ≡ length vs = omega arith in cells_filled vs ys hs cells a e (omega (arith, le)) (subst (λ n. VaryFirst s n hs) same vary)
+  cells_filled_behind (Some type) vs ys [] cells a e le vary = absurd (omega (arith, le))
+  cells_filled_behind (Some type) vs ys (h ∷ hs) [] a e le vary = absurd a
+  cells_filled_behind (Some type) vs ys (h ∷ hs) (c ∷ cells) a e le vary =
+      let same : 1 + length vs ≡ suc (length vs) = omega arith in
+      let more = subst (λ n. VaryFirst s n (h ∷ hs)) same vary in
+      fill_behind h h (filled vs hs) hs c (put_from 0 ys cells) refl a.0 (cells_filled vs ys hs cells a.1 e (omega (arith, le)) more.1)
+
+  -- ---- first values
+
+  first_kind : (k : Kind) → Both (ValAt s code m) (of_kind k) (first_value (type_of_value (of_kind k)))
+  first_kind kind.Integer = plain_at
+  first_kind kind.Boolean = plain_at
+  first_kind kind.Character = plain_at
+  first_kind kind.Text = plain_at
+  first_kind kind.Reference = plain_at
+
+  slot_false : (fixed : Bool) (key : Key) (v : Option Val) (c : Option Value) → fixed ≡ false → Both (ValAt s code m) v c → SlotAt s code m fixed key v c
+  slot_false true key v c e b = absurd (cc)
+  slot_false false key v c e b = b
+
+  slot_true : (fixed : Bool) (key : Key) (v : Option Val) (c : Option Value) → fixed ≡ true → (v ≡ None) ⊎ (v ≡ fixed_value s key) → SlotAt s code m fixed key v c
+  slot_true true key v c e b = b
+  slot_true false key v c e b = absurd (cc)
+
+  is_one : (d : DeclNo) (o : Option Entry) → entry_of s.tables d ≡ o → is_fixed s (Declared d.0) ≡ is_constant o
+  is_one d o e = ap is_constant e
+
+  module _ (rest : List CodeType) where
+    cell_at : (d : DeclNo) (o : Option Entry) (hs gs : List Held) → entry_of s.tables d ≡ o → HeldAt hs (Typed s rest gs) → HeldAt (with_cell d o hs) (Typed s rest (with_cell d o gs))
+    cell_at d (Some (entry.Variable type)) hs gs e a = (slot_false (is_fixed s (Declared d.0)) (Declared d.0) _ _ (is_one d _ e) (first_kind (kind_of_type type)), a)
+    cell_at d (Some (entry.Constant type)) hs gs e a = (slot_true (is_fixed s (Declared d.0)) (Declared d.0) _ _ (is_one d _ e) (inl refl), a)
+    cell_at d (Some (entry.Array element dimensions)) hs gs e a = (slot_false (is_fixed s (Declared d.0)) (Declared d.0) None None (is_one d _ e) tt, a)
+    cell_at d (Some (entry.Formal f)) hs gs e a = (slot_false (is_fixed s (Declared d.0)) (Declared d.0) None None (is_one d _ e) tt, a)
+    cell_at d (Some (entry.Procedure result k)) hs gs e a = a
+    cell_at d (Some (entry.Class k)) hs gs e a = a
+    cell_at d (Some (entry.Virtual result own)) hs gs e a = a
+    cell_at d (Some (entry.Unspecified written)) hs gs e a = a
+    cell_at d (Some (entry.Attribute name parameter result)) hs gs e a = a
+    cell_at d None hs gs e a = a
+
+    pub cells_at : (ds : List DeclNo) → HeldAt (cells_from s ds) (Typed s rest (cells_from s ds))
+    cells_at [] = tt
+    cells_at (d ∷ ds) = cell_at d (entry_of s.tables d) (cells_from s ds) (cells_from s ds) refl (cells_at ds)
+
+    pub result_at : (result : Option TypeName) (hs gs : List Held) → HeldAt hs (Typed s rest gs) → HeldAt (with_result result hs) (Typed s rest (with_result result gs))
+    result_at None hs gs a = a
+    result_at (Some type) hs gs a = (first_kind (kind_named type), a)
+
+    attribute_at : (d : DeclNo) (o : Option Entry) (hs gs : List Held) → entry_of s.tables d ≡ o → HeldAt hs (Typed s rest gs) → HeldAt (with_attribute s d o hs) (Typed s rest (with_cell d o gs))
+    attribute_at d (Some (entry.Variable type)) hs gs e a = cell_at d (Some (entry.Variable type)) hs gs e a
+    attribute_at d (Some (entry.Constant type)) hs gs e a = (slot_true (is_fixed s (Declared d.0)) (Declared d.0) (constant_cell (constant_of s d)) None (is_one d _ e) (inr refl), a)
+    attribute_at d (Some (entry.Array element dimensions)) hs gs e a = cell_at d (Some (entry.Array element dimensions)) hs gs e a
+    attribute_at d (Some (entry.Formal f)) hs gs e a = cell_at d (Some (entry.Formal f)) hs gs e a
+    attribute_at d (Some (entry.Procedure result k)) hs gs e a = a
+    attribute_at d (Some (entry.Class k)) hs gs e a = a
+    attribute_at d (Some (entry.Virtual result own)) hs gs e a = a
+    attribute_at d (Some (entry.Unspecified written)) hs gs e a = a
+    attribute_at d (Some (entry.Attribute name parameter result)) hs gs e a = a
+    attribute_at d None hs gs e a = a
+
+    pub attributes_at : (ds : List DeclNo) → HeldAt (attributes_from s ds) (Typed s rest (cells_from s ds))
+    attributes_at [] = tt
+    attributes_at (d ∷ ds) = attribute_at d (entry_of s.tables d) (attributes_from s ds) (cells_from s ds) refl (attributes_at ds)
 
 -- ---- behind the declared cells
 

@@ -18,15 +18,16 @@ use Rattle.sim_meaning.specs.Pending.{Activation, Held, Instances, Key, Val, hel
 use Rattle.sim_meaning.specs.Pending as meaning
 use Rattle.sim_meaning.specs.Sane.{Lives, Other}
 use Rattle.sim_meaning.specs.Texts.{is_class_free, text}
-use Rattle.codegen_expr.specs.Sites.{HasCell, LevelOf, block_number, frame_text, innermost, own_end, place_of, slot_of}
+use Rattle.codegen_expr.specs.Sites.{HasCell, LevelOf, block_number, expression_temps, frame_text, innermost, own_end, place_of, slot_of}
 use Rattle.sim_relate.proofs.Frames.{bool_cases}
 use Rattle.sim_relate.proofs.Heads.{Heads, Same, both_found, both_heads, entered_same, given_both, given_same, heads_refl, is_live_at, kept_same, later_all, later_heads, later_itself, set_self}
 use Rattle.sim_relate.proofs.Layouts.{less_or}
 use Rattle.sim_relate.proofs.Lists.{append_at, append_before, append_both, both_as, same_length, set_both, set_other, set_same, there_get}
 use Rattle.sim_relate.proofs.Living.{lives_now}
 use Rattle.sim_relate.proofs.Reach.{if_true, is_there, same_some}
-use Rattle.sim_relate.proofs.Known.{Every, IsTemp, Keeps, Later, Rooted, Runs, SlotAt, Stands, ValAt, fixed_value, inside, is_declared, is_fixed, outermost, placed, placed_in, unenclosed}
+use Rattle.sim_relate.proofs.Known.{Low, Every, InTemps, IsTemp, Keeps, Later, Rooted, Runs, SlotAt, Stands, ValAt, fixed_value, inside, is_declared, is_fixed, outermost, placed, placed_in, unenclosed}
 use Rattle.sim_relate.proofs.Relation.{Changed, InstanceAt, StoreAt}
+use Rattle.sim_relate.proofs.Values.{instance_later, pair_later}
 use Rattle.sim_relate.proofs.Slots.{less_true, put_in, same_is, same_self, set_in}
 
 -- ---- frames after a value is put into a cell of one of them
@@ -62,11 +63,19 @@ module _ (fs : Frames) (j : ℕ) (y : Instance Cells) (lives : live fs j ≡ Som
 
 -- ---- both stores
 
+-- behind a temp that is taken
+pub low_behind : (s : Source) (code : CodeOf) (t : ℕ) (b : Runs) (u temp : ℕ) → b.thunk ≡ None → Low s code t b u → own_end s code (frame_text s t) + expression_temps ≤ temp → Low s code t b (suc temp)
+low_behind s code t b u temp frame low behind = record { low = omega (arith, behind); temps = low.temps; full = λ n e. absurd (cc (e, frame)) }
+
+-- a temp of statements is one of the temps
+in_temps : (s : Source) (code : CodeOf) (u c : ℕ) (b : BlockOf) → IsTemp s code u c b → InTemps s code u c b
+in_temps s code u c b a = let behind = a.behind in record { behind = omega (arith, behind); within = a.within }
+
 module _ (s : Source) (code : CodeOf) where
-  pub instance_kept : {x : Instance (List Held)} {y : Instance Cells} → InstanceAt s code x y → InstanceAt s code (record x { kept = true }) (record y { kept = true })
+  pub instance_kept : {m : Instances} {x : Instance (List Held)} {y : Instance Cells} → InstanceAt s code m x y → InstanceAt s code m (record x { kept = true }) (record y { kept = true })
   instance_kept a = record { number = a.number; level = a.level; encloser = a.encloser; passing = a.passing; passes_so = a.passes_so; kept = refl; given_back = a.given_back; own = a.own; solid = a.solid; laid = a.laid; cells = a.cells; there = a.there; size = a.size }
 
-  pub instance_given : {x : Instance (List Held)} {y : Instance Cells} → InstanceAt s code x y → InstanceAt s code (record x { given_back = true }) (record y { given_back = true })
+  pub instance_given : {m : Instances} {x : Instance (List Held)} {y : Instance Cells} → InstanceAt s code m x y → InstanceAt s code m (record x { given_back = true }) (record y { given_back = true })
   instance_given a = record { number = a.number; level = a.level; encloser = a.encloser; passing = a.passing; passes_so = a.passes_so; kept = a.kept; given_back = refl; own = a.own; solid = a.solid; laid = a.laid; cells = a.cells; there = a.there; size = a.size }
 
   -- each instance still stands for its own text
@@ -79,20 +88,23 @@ module _ (s : Source) (code : CodeOf) where
           let h : Heads y x = subst (λ z. Both Heads z (Some x)) eo b in
           subst (λ z. Stands s m' j z) (sym h.text) ((later_all s m m' both).stands j y.text (all j y eo))
 
-  pub store_put : {m : Instances} {fs : Frames} → StoreAt s code m fs → (j : ℕ) (old x : Instance (List Held)) (y : Instance Cells) → slice_get m.instances j ≡ Some old → Heads old x → InstanceAt s code x y → StoreAt s code (with_instance m j x) (with_instance fs j y)
-  store_put {m} {fs} a j old x y there h p = record {
-    as_many = length-set m.instances j x ∙ a.as_many ∙ sym (length-set fs.instances j y);
-    at = set_both (λ k. InstanceAt s code) m.instances fs.instances j x y a.at p;
-    all = all_heads m (with_instance m j x) (λ k. set_self Heads heads_refl m.instances j old x there h k) a.all;
-  }
+  pub store_put : {m : Instances} {fs : Frames} → StoreAt s code m fs → (j : ℕ) (old x : Instance (List Held)) (y : Instance Cells) → slice_get m.instances j ≡ Some old → Heads old x → InstanceAt s code m x y → StoreAt s code (with_instance m j x) (with_instance fs j y)
+  store_put {m} {fs} a j old x y there h p =
+      let both : (k : ℕ) → Both Heads (slice_get m.instances k) (slice_get (with_instance m j x).instances k) = λ k. set_self Heads heads_refl m.instances j old x there h k in
+      let later = later_all s m (with_instance m j x) both in
+      record {
+        as_many = length-set m.instances j x ∙ a.as_many ∙ sym (length-set fs.instances j y);
+        at = set_both (λ k. InstanceAt s code (with_instance m j x)) m.instances fs.instances j x y (λ k. pair_later s code m (with_instance m j x) later (slice_get m.instances k) (slice_get fs.instances k) (a.at k)) (instance_later s code m (with_instance m j x) later x y p);
+        all = all_heads m (with_instance m j x) both a.all;
+      }
 
-  slot_both : (f : Bool) (key : Key) (v : Option Val) (c : Option Value) → f ≡ false → SlotAt s f key v c → Both ValAt v c
-  slot_both true key v c e a = absurd (cc)
-  slot_both false key v c e a = a
+  slot_both : (m : Instances) (f : Bool) (key : Key) (v : Option Val) (c : Option Value) → f ≡ false → SlotAt s code m f key v c → Both (ValAt s code m) v c
+  slot_both m true key v c e a = absurd (cc)
+  slot_both m false key v c e a = a
 
   module _ (m : Instances) (fs : Frames) (a : StoreAt s code m fs) where
-    pub live_pair : (j : ℕ) → Both (InstanceAt s code) (live m j) (live fs j)
-    live_pair j = given_both (InstanceAt s code) (λ x y i. i.given_back) (slice_get m.instances j) (slice_get fs.instances j) (a.at j)
+    pub live_pair : (j : ℕ) → Both (InstanceAt s code m) (live m j) (live fs j)
+    live_pair j = given_both (InstanceAt s code m) (λ x y i. i.given_back) (slice_get m.instances j) (slice_get fs.instances j) (a.at j)
 
     -- an instance that stands for a text, and its frame
     pub record Framed (j t : ℕ) : Type 0 where
@@ -100,14 +112,14 @@ module _ (s : Source) (code : CodeOf) where
       pub lives : live m j ≡ Some now
       pub frame : Instance Cells
       pub frame_lives : live fs j ≡ Some frame
-      pub pair : InstanceAt s code now frame
+      pub pair : InstanceAt s code m now frame
       pub of_levels : LevelOf s.tables now.text (frame_text s t)
 
     pub framed : {j t : ℕ} → Stands s m j t → (now : Instance (List Held)) → live m j ≡ Some now → Framed j t
     framed {j} {t} st now lives =
         let x = is_there s m st in
         let same : x.now ≡ now = same_some (slice_get m.instances j) x.now now x.is (is_live_at (slice_get m.instances j) now lives).there in
-        let y = both_found (InstanceAt s code) (live m j) (live fs j) now lives (live_pair j) in
+        let y = both_found (InstanceAt s code m) (live m j) (live fs j) now lives (live_pair j) in
         record { now = now; lives = lives; frame = y.it; frame_lives = y.is; pair = y.related; of_levels = subst (λ z. LevelOf s.tables z.text (frame_text s t)) same x.levels }
 
     -- its level
@@ -124,19 +136,19 @@ module _ (s : Source) (code : CodeOf) where
         omega (arith, fits, size)
 
     -- reading a cell
-    cell_live_read : (j t : ℕ) (key : Key) → Framed j t → frame_text s t ≡ t → HasCell s t key → is_fixed s key ≡ false → Both ValAt (meaning.cell m j key) (machine.cell fs j (slot_of s code t key))
+    cell_live_read : (j t : ℕ) (key : Key) → Framed j t → frame_text s t ≡ t → HasCell s t key → is_fixed s key ≡ false → Both (ValAt s code m) (meaning.cell m j key) (machine.cell fs j (slot_of s code t key))
     cell_live_read j t key f own has varies =
-        both_as ValAt (held key f.now.cells) (meaning.cell m j key) (joined (slice_get f.frame.cells (slot_of s code t key))) (machine.cell fs j (slot_of s code t key))
+        both_as (ValAt s code m) (held key f.now.cells) (meaning.cell m j key) (joined (slice_get f.frame.cells (slot_of s code t key))) (machine.cell fs j (slot_of s code t key))
         (ap (λ z. meaning.value_in (cells_of_live z) key) f.lives)
         (ap (λ z. machine.value_in (cells_of_live z) (slot_of s code t key)) f.frame_lives)
-        (slot_both (is_fixed s key) key _ _ varies ((f.pair).cells t key (level_is j t f own) has))
+        (slot_both m (is_fixed s key) key _ _ varies ((f.pair).cells t key (level_is j t f own) has))
 
     -- of an instance that was given back neither side has cells
-    pub cell_here_read : (j t : ℕ) (key : Key) → Stands s m j t → frame_text s t ≡ t → HasCell s t key → is_fixed s key ≡ false → Both ValAt (meaning.cell m j key) (machine.cell fs j (slot_of s code t key))
+    pub cell_here_read : (j t : ℕ) (key : Key) → Stands s m j t → frame_text s t ≡ t → HasCell s t key → is_fixed s key ≡ false → Both (ValAt s code m) (meaning.cell m j key) (machine.cell fs j (slot_of s code t key))
     cell_here_read j t key st own has varies = read_pair (live m j) (live fs j) refl refl (live_pair j)
       where
-        read_pair : (x : Option (Instance (List Held))) (y : Option (Instance Cells)) → live m j ≡ x → live fs j ≡ y → Both (InstanceAt s code) x y → Both ValAt (meaning.cell m j key) (machine.cell fs j (slot_of s code t key))
-        read_pair None None ex ey p = both_as ValAt None (meaning.cell m j key) None (machine.cell fs j (slot_of s code t key)) (ap (λ z. meaning.value_in (cells_of_live z) key) ex) (ap (λ z. machine.value_in (cells_of_live z) (slot_of s code t key)) ey) tt
+        read_pair : (x : Option (Instance (List Held))) (y : Option (Instance Cells)) → live m j ≡ x → live fs j ≡ y → Both (InstanceAt s code m) x y → Both (ValAt s code m) (meaning.cell m j key) (machine.cell fs j (slot_of s code t key))
+        read_pair None None ex ey p = both_as (ValAt s code m) None (meaning.cell m j key) None (machine.cell fs j (slot_of s code t key)) (ap (λ z. meaning.value_in (cells_of_live z) key) ex) (ap (λ z. machine.value_in (cells_of_live z) (slot_of s code t key)) ey) tt
         read_pair None (Some y) ex ey p = absurd p
         read_pair (Some x) None ex ey p = absurd p
         read_pair (Some x) (Some y) ex ey p = cell_live_read j t key (framed st x ex) own has varies
@@ -146,7 +158,7 @@ module _ (s : Source) (code : CodeOf) where
     unfolding framed
     fixed_read j t key st own has fixed = read_one (live m j) refl
       where
-        fixed_slot : (f : Bool) (v : Option Val) (c : Option Value) → f ≡ true → SlotAt s f key v c → (v ≡ None) ⊎ (v ≡ fixed_value s key)
+        fixed_slot : (f : Bool) (v : Option Val) (c : Option Value) → f ≡ true → SlotAt s code m f key v c → (v ≡ None) ⊎ (v ≡ fixed_value s key)
         fixed_slot true v c e a = a
         fixed_slot false v c e a = absurd (cc)
 
@@ -166,7 +178,7 @@ module _ (s : Source) (code : CodeOf) where
       changed : Changed s code Every m fs now frames
 
     -- other cells of an instance: one has another value, and all others are as they were
-    module _ (j t : ℕ) (key : Key) (v : Val) (y : Value) (st : Stands s m j t) (f : Framed j t) (own : frame_text s t ≡ t) (has : HasCell s t key) (varies : is_fixed s key ≡ false) (w : ValAt v y) (cells : List Held) (here : held key cells ≡ Some v) (others : (k : Key) → same_key key k ≡ false → held k cells ≡ held k f.now.cells) (stay : (k : Key) → place_of k f.now.cells < length f.now.cells → place_of k cells < length cells) where
+    module _ (j t : ℕ) (key : Key) (v : Val) (y : Value) (st : Stands s m j t) (f : Framed j t) (own : frame_text s t ≡ t) (has : HasCell s t key) (varies : is_fixed s key ≡ false) (w : ValAt s code m v y) (cells : List Held) (here : held key cells ≡ Some v) (others : (k : Key) → same_key key k ≡ false → held k cells ≡ held k f.now.cells) (stay : (k : Key) → place_of k f.now.cells < length f.now.cells → place_of k cells < length cells) where
       abbrev slot : ℕ
       slot = slot_of s code t key
 
@@ -182,11 +194,11 @@ module _ (s : Source) (code : CodeOf) where
       fits : slot < length f.frame.cells
       fits = slot_fits j t key f levelled has
 
-      slot_written : (f2 : Bool) (k : Key) → f2 ≡ false → (a : Option Val) (c : Option Value) → a ≡ Some v → c ≡ Some y → SlotAt s f2 k a c
+      slot_written : (f2 : Bool) (k : Key) → f2 ≡ false → (a : Option Val) (c : Option Value) → a ≡ Some v → c ≡ Some y → SlotAt s code m f2 k a c
       slot_written true k e a c ea ec = absurd (cc)
-      slot_written false k e a c ea ec = subst (λ z. Both ValAt z c) (sym ea) (subst (λ z. Both ValAt (Some v) z) (sym ec) w)
+      slot_written false k e a c ea ec = subst (λ z. Both (ValAt s code m) z c) (sym ea) (subst (λ z. Both (ValAt s code m) (Some v) z) (sym ec) w)
 
-      cells_then : (u : ℕ) (k : Key) → LevelOf s.tables f.now.text u → HasCell s u k → SlotAt s (is_fixed s k) k (held k cells) (joined (slice_get (slice_set f.frame.cells slot (Some y)) (slot_of s code u k)))
+      cells_then : (u : ℕ) (k : Key) → LevelOf s.tables f.now.text u → HasCell s u k → SlotAt s code m (is_fixed s k) k (held k cells) (joined (slice_get (slice_set f.frame.cells slot (Some y)) (slot_of s code u k)))
       cells_then u k levels hask =
           bool_cases (same_key key k)
           (λ e. let same : key ≡ k = same_is key k e in
@@ -195,10 +207,10 @@ module _ (s : Source) (code : CodeOf) where
           let x = there_get f.frame.cells slot fits in
           slot_written (is_fixed s k) k (ap (is_fixed s) (sym same) ∙ varies) _ _ (ap (λ z. held z cells) (sym same) ∙ here) (ap (λ c. joined (slice_get (slice_set f.frame.cells slot (Some y)) c)) place ∙ ap joined (set_same f.frame.cells slot x.0 (Some y) x.1)))
           (λ e. let apart : slot_of s code u k ≢ slot = λ at. (let same : key ≡ k = ((f.pair).laid).one_key t u key k levelled levels has hask (sym at) in let yes : same_key key k ≡ true = ap (same_key key) (sym same) ∙ same_self key in let no : ⊥ = absurd (cc (e, yes)) in no) in
-          subst (λ z. SlotAt s (is_fixed s k) k z (joined (slice_get (slice_set f.frame.cells slot (Some y)) (slot_of s code u k)))) (sym (others k e))
-          (subst (λ z. SlotAt s (is_fixed s k) k (held k f.now.cells) (joined z)) (sym (set_other f.frame.cells slot (slot_of s code u k) (Some y) apart)) ((f.pair).cells u k levels hask)))
+          subst (λ z. SlotAt s code m (is_fixed s k) k z (joined (slice_get (slice_set f.frame.cells slot (Some y)) (slot_of s code u k)))) (sym (others k e))
+          (subst (λ z. SlotAt s code m (is_fixed s k) k (held k f.now.cells) (joined z)) (sym (set_other f.frame.cells slot (slot_of s code u k) (Some y) apart)) ((f.pair).cells u k levels hask)))
 
-      pair_then : InstanceAt s code new new_frame
+      pair_then : InstanceAt s code m new new_frame
       pair_then =
           let p = f.pair in
           let long = length-set f.frame.cells slot (Some y) in
@@ -224,7 +236,7 @@ module _ (s : Source) (code : CodeOf) where
           let x = is_there s m stands in
           let same : x.now ≡ f.now = same_some (slice_get m.instances j) x.now f.now x.is (is_live_at (slice_get m.instances j) f.now f.lives).there in
           let levels : LevelOf s.tables f.now.text (frame_text s u) = subst (λ z. LevelOf s.tables z.text (frame_text s u)) same x.levels in
-          ((f.pair).laid).apart t u c key b levelled levels has found temp (sym e)
+          ((f.pair).laid).apart t u c key b levelled levels has found (in_temps s code u c b temp) (sym e)
 
       changed_then : Changed s code Every m fs (with_instance m j new) (frames_put fs j f.frame f.frame_lives slot y)
       changed_then =
@@ -243,7 +255,7 @@ module _ (s : Source) (code : CodeOf) where
             };
           }
 
-    store_write : (j t : ℕ) (key : Key) (v : Val) (y : Value) → Stands s m j t → Framed j t → frame_text s t ≡ t → HasCell s t key → is_fixed s key ≡ false → is_declared key ≡ true → ValAt v y → Wrote (meaning.cell_set m j key v) j t key y
+    store_write : (j t : ℕ) (key : Key) (v : Val) (y : Value) → Stands s m j t → Framed j t → frame_text s t ≡ t → HasCell s t key → is_fixed s key ≡ false → is_declared key ≡ true → ValAt s code m v y → Wrote (meaning.cell_set m j key v) j t key y
     store_write j t key v y st f own has varies declared w =
         let is = level_is j t f own in
         let there = (f.pair).there t key is has declared in
@@ -257,7 +269,7 @@ module _ (s : Source) (code : CodeOf) where
         }
 
     -- a cell that need not have been there
-    store_made : (j t : ℕ) (key : Key) (v : Val) (y : Value) → Stands s m j t → Framed j t → frame_text s t ≡ t → HasCell s t key → is_fixed s key ≡ false → ValAt v y → Wrote (meaning.cell_made m j key v) j t key y
+    store_made : (j t : ℕ) (key : Key) (v : Val) (y : Value) → Stands s m j t → Framed j t → frame_text s t ≡ t → HasCell s t key → is_fixed s key ≡ false → ValAt s code m v y → Wrote (meaning.cell_made m j key v) j t key y
     store_made j t key v y st f own has varies w =
         let is = level_is j t f own in
         let x = put_in key v f.now.cells in
@@ -273,7 +285,7 @@ module _ (s : Source) (code : CodeOf) where
     pub placed_here : (j c : ℕ) → Lives m j → machine.cell fs j c ≡ placed fs j c
     placed_here j c lives =
         let now = lives_now m j lives in
-        let y = both_found (InstanceAt s code) (live m j) (live fs j) now.0 now.1 (live_pair j) in
+        let y = both_found (InstanceAt s code m) (live m j) (live fs j) now.0 now.1 (live_pair j) in
         ap (λ z. placed_in z c) (y.is ∙ sym (is_live_at (slice_get fs.instances j) y.it y.is).there)
 
     -- writing a temp
@@ -286,26 +298,26 @@ module _ (s : Source) (code : CodeOf) where
     set_right P (b ∷ xs) (c ∷ ys) (suc j) x y all e p zero = all 0
     set_right P (b ∷ xs) (c ∷ ys) (suc j) x y all e p (suc k) = set_right P xs ys j x y (λ k. all (suc k)) e p k
 
-    -- the frames of all other instances keep theirs
-    record WroteTemp (j temp : ℕ) (y : Value) : Type 0 where
+    -- temps of statements are as they were, but maybe those of some instances
+    record WroteTemp (Of : ℕ → Type 0) (j temp : ℕ) (y : Value) : Type 0 where
       frames : Frames
       is : machine.cell_set fs j temp y ≡ Some frames
-      changed : Changed s code (Other j) m fs m frames
+      changed : Changed s code Of m fs m frames
       holds : placed frames j temp ≡ Some y
       others : (c : ℕ) → c ≢ temp → placed frames j c ≡ placed fs j c
 
-    store_temp : (j t temp : ℕ) (y : Value) (b : BlockOf) → Framed j t → slice_get code.blocks (block_number s (frame_text s t)) ≡ Some b → IsTemp s code t temp b → WroteTemp j temp y
-    store_temp j t temp y b f found is_temp =
+    store_temp : (Of : ℕ → Type 0) (j t temp : ℕ) (y : Value) (b : BlockOf) → Framed j t → slice_get code.blocks (block_number s (frame_text s t)) ≡ Some b → InTemps s code t temp b → ((u c : ℕ) (z : BlockOf) → Of j → Stands s m j u → slice_get code.blocks (block_number s (frame_text s u)) ≡ Some z → IsTemp s code u c z → c ≢ temp) → WroteTemp Of j temp y
+    store_temp Of j t temp y b f found in_temps apart =
         let p = f.pair in
         let cs = f.frame.cells in
         let whole = (p.laid).block in
         let size = p.size whole.0 whole.1 in
         let longer = (p.laid).longer (frame_text s t) b whole.0 f.of_levels found whole.1 in
-        let within = is_temp.within in
+        let within = in_temps.within in
         let lt : temp < length cs = omega (arith, within, size, longer) in
         let new : Instance Cells = frame_put fs j f.frame f.frame_lives temp y in
         let long = length-set cs temp (Some y) in
-        let pair : InstanceAt s code f.now new = record {
+        let pair : InstanceAt s code m f.now new = record {
           number = p.number;
           level = p.level;
           encloser = p.encloser;
@@ -316,7 +328,7 @@ module _ (s : Source) (code : CodeOf) where
           own = p.own;
           solid = p.solid;
           laid = p.laid;
-          cells = λ u k levels hask. subst (λ z. SlotAt s (is_fixed s k) k (held k f.now.cells) (joined z)) (sym (set_other cs temp (slot_of s code u k) (Some y) ((p.laid).apart u t temp k b levels f.of_levels hask found is_temp))) (p.cells u k levels hask);
+          cells = λ u k levels hask. subst (λ z. SlotAt s code m (is_fixed s k) k (held k f.now.cells) (joined z)) (sym (set_other cs temp (slot_of s code u k) (Some y) ((p.laid).apart u t temp k b levels f.of_levels hask found in_temps))) (p.cells u k levels hask);
           there = p.there;
           size = λ b e. long ∙ p.size b e;
         } in
@@ -326,9 +338,9 @@ module _ (s : Source) (code : CodeOf) where
           frames = frames_put fs j f.frame f.frame_lives temp y;
           is = frame_set fs j f.frame f.frame_lives temp y lt;
           changed = record {
-            store = record { as_many = a.as_many ∙ sym (length-set fs.instances j new); at = set_right (InstanceAt s code) m.instances fs.instances j f.now new a.at there.there pair; all = a.all };
+            store = record { as_many = a.as_many ∙ sym (length-set fs.instances j new); at = set_right (InstanceAt s code m) m.instances fs.instances j f.now new a.at there.there pair; all = a.all };
             later = later_itself s m;
-            keeps = record { temps = λ k u c b other st found temp. others k c (λ same. absurd (other same)) };
+            keeps = record { temps = λ k u c z of st found temp. others k c (λ same. apart u c z (subst Of same of) (subst (λ i. Stands s m i u) same st) found temp) };
             standings = refl;
             frame_standings = refl;
             as_many = refl;
@@ -336,6 +348,14 @@ module _ (s : Source) (code : CodeOf) where
           holds = placed_holds fs j f.frame f.frame_lives temp y lt;
           others = λ c apart. others j c (λ _. apart);
         }
+
+    -- no temp of the statements of an instance is one of its expressions
+    scratch_apart : (j t temp : ℕ) (b : BlockOf) → Framed j t → slice_get code.blocks (block_number s (frame_text s t)) ≡ Some b → own_end s code (frame_text s t) ≤ temp → temp < own_end s code (frame_text s t) + expression_temps → temp < length b.types → (u c : ℕ) (z : BlockOf) → Stands s m j u → slice_get code.blocks (block_number s (frame_text s u)) ≡ Some z → IsTemp s code u c z → c ≢ temp
+    scratch_apart j t temp b f found low high within u c z st there is_temp e =
+        let x = is_there s m st in
+        let same : x.now ≡ f.now = same_some (slice_get m.instances j) x.now f.now x.is (is_live_at (slice_get m.instances j) f.now f.lives).there in
+        let levels : LevelOf s.tables f.now.text (frame_text s u) = subst (λ z. LevelOf s.tables z.text (frame_text s u)) same x.levels in
+        ((f.pair).laid).temps_apart t u temp c b z f.of_levels levels found there low high within is_temp (sym e)
 
     -- ---- texts
 
@@ -347,7 +367,7 @@ module _ (s : Source) (code : CodeOf) where
         by_text None eo e = absurd (cc)
         by_text (Some x) eo e = let same : x.text ≡ own = cc in subst (Stands s m j) same (a.all j x eo)
 
-    own_numbers : (own : ℕ) (x : Option (Instance (List Held))) (y : Option (Instance Cells)) → Both (InstanceAt s code) x y → text_in x ≡ Some own → machine.text_in y ≡ Some (block_number s own)
+    own_numbers : (own : ℕ) (x : Option (Instance (List Held))) (y : Option (Instance Cells)) → Both (InstanceAt s code m) x y → text_in x ≡ Some own → machine.text_in y ≡ Some (block_number s own)
     own_numbers own None None b e = absurd (cc)
     own_numbers own None (Some y) b e = absurd b
     own_numbers own (Some x) None b e = absurd b
@@ -358,7 +378,7 @@ module _ (s : Source) (code : CodeOf) where
     frame_number j own e = own_numbers own (slice_get m.instances j) (slice_get fs.instances j) (a.at j) e
 
     -- its text has frames of its own
-    own_frame_in : (own : ℕ) (x : Option (Instance (List Held))) (y : Option (Instance Cells)) → Both (InstanceAt s code) x y → text_in x ≡ Some own → frame_text s own ≡ own
+    own_frame_in : (own : ℕ) (x : Option (Instance (List Held))) (y : Option (Instance Cells)) → Both (InstanceAt s code m) x y → text_in x ≡ Some own → frame_text s own ≡ own
     own_frame_in own None None b e = absurd (cc)
     own_frame_in own None (Some y) b e = absurd b
     own_frame_in own (Some x) None b e = absurd b
@@ -376,7 +396,7 @@ module _ (s : Source) (code : CodeOf) where
 
     -- ---- flags
 
-    passing_by : (own : ℕ) (x : Option (Instance (List Held))) (y : Option (Instance Cells)) → Both (InstanceAt s code) x y → text_in x ≡ Some own → passes (text s own) (is_class_free s own) ≡ false → ends_in (unless_given x) ≡ false
+    passing_by : (own : ℕ) (x : Option (Instance (List Held))) (y : Option (Instance Cells)) → Both (InstanceAt s code m) x y → text_in x ≡ Some own → passes (text s own) (is_class_free s own) ≡ false → ends_in (unless_given x) ≡ false
     passing_by own None y b e free = refl
     passing_by own (Some x) None b e free = absurd b
     passing_by own (Some x) (Some y) b e free = by x.given_back
@@ -392,7 +412,7 @@ module _ (s : Source) (code : CodeOf) where
     pub never_given : (j own : ℕ) → text_at m j ≡ Some own → passes (text s own) (is_class_free s own) ≡ false → is_given_at_end m j ≡ false
     never_given j own e free = passing_by own (slice_get m.instances j) (slice_get fs.instances j) (a.at j) e free
 
-    same_flags : (x : Option (Instance (List Held))) (y : Option (Instance Cells)) → Both (InstanceAt s code) x y → ends_in x ≡ ends_in y
+    same_flags : (x : Option (Instance (List Held))) (y : Option (Instance Cells)) → Both (InstanceAt s code m) x y → ends_in x ≡ ends_in y
     same_flags None None b = refl
     same_flags None (Some y) b = absurd b
     same_flags (Some x) None b = absurd b
@@ -401,7 +421,7 @@ module _ (s : Source) (code : CodeOf) where
     pub given_at_end_same : (j : ℕ) → is_given_at_end m j ≡ is_given_at_end fs j
     given_at_end_same j = same_flags (live m j) (live fs j) (live_pair j)
 
-    same_life : (x : Option (Instance (List Held))) (y : Option (Instance Cells)) → Both (InstanceAt s code) x y → is_live_in x ≡ is_live_in y
+    same_life : (x : Option (Instance (List Held))) (y : Option (Instance Cells)) → Both (InstanceAt s code m) x y → is_live_in x ≡ is_live_in y
     same_life None None b = refl
     same_life None (Some y) b = absurd b
     same_life (Some x) None b = absurd b
@@ -415,10 +435,10 @@ module _ (s : Source) (code : CodeOf) where
     later_new : (x : Instance (List Held)) (p : Standing Activation) → Later s m (entered m x p)
     later_new x p = later_heads s m (entered m x p) (λ k y e. both_found Heads (slice_get m.instances k) (slice_get (entered m x p).instances k) y e (both_heads (slice_get m.instances k) (slice_get (entered m x p).instances k) (entered_same m x p k (slice_get_within m.instances k y e))))
 
-    pub store_entered : (x : Instance (List Held)) (y : Instance Cells) (p : Standing Activation) (q : Standing machine.Activation) → InstanceAt s code x y → Stands s (entered m x p) (length m.instances) x.text → StoreAt s code (entered m x p) (entered fs y q)
+    pub store_entered : (x : Instance (List Held)) (y : Instance Cells) (p : Standing Activation) (q : Standing machine.Activation) → InstanceAt s code m x y → Stands s (entered m x p) (length m.instances) x.text → StoreAt s code (entered m x p) (entered fs y q)
     store_entered x y p q pair st = record {
       as_many = length-append m.instances (x ∷ []) ∙ ap (λ n. n + 1) a.as_many ∙ sym (length-append fs.instances (y ∷ []));
-      at = append_both (λ k. InstanceAt s code) m.instances fs.instances x y a.at pair;
+      at = append_both (λ k. InstanceAt s code (entered m x p)) m.instances fs.instances x y (λ k. pair_later s code m (entered m x p) (later_new x p) (slice_get m.instances k) (slice_get fs.instances k) (a.at k)) (instance_later s code m (entered m x p) (later_new x p) x y pair);
       all = λ j z e. less_or j (length m.instances)
           (λ lt. (later_new x p).stands j z.text (a.all j z (sym (append_before m.instances x j lt) ∙ e)))
           (λ le. let n = slice_get_within (m.instances ++ x ∷ []) j z e in
@@ -430,7 +450,7 @@ module _ (s : Source) (code : CodeOf) where
 
     -- ---- ends
 
-    given_pair : (i : ℕ) (x : Option (Instance (List Held))) (y : Option (Instance Cells)) → slice_get m.instances i ≡ x → Both (InstanceAt s code) x y → StoreAt s code (given_in m i x) (given_in fs i y)
+    given_pair : (i : ℕ) (x : Option (Instance (List Held))) (y : Option (Instance Cells)) → slice_get m.instances i ≡ x → Both (InstanceAt s code m) x y → StoreAt s code (given_in m i x) (given_in fs i y)
     given_pair i None None e b = a
     given_pair i None (Some y) e b = absurd b
     given_pair i (Some x) None e b = absurd b
@@ -441,28 +461,32 @@ module _ (s : Source) (code : CodeOf) where
 
   -- ---- instances that are kept
 
-  -- the activations of both chains belong to the same instances
+  -- the activations of both chains belong to the same instances, or are evaluations
   abbrev pub SameOwners : List Activation → List machine.Activation → Type 0
   SameOwners [] [] = Unit {0}
   SameOwners [] (x ∷ below) = ⊥
   SameOwners (c ∷ rest) [] = ⊥
-  SameOwners (c ∷ rest) (x ∷ below) = (machine.owner x ≡ Some c.instance) × SameOwners rest below
+  SameOwners (c ∷ rest) (x ∷ below) = (machine.owner x ≡ meaning.owner c) × SameOwners rest below
 
   abbrev KeptAlike : (Instances → Instances) → (Frames → Frames) → Type 0
   KeptAlike go go' = (m : Instances) (fs : Frames) → StoreAt s code m fs → StoreAt s code (go m) (go' fs)
 
-  kept_flag : (go : Instances → Instances) (go' : Frames → Frames) → KeptAlike go go' → (m : Instances) (fs : Frames) → StoreAt s code m fs → (j : ℕ) (x : Instance (List Held)) (y : Instance Cells) → slice_get m.instances j ≡ Some x → InstanceAt s code x y → (b b' : Bool) → b' ≡ b
+  kept_flag : (go : Instances → Instances) (go' : Frames → Frames) → KeptAlike go go' → (m : Instances) (fs : Frames) → StoreAt s code m fs → (j : ℕ) (x : Instance (List Held)) (y : Instance Cells) → slice_get m.instances j ≡ Some x → InstanceAt s code m x y → (b b' : Bool) → b' ≡ b
       → StoreAt s code (if b then go (with_instance m j (record x { kept = true })) else m) (if b' then go' (with_instance fs j (record y { kept = true })) else fs)
   kept_flag go go' f m fs a j x y ex p true true e = f _ _ (store_put a j x (record x { kept = true }) (record y { kept = true }) ex (record { text = refl; level = refl; encloser = refl }) (instance_kept p))
   kept_flag go go' f m fs a j x y ex p true false e = absurd (cc)
   kept_flag go go' f m fs a j x y ex p false true e = absurd (cc)
   kept_flag go go' f m fs a j x y ex p false false e = a
 
-  kept_pair : (go : Instances → Instances) (go' : Frames → Frames) → KeptAlike go go' → (m : Instances) (fs : Frames) → StoreAt s code m fs → (j : ℕ) (x : Option (Instance (List Held))) (y : Option (Instance Cells)) → slice_get m.instances j ≡ x → Both (InstanceAt s code) x y → StoreAt s code (kept_further go m j x) (kept_further go' fs j y)
+  kept_pair : (go : Instances → Instances) (go' : Frames → Frames) → KeptAlike go go' → (m : Instances) (fs : Frames) → StoreAt s code m fs → (j : ℕ) (x : Option (Instance (List Held))) (y : Option (Instance Cells)) → slice_get m.instances j ≡ x → Both (InstanceAt s code m) x y → StoreAt s code (kept_further go m j x) (kept_further go' fs j y)
   kept_pair go go' f m fs a j None None e b = a
   kept_pair go go' f m fs a j None (Some y) e b = absurd b
   kept_pair go go' f m fs a j (Some x) None e b = absurd b
   kept_pair go go' f m fs a j (Some x) (Some y) e b = kept_flag go go' f m fs a j x y e b x.passing y.passing b.passing
+
+  kept_one : (go : Instances → Instances) (go' : Frames → Frames) → KeptAlike go go' → (o : Option ℕ) (m : Instances) (fs : Frames) → StoreAt s code m fs → StoreAt s code (kept_at go m o) (kept_at go' fs o)
+  kept_one go go' f None m fs a = f m fs a
+  kept_one go go' f (Some j) m fs a = kept_pair go go' f m fs a j (slice_get m.instances j) (slice_get fs.instances j) refl (a.at j)
 
   pub store_kept : (chain : List Activation) (below : List machine.Activation) → SameOwners chain below → KeptAlike (kept_on meaning.owner chain) (kept_on machine.owner below)
   unfolding kept_on
@@ -470,8 +494,7 @@ module _ (s : Source) (code : CodeOf) where
   store_kept [] (x ∷ below) e m fs a = absurd e
   store_kept (c ∷ rest) [] e m fs a = absurd e
   store_kept (c ∷ rest) (x ∷ below) e m fs a =
-      subst (λ o. StoreAt s code (kept_at (kept_on meaning.owner rest) m (Some c.instance)) (kept_at (kept_on machine.owner below) fs o)) (sym e.0)
-      (kept_pair (kept_on meaning.owner rest) (kept_on machine.owner below) (store_kept rest below e.1) m fs a c.instance (slice_get m.instances c.instance) (slice_get fs.instances c.instance) refl (a.at c.instance))
+      subst (λ o. StoreAt s code (kept_at (kept_on meaning.owner rest) m (meaning.owner c)) (kept_at (kept_on machine.owner below) fs o)) (sym e.0) (kept_one (kept_on meaning.owner rest) (kept_on machine.owner below) (store_kept rest below e.1) (meaning.owner c) m fs a)
 
 -- ---- what later stores keep
 
@@ -531,11 +554,11 @@ module _ (s : Source) (code : CodeOf) where
   pub unchanged : (m : Instances) (fs : Frames) → StoreAt s code m fs → Changed s code Every m fs m fs
   unchanged m fs a = record { store = a; later = later_itself s m; keeps = record { temps = λ j t c b of st found temp. refl }; standings = refl; frame_standings = refl; as_many = refl }
 
-  found_alike : (level j : ℕ) (look look' : ℕ → Option ℕ) → ((k : ℕ) → look' k ≡ look k) → (x : Option (Instance (List Held))) (y : Option (Instance Cells)) → Both (InstanceAt s code) x y → found_at level look' j y ≡ found_at level look j x
-  found_alike level j look look' e None None b = refl
-  found_alike level j look look' e None (Some y) b = absurd b
-  found_alike level j look look' e (Some x) None b = absurd b
-  found_alike level j look look' e (Some x) (Some y) b =
+  found_alike : (m : Instances) (level j : ℕ) (look look' : ℕ → Option ℕ) → ((k : ℕ) → look' k ≡ look k) → (x : Option (Instance (List Held))) (y : Option (Instance Cells)) → Both (InstanceAt s code m) x y → found_at level look' j y ≡ found_at level look j x
+  found_alike m level j look look' e None None b = refl
+  found_alike m level j look look' e None (Some y) b = absurd b
+  found_alike m level j look look' e (Some x) None b = absurd b
+  found_alike m level j look look' e (Some x) (Some y) b =
       ap (λ l. if l == level then Some j else outward look' y.encloser) b.level ∙ ap (λ o. if x.level == level then Some j else outward look' o) b.encloser ∙ ap (λ o. if x.level == level then Some j else o) (out x.encloser)
     where
       out : (o : Option ℕ) → outward look' o ≡ outward look o
@@ -544,22 +567,22 @@ module _ (s : Source) (code : CodeOf) where
 
   within_alike : {m : Instances} {fs : Frames} → StoreAt s code m fs → (n level j : ℕ) → level_within n fs level j ≡ level_within n m level j
   within_alike {m} {fs} a zero level j = refl
-  within_alike {m} {fs} a (suc n) level j = found_alike level j (level_within n m level) (level_within n fs level) (within_alike a n level) (live m j) (live fs j) (live_pair s code m fs a j)
+  within_alike {m} {fs} a (suc n) level j = found_alike m level j (level_within n m level) (level_within n fs level) (within_alike a n level) (live m j) (live fs j) (live_pair s code m fs a j)
 
   pub levels_same : {m : Instances} {fs : Frames} → StoreAt s code m fs → (level j : ℕ) → at_level fs level j ≡ at_level m level j
   unfolding at_level
   levels_same a level j = within_alike a (suc j) level j
 
-  pub cell_read : (m : Instances) (fs : Frames) (j u : ℕ) (key : Key) → StoreAt s code m fs → Stands s m j u → frame_text s u ≡ u → HasCell s u key → is_fixed s key ≡ false → Both ValAt (meaning.cell m j key) (machine.cell fs j (slot_of s code u key))
+  pub cell_read : (m : Instances) (fs : Frames) (j u : ℕ) (key : Key) → StoreAt s code m fs → Stands s m j u → frame_text s u ≡ u → HasCell s u key → is_fixed s key ≡ false → Both (ValAt s code m) (meaning.cell m j key) (machine.cell fs j (slot_of s code u key))
   cell_read m fs j u key a st own has varies = cell_here_read s code m fs a j u key st own has varies
 
   pub constant_read : (m : Instances) (fs : Frames) (j u : ℕ) (key : Key) → StoreAt s code m fs → Stands s m j u → frame_text s u ≡ u → HasCell s u key → is_fixed s key ≡ true → (meaning.cell m j key ≡ None) ⊎ (meaning.cell m j key ≡ fixed_value s key)
   constant_read m fs j u key a st own has fixed = fixed_read s code m fs a j u key st own has fixed
 
-  pub cell_write : (m : Instances) (fs : Frames) (j u : ℕ) (key : Key) (v : Val) (x : Value) → StoreAt s code m fs → Stands s m j u → frame_text s u ≡ u → HasCell s u key → is_fixed s key ≡ false → is_declared key ≡ true → ValAt v x → Both (Changed s code Every m fs) (meaning.cell_set m j key v) (machine.cell_set fs j (slot_of s code u key) x)
+  pub cell_write : (m : Instances) (fs : Frames) (j u : ℕ) (key : Key) (v : Val) (x : Value) → StoreAt s code m fs → Stands s m j u → frame_text s u ≡ u → HasCell s u key → is_fixed s key ≡ false → is_declared key ≡ true → ValAt s code m v x → Both (Changed s code Every m fs) (meaning.cell_set m j key v) (machine.cell_set fs j (slot_of s code u key) x)
   cell_write m fs j u key v x a st own has varies declared w = write_pair (live m j) (live fs j) refl refl (live_pair s code m fs a j)
     where
-      write_pair : (y : Option (Instance (List Held))) (z : Option (Instance Cells)) → live m j ≡ y → live fs j ≡ z → Both (InstanceAt s code) y z → Both (Changed s code Every m fs) (meaning.cell_set m j key v) (machine.cell_set fs j (slot_of s code u key) x)
+      write_pair : (y : Option (Instance (List Held))) (z : Option (Instance Cells)) → live m j ≡ y → live fs j ≡ z → Both (InstanceAt s code m) y z → Both (Changed s code Every m fs) (meaning.cell_set m j key v) (machine.cell_set fs j (slot_of s code u key) x)
       write_pair None None ey ez p =
           both_as (Changed s code Every m fs) None (meaning.cell_set m j key v) None (machine.cell_set fs j (slot_of s code u key) x)
           (ap (λ z. cells_put m j z (meaning.put_in (cells_of_live z) key v)) ey) (ap (λ z. cells_put fs j z (machine.put_in (cells_of_live z) (slot_of s code u key) x)) ez) tt
@@ -577,26 +600,24 @@ module _ (s : Source) (code : CodeOf) where
     pub is_frames : machine.cell_set fs j (slot_of s code u key) x ≡ Some frames
     pub changed : Changed s code Every m fs now frames
 
-  pub cell_made_alike : (m : Instances) (fs : Frames) (j u : ℕ) (key : Key) (v : Val) (x : Value) → StoreAt s code m fs → Stands s m j u → Lives m j → frame_text s u ≡ u → HasCell s u key → is_fixed s key ≡ false → ValAt v x → CellMade m fs j u key v x
+  pub cell_made_alike : (m : Instances) (fs : Frames) (j u : ℕ) (key : Key) (v : Val) (x : Value) → StoreAt s code m fs → Stands s m j u → Lives m j → frame_text s u ≡ u → HasCell s u key → is_fixed s key ≡ false → ValAt s code m v x → CellMade m fs j u key v x
   cell_made_alike m fs j u key v x a st lives own has varies w =
       let now = lives_now m j lives in
       let r = store_made s code m fs a j u key v x st (framed s code m fs a st now.0 now.1) own has varies w in
       record { now = r.now; frames = r.frames; is = r.is; is_frames = r.is_frames; changed = r.changed }
 
   -- A temp of an instance that lives is written: what lies there then is what is read.
-  pub record TempWritten (m : Instances) (fs : Frames) (inst temp : ℕ) (x : Value) : Type 0 where
+  pub record TempWritten (Of : ℕ → Type 0) (m : Instances) (fs : Frames) (inst temp : ℕ) (x : Value) : Type 0 where
     pub frames : Frames
     pub is : machine.cell_set fs inst temp x ≡ Some frames
-    pub changed : Changed s code (Other inst) m fs m frames
+    pub changed : Changed s code Of m fs m frames
     pub holds : placed frames inst temp ≡ Some x
     pub others : (c : ℕ) → c ≢ temp → placed frames inst c ≡ placed fs inst c
     pub reads : machine.cell frames inst temp ≡ Some x
     pub reads_others : (c : ℕ) → c ≢ temp → machine.cell frames inst c ≡ machine.cell fs inst c
 
-  pub temp_written : (m : Instances) (fs : Frames) (inst t : ℕ) (b : Runs) (temp : ℕ) (x : Value) → StoreAt s code m fs → Stands s m inst t → Lives m inst → slice_get code.blocks (block_number s (frame_text s t)) ≡ Some b.block → own_end s code (frame_text s t) ≤ temp → temp < length b.block.types → TempWritten m fs inst temp x
-  temp_written m fs inst t b temp x a st lives found behind within =
-      let now = lives_now m inst lives in
-      let r = store_temp s code m fs a inst t temp x b.block (framed s code m fs a st now.0 now.1) found (record { behind = behind; within = within }) in
+  read_then : (Of : ℕ → Type 0) (m : Instances) (fs : Frames) (inst temp : ℕ) (x : Value) (a : StoreAt s code m fs) → Lives m inst → WroteTemp s code m fs a Of inst temp x → TempWritten Of m fs inst temp x
+  read_then Of m fs inst temp x a lives r =
       let reads = placed_here s code m r.frames (r.changed).store inst in
       record {
         frames = r.frames;
@@ -607,3 +628,18 @@ module _ (s : Source) (code : CodeOf) where
         reads = reads temp lives ∙ r.holds;
         reads_others = λ c apart. reads c lives ∙ r.others c apart ∙ sym (placed_here s code m fs a inst c lives);
       }
+
+  -- one of statements, which other instances do not know
+  pub temp_written : (m : Instances) (fs : Frames) (inst t : ℕ) (b : Runs) (temp : ℕ) (x : Value) → StoreAt s code m fs → Stands s m inst t → Lives m inst → slice_get code.blocks (block_number s (frame_text s t)) ≡ Some b.block → own_end s code (frame_text s t) + expression_temps ≤ temp → temp < length b.block.types → TempWritten (Other inst) m fs inst temp x
+  temp_written m fs inst t b temp x a st lives found behind within =
+      let now = lives_now m inst lives in
+      read_then (Other inst) m fs inst temp x a lives
+      (store_temp s code m fs a (Other inst) inst t temp x b.block (framed s code m fs a st now.0 now.1) found (record { behind = omega (arith, behind); within = within }) (λ u c z other st' there is_temp. absurd (other refl)))
+
+  -- one of expressions, which no statement counts on
+  pub scratch_written : (m : Instances) (fs : Frames) (inst t : ℕ) (b : Runs) (temp : ℕ) (x : Value) → StoreAt s code m fs → Stands s m inst t → Lives m inst → slice_get code.blocks (block_number s (frame_text s t)) ≡ Some b.block → own_end s code (frame_text s t) ≤ temp → temp < own_end s code (frame_text s t) + expression_temps → temp < length b.block.types → TempWritten Every m fs inst temp x
+  scratch_written m fs inst t b temp x a st lives found low high within =
+      let now = lives_now m inst lives in
+      let f = framed s code m fs a st now.0 now.1 in
+      read_then Every m fs inst temp x a lives
+      (store_temp s code m fs a Every inst t temp x b.block f found (record { behind = low; within = within }) (λ u c z every st' there is_temp. scratch_apart s code m fs a inst t temp b.block f found low high within u c z st' there is_temp))

@@ -1,5 +1,5 @@
 -- Transfers of control between components, as operators.
-use Rattle.std.proofs.Common.{◌≡◌, ℕ, suc, false, List, ◌∷◌}
+use Rattle.std.proofs.Common.{◌≡◌, ℕ, suc, List, ◌∷◌}
 use Rattle.sim_base.specs.declared.limits.Limits.{Limits}
 use Rattle.sim_scope.specs.Source.{Source}
 use Rattle.sim_code.specs.declared.instr.Instr.TheVariants as i
@@ -14,6 +14,7 @@ use Rattle.sim_code.proofs.Simulation.{Alike}
 use Rattle.sim_meaning.specs.Meaning.{do_op}
 use Rattle.sim_meaning.specs.Pending.{Activation, Configuration, Instances, Item, Op, TransferOp, Val, plain}
 use Rattle.codegen.specs.Compiled.{Compiled}
+use Rattle.sim_relate.proofs.Carried.{work_flag}
 use Rattle.sim_relate.proofs.Components.{transfers}
 use Rattle.sim_relate.proofs.Entries.{waits}
 use Rattle.sim_relate.proofs.Hands.{hand_plain}
@@ -21,6 +22,7 @@ use Rattle.sim_relate.proofs.Here.{Here, act, at_row, kinds_as}
 use Rattle.sim_relate.proofs.Known.{HandAt, Kind, Runs, anys, site_at, Settled}
 use Rattle.sim_relate.proofs.Operators.{same_plain}
 use Rattle.sim_relate.proofs.Relation.{ChainAt, OpAt, StateAt, WorkAt}
+use Rattle.sim_relate.proofs.Waiting.{NoValue}
 
 module _ (s : Source) (code : CodeOf) (compiled : Compiled s code) (l : Limits) (o : World) (m : Instances) (inst : ℕ) (w : List Item) (vals : List Val) (rest : List Activation) (fs : Frames) (t : ℕ) (b : Runs) (pc : ℕ) (stack : List Value) (below : List machine.Activation) (ks : List Kind) (here : Here s code m fs inst rest t b ks vals stack) (u q : ℕ) (ks' : List Kind) (low : Settled s code t b u) (work : WorkAt s code m fs (λ v. ChainAt s code m fs rest v below) inst t b u w q ks') where
   abbrev Related : Configuration → Machine → Type 0
@@ -36,7 +38,7 @@ module _ (s : Source) (code : CodeOf) (compiled : Compiled s code) (l : Limits) 
   moves : (way : Transfer) (line : ℕ) (left : List Kind) → ks ≡ anys 1 left → ks' ≡ left → q ≡ suc pc → Alike Related (do_op s l o m inst w vals rest (TransferOp way line)) (pop_plain machine.plain stack o (λ v stack. transferring machine.owner way line o (waiting top stack ∷ below) fs v))
   moves way line left e out place =
       hand_plain Configuration Machine Related Val Value (HandAt s code m) plain machine.plain same_plain left vals stack o _ _ (kinds_as s code e here.values)
-      (λ v vals' stack' h. transfers s code compiled o m fs here.store here.parked line _ _ (waits s code compiled l o m inst w vals rest fs t b pc stack below ks here u q ks' low work false left vals' stack' h (λ no. absurd (cc)) out place) (here.formed w vals') way v)
+      (λ v vals' stack' h. transfers s code compiled o m fs here.store here.parked line _ _ (waits s code compiled l o m inst w vals rest fs t b pc stack below ks here u q ks' low work NoValue left vals' stack' h (λ no. absurd (cc)) tt out place) (here.formed w vals' (work_flag s code m fs (λ v. ChainAt s code m fs rest v below) inst t b u w q ks' work)) way v)
 
   pub transfer : (way : Transfer) (line : ℕ) → Follows (TransferOp way line)
   transfer Detaching line a = at_row s code l o fs top below _ i.Detach line q a.is (moves Detaching line a.left a.«in» a.out a.is.on)

@@ -1,11 +1,11 @@
 -- The code of closed trees.
-use Rattle.std.proofs.Common.{◌≡◌, ◌<◌, ◌≤◌, ℕ, zero, suc, Bool, true, false, List, ◌∷◌, length, Option, Some}
+use Rattle.std.proofs.Common.{◌≡◌, ◌<◌, ℕ, zero, suc, Bool, true, false, List, ◌∷◌, length, Option, Some}
 use Rattle.std.specs.Prelude.{⊤, pos, slice_get}
 use Rattle.sim_scope.specs.Access.{encloser}
 use Rattle.sim_scope.specs.Scopes.{entry_is, entry_of, is_virtual}
 use Rattle.sim_scope.specs.Source.{Source, level_of}
 use Rattle.sim_tree.specs.declared.stmt.TypeName.{TypeName}
-use Rattle.sim_tree.specs.Syntax.{Statement}
+use Rattle.sim_tree.specs.Syntax.{Expression, Statement}
 use Rattle.sim_tree.specs.Syntax as syntax
 use Rattle.sim_values.specs.declared.standard.Standard.{Standard}
 use Rattle.sim_values.specs.declared.value.TextVal.{TextVal}
@@ -19,14 +19,14 @@ use Rattle.sim_code.specs.Sets.{is_set_name, parameter_count}
 use Rattle.sim_code.specs.Simulations.{actual_count, is_process_name, is_simulation_name}
 use Rattle.sim_code.specs.Transfers.{Calling, Detaching, Resuming, Transfer}
 use Rattle.sim_meaning.specs.Levels.{is_class}
-use Rattle.sim_meaning.specs.Pending.{AttributeOf, CallOf, Cell, CopyOf, Either, ElementOf, FitsOf, Further, Given, ImageOf, Instances, Joined, KeptOf, Key, MemberOf, NewOf, NoTerm, NotNoneOf, One, PlaceOf, ProcessOf, QuaOf, QualifiedElementOf, QualifiedPlaceOf, RemoteCallOf, SetOf, SimulationOf, StandardOf, Term, Terms, TransferOf, Two, Unbuilt, ValueAt, VirtualOf}
+use Rattle.sim_meaning.specs.Pending.{ActualOf, AttributeOf, CallOf, Cell, CopyOf, Either, ElementOf, FitsOf, ForValue, Further, Given, ImageOf, Instances, Joined, KeptOf, Key, MemberOf, NamedOf, NewOf, NoTerm, NotNoneOf, One, PlaceOf, ProcessOf, QuaOf, QualifiedElementOf, QualifiedPlaceOf, RemoteCallOf, SetOf, SimulationOf, StandardOf, Term, Terms, TransferOf, Two, Unbuilt, Use, ValueAt, VirtualOf}
 use Rattle.sim_meaning.specs.Entries.{formals_of}
 use Rattle.sim_meaning.specs.Steps.{count}
 use Rattle.sim_meaning.specs.Texts.{ProcedureText, constant_of, text}
 use Rattle.sim_meaning.specs.Texts as Texts
 use Rattle.codegen_expr.specs.Sites.{At, HasCell, IfAt, Is, Pushes, Site, block_number, class_number, frame_text, slot_of}
-use Rattle.codegen_expr.specs.CodeExpr.{GivenAt, IsConstant, OneAt, PlainAt, Stand, StandardIs, join_instrs, member_instr, two_instr}
-use Rattle.sim_relate.proofs.Known.{Any, FixedOf, Kind, Located, Reaches, Refers, attribute_kind, gives, is_declared, is_fixed, is_process_in, place_kind, reads, with_kind, IsImage}
+use Rattle.codegen_expr.specs.CodeExpr.{GivenAt, HeldAt, IsConstant, OneAt, PlainAt, Stand, StandardIs, ThunkAt, join_instrs, line_of_use, member_instr, two_instr, use_instr}
+use Rattle.sim_relate.proofs.Known.{ActualCode, Any, FixedOf, Kind, Located, Named, Reaches, Refers, attribute_kind, gives, is_declared, is_fixed, is_process_in, place_kind, reads, with_kind, IsImage}
 
 -- the text of a class, which has a number
 abbrev pub Classed : Source → ℕ → Type 0
@@ -45,6 +45,11 @@ list_number (suc n) = 1
 
 abbrev pub IsVirtual : Source → ℕ → Type 0
 IsVirtual s v = entry_is is_virtual (entry_of s.tables (record { 0 = v })) ≡ true
+
+-- a value that is held against a class is held against one that has a number
+abbrev pub UseClassed : Source → Use → Type 0
+UseClassed s (ForValue (Some k) line) = Classed s k
+UseClassed s wanted = ⊤
 
 module _ (s : Source) (code : CodeOf) where
   -- ---- closed trees
@@ -84,13 +89,11 @@ module _ (s : Source) (code : CodeOf) where
   GivenIs m inst site n Nothing p q = Pushes code site n i.None p q
   GivenIs m inst site n v p q = PlainAt s code site n v p q
 
-  -- what `&` does with both texts on the stack, in three temps
+  -- what `&` does with both texts on the stack, in the three temps of expressions
   pub record JoinsIs (site : Site) (n line p q : ℕ) : Type 0 where
-    pub temp : ℕ
-    pub unused : site.used ≤ temp
-    pub within : suc (suc temp) < site.size
+    pub within : suc (suc site.temps) < site.size
     pub room : suc (suc n) < site.room
-    pub joins : Stand code line (join_instrs (level_of s site.text) temp) p q
+    pub joins : Stand code line (join_instrs (level_of s site.text) site.temps) p q
 
   -- the procedure of a text, and the text around it
   pub record ProcedureIs (k around : ℕ) : Type 0 where
@@ -182,6 +185,7 @@ module _ (s : Source) (code : CodeOf) where
 
   abbrev pub FetchesAt : Site → ℕ → Kind → ℕ → ℕ → Type 0
   FetchesAt site n Any p q = Is code i.Fetch p q
+  FetchesAt site n Named p q = Is code i.Fetch p q
   FetchesAt site n Located p q = Is code i.Fetch p q
   FetchesAt site n (Refers k) p q = Is code i.Fetch p q
   FetchesAt site n (FixedOf d) p q = ConstantPushed site n d p q
@@ -195,17 +199,25 @@ module _ (s : Source) (code : CodeOf) where
 
   -- a reference that is held against a class in a temp
   pub record FitsIs (site : Site) (n k line p q : ℕ) : Type 0 where
-    pub x : ℕ
-    pub y : ℕ
-    pub z : ℕ
-    pub temp : ℕ
     pub is_class : Classed s k
-    pub unused : site.used ≤ temp
-    pub within : temp < site.size
-    pub address : Pushes code site (suc n) (i.Addr (pos (level_of s site.text)) (pos temp) (pos (class_number s code k))) p x
-    pub under : Is code i.Swap x y
-    pub put : At code i.Put line y z
-    pub again : Pushes code site n (i.Load (pos (level_of s site.text)) (pos temp)) z q
+    pub held : HeldAt s code site n line (class_number s code k) p q
+
+  -- an actual parameter by name, for the instance that evaluates it
+  pub record ActualIs (inst : ℕ) (site : Site) (n home : ℕ) (e : Expression) (p q : ℕ) : Type 0 where
+    pub was : ℕ
+    pub here : home ≡ inst
+    pub thunk : ThunkAt code site n (λ inner x y. ActualCode s code (record inner { used = was }) e x y) p q
+
+  -- a use of a parameter by name, whose cell is found outward
+  pub record UseIs (m : Instances) (inst : ℕ) (site : Site) (n j : ℕ) (key : Key) (wanted : Use) (p q : ℕ) : Type 0 where
+    pub text : ℕ
+    pub use_is : At code (use_instr s code wanted (pos (level_of s text)) (pos (slot_of s code text key))) (line_of_use wanted) p q
+    pub fits : n < site.room
+    pub reaches : Reaches s m inst text j
+    pub own : frame_text s text ≡ text
+    pub has : HasCell s text key
+    pub varies : is_fixed s key ≡ false
+    pub classed : UseClassed s wanted
 
   -- a procedure of SIMSET, behind its object and its actual parameter, if it has one
   pub record SetIs (name : Standard) (count p q : ℕ) : Type 0 where
@@ -276,6 +288,8 @@ module _ (s : Source) (code : CodeOf) where
     TermAt m inst site n (ProcessOf name line a) p q = (x : ℕ) × (TermAt m inst site n a p x × (gives s a ≡ true)) × ProcessIs name line x q
     TermAt m inst site n (SimulationOf j name ts line) p q = SimulationIs m inst site n j name (count ts) line (TermsAt m inst site (suc n) ts) p q
     TermAt m inst site n (VirtualOf a v many line) p q = VirtualIs site n v many line (λ p q. TermAt m inst site n a p q × (gives s a ≡ true)) p q
+    TermAt m inst site n (ActualOf home e) p q = ActualIs inst site n home e p q
+    TermAt m inst site n (NamedOf j key wanted) p q = UseIs m inst site n j key wanted p q
     TermAt m inst site n Unbuilt p q = ⊤
 
     -- one value after the other

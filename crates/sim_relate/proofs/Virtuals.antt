@@ -140,7 +140,7 @@ module _ (s : Source) (code : CodeOf) (coding : Compiled s code) (l : Limits) (o
       let j = y.instance in
       let c = code_there s code coding y.text (ProcedureText p.given p.heading p.body) p.procedure refl in
       let has = procedure_code s code y.text p.given p.heading p.body c.block c.has in
-      let under = entries.waits s code coding l o m inst w vals rest fs t b pc stack below ks here u q ks' low k (has_result p.given) a.left vals2 stack2 hs (λ _. a.fits) (a.out ∙ ap (λ g. given g a.left) (sym p.same)) (a.is).on in
+      let under = entries.waits_value s code coding l o m inst w vals rest fs t b pc stack below ks here u q ks' low k (has_result p.given) a.left vals2 stack2 hs (λ _. a.fits) (a.out ∙ ap (λ g. given g a.left) (sym p.same)) (a.is).on in
       entries.found_left s code coding l o m inst w vals rest fs t b pc stack below ks here u q ks' low k (ℕ × ℕ) (procedure_in v) (y.text, j) _ _ (ap procedure_in y.is_val)
       (alike_found Configuration Machine R (ℕ × ℕ) (machine.procedure_in x) (block_number s y.text, j) o _ _ (ap machine.procedure_in y.is_value)
       (entries.when_equal s code coding l o (is_live m j) (is_live fs j) _ _ (sym (is_live_same s code m fs here.store j))

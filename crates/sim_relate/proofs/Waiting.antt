@@ -3,58 +3,99 @@ use Rattle.std.proofs.Common.{◌≡◌, ◌≢◌, ◌<◌, ℕ, zero, suc, Boo
 use Rattle.std.specs.Prelude.{slice_index_or, slice_set}
 use Rattle.sim_chains.specs.Components.{NoObject, Standing}
 use Rattle.sim_code.specs.Instances.{Instance, entered}
-use Rattle.sim_meaning.specs.Pending.{Activation, Do, EndLevel, EndProcedure, Held, Instances, Item}
+use Rattle.sim_meaning.specs.Pending.{Activation, Do, EndEvaluation, EndLevel, EndProcedure, ForPlace, ForValue, Held, Instances, Item, Use}
+use Rattle.sim_relate.proofs.Known.{Any, Kind, Named}
 
--- whether the end of pending work gives a value
-abbrev pub gives_value : List Item → Bool
-gives_value [] = false
+-- What is given at the end of what is above on a chain: nothing, a value, or what a use of a parameter by name asked for.
+pub data Wait : Type 0 where
+  NoValue : Wait
+  AValue : Wait
+  OfName : (wanted : Use) → Wait
+
+abbrev pub value_if : Bool → Wait
+value_if true = AValue
+value_if false = NoValue
+
+-- whether there is a value then
+abbrev pub gets_any : Wait → Bool
+gets_any NoValue = false
+gets_any _ = true
+
+abbrev pub kind_used : Use → Kind
+kind_used (ForValue class line) = Any
+kind_used (ForPlace value_too line) = Named
+
+-- the values in hand then
+abbrev pub given_by : Wait → List Kind → List Kind
+given_by NoValue ks = ks
+given_by AValue ks = Any ∷ ks
+given_by (OfName wanted) ks = kind_used wanted ∷ ks
+
+abbrev pub kind_by : Wait → Kind
+kind_by (OfName wanted) = kind_used wanted
+kind_by _ = Any
+
+pub given_one : (w : Wait) (ks : List Kind) → gets_any w ≡ true → given_by w ks ≡ kind_by w ∷ ks
+given_one NoValue ks e = absurd (cc (e))
+given_one AValue ks e = refl
+given_one (OfName wanted) ks e = refl
+
+-- what the end of pending work gives
+abbrev pub gives_value : List Item → Wait
+gives_value [] = NoValue
 gives_value (Do op ∷ w) = gives_value w
 gives_value (EndLevel k ∷ w) = gives_value w
-gives_value (EndProcedure leaves ∷ w) = leaves
-gives_value (_ ∷ w) = false
+gives_value (EndProcedure leaves ∷ w) = value_if leaves
+gives_value (EndEvaluation wanted ∷ w) = OfName wanted
+gives_value (_ ∷ w) = NoValue
 
--- whether the end of a chain does, where v tells it of a chain on which nothing is
-abbrev pub demand : (v : Bool) → List Activation → Bool
+-- and the end of a chain, where v tells it of a chain on which nothing is
+abbrev pub demand : (v : Wait) → List Activation → Wait
 demand v [] = v
 demand v (a ∷ rest) = demand (gives_value a.work) rest
 
 -- A head that keeps its main chain waits for the end of that.
-abbrev pub suspends : Standing Activation → Option Bool
-suspends (NoObject (Some main)) = Some (demand false main)
+abbrev pub suspends : Standing Activation → Option Wait
+suspends (NoObject (Some main)) = Some (demand NoValue main)
 suspends _ = None
 
-abbrev pub suspended_in : List (Standing Activation) → (instance : ℕ) → Option Bool
+abbrev pub suspended_in : List (Standing Activation) → (instance : ℕ) → Option Wait
 suspended_in xs j = suspends (slice_index_or xs j (NoObject None))
 
-abbrev pub suspended : Instances → (instance : ℕ) → Option Bool
+abbrev pub suspended : Instances → (instance : ℕ) → Option Wait
 suspended m j = suspended_in m.standings j
 
--- Whether an instance gets a value before it goes on, where what is directly above it gives one or not. Above a head that waits for its main
--- component a resumed object operates, which gives none.
-abbrev pub GetsIs : (suspended : Option Bool) → (waits gets : Bool) → Type 0
-GetsIs None waits gets = gets ≡ waits
-GetsIs (Some d) waits gets = (waits ≡ false) × (gets ≡ d)
+-- an evaluation is no head
+abbrev pub suspended_by : Instances → (owner : Option ℕ) → Option Wait
+suspended_by m None = None
+suspended_by m (Some j) = suspended m j
 
--- what gets a value that is given waits for no main component
-pub gets_given : (o : Option Bool) (gets : Bool) → GetsIs o true gets → (gets ≡ true) × (o ≡ None)
-gets_given None gets e = (e, refl)
-gets_given (Some d) gets e = let no = e.0 in absurd (cc (no))
+-- What an activation gets before it goes on, where what is directly above it gives this. Above a head that waits for its main component a resumed
+-- object operates, which gives none.
+abbrev pub GetsIs : (suspended : Option Wait) → (waits gets : Wait) → Type 0
+GetsIs None waits gets = gets ≡ waits
+GetsIs (Some d) waits gets = (waits ≡ NoValue) × (gets ≡ d)
+
+-- what is given a value waits for no main component
+pub gets_given : (o : Option Wait) (waits gets : Wait) → gets_any waits ≡ true → GetsIs o waits gets → (gets ≡ waits) × (o ≡ None)
+gets_given None waits gets v e = (e, refl)
+gets_given (Some d) waits gets v e = let no = e.0 in absurd (cc (ap gets_any no, v))
 
 -- what waits for none gets what it is given
-pub gets_free : (o : Option Bool) (waits gets : Bool) → o ≡ None → GetsIs o waits gets → gets ≡ waits
+pub gets_free : (o : Option Wait) (waits gets : Wait) → o ≡ None → GetsIs o waits gets → gets ≡ waits
 gets_free None waits gets e a = a
 gets_free (Some d) waits gets e a = absurd (cc (e))
 
 -- a head that waits for its main component gets what that gives
-pub gets_main : (o : Option Bool) (waits gets d : Bool) → o ≡ Some d → GetsIs o waits gets → (waits ≡ false) × (gets ≡ d)
+pub gets_main : (o : Option Wait) (waits gets d : Wait) → o ≡ Some d → GetsIs o waits gets → (waits ≡ NoValue) × (gets ≡ d)
 gets_main None waits gets d e a = absurd (cc (e))
 gets_main (Some d') waits gets d e a = let same : d' ≡ d = cc (e) in (a.0, a.1 ∙ same)
 
-pub free_gets : (o : Option Bool) (waits gets : Bool) → o ≡ None → gets ≡ waits → GetsIs o waits gets
+pub free_gets : (o : Option Wait) (waits gets : Wait) → o ≡ None → gets ≡ waits → GetsIs o waits gets
 free_gets None waits gets e a = a
 free_gets (Some d) waits gets e a = absurd (cc (e))
 
-pub main_gets : (o : Option Bool) (gets d : Bool) → o ≡ Some d → gets ≡ d → GetsIs o false gets
+pub main_gets : (o : Option Wait) (gets d : Wait) → o ≡ Some d → gets ≡ d → GetsIs o NoValue gets
 main_gets None gets d e a = absurd (cc (e))
 main_gets (Some d') gets d e a = let same : d' ≡ d = cc (e) in (refl, a ∙ sym same)
 

@@ -37,7 +37,7 @@ module _ (s : Source) (code : CodeOf) (ruled : HasRules s) (names : NamesObjects
   Ranked o c x = (n : ℕ) × Ranks n o c x
 
   settled : (o : World) (c : Configuration) (x : Machine) → Comes o c → StateAt s code c x → Ranked o c x
-  settled o c x h a = let r = settle s code l c x (stays l input h.0 o c h.1) (names l input h.0 o c h.1) a in (r.1.0, (r.0, r.1.1, r.2, h))
+  settled o c x h a = let r = settle s code l o c x (stays l input h.0 o c h.1) (names l input h.0 o c h.1) a in (r.1.0, (r.0, r.1.1, r.2, h))
 
   abbrev MovesOf : ℕ → World → Configuration → Machine → Type 0
   MovesOf n o c x = Moves Configuration Machine (step s l) (mstep code l) Ranks (weight s) n o c x

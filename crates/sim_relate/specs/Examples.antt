@@ -13,6 +13,7 @@ use Rattle.sim_code.specs.declared.instr.Instr.TheVariants as i
 use Rattle.sim_code.specs.Code.{ClassOf, CodeOf}
 use Rattle.sim_meaning.specs.ClassExamples.{Alone, Behind, Reference, at as at_token, objects_without_end, source_with_classes, typed}
 use Rattle.sim_meaning.specs.Examples.{factorial_20, for_list, identifier, sub_block, token}
+use Rattle.sim_meaning.specs.NameExamples.{handed_on}
 use Rattle.sim_meaning.specs.SetExamples.{source_with_sets}
 use Rattle.sim_meaning.specs.TextExamples.{parts}
 use Rattle.codegen.specs.Compiled.{Compiled}
@@ -20,7 +21,7 @@ use Rattle.codegen.specs.Examples.{at, block, code, factorial_20_code, for_list_
 
 -- the code of the program, with that of the sub-block behind it
 abbrev pub sub_block_apart : CodeOf
-sub_block_apart = code (block block_kind.SubBlock 1 2 1 0 type.Nothing (type.Integer ∷ type.Integer ∷ type.Nothing ∷ []) [] ∷ block block_kind.SubBlock 2 2 0 35 type.Nothing (type.Nothing ∷ type.Nothing ∷ []) [] ∷ []) (at 1 (i.Jump (pos 1)) ∷ at 0 i.Tick ∷ at 0 (i.Int (pos 2)) ∷ at 0 (i.Store (pos 1) (pos 2)) ∷ at 0 (i.Load (pos 1) (pos 2)) ∷ at 0 (i.Store (pos 1) (pos 1)) ∷ at 0 (i.Load (pos 1) (pos 2)) ∷ at 0 (i.Store (pos 1) (pos 0)) ∷ at 0 i.Tick ∷ at 3 (i.Enter (pos 1)) ∷ at 0 i.Tick ∷ at 0 (i.Load (pos 1) (pos 0)) ∷ at 0 (i.Int (pos 2)) ∷ at 4 (i.Rel (pos 2)) ∷ at 0 (i.JumpF (pos 21)) ∷ at 0 (i.Load (pos 1) (pos 1)) ∷ at 0 (i.Load (pos 1) (pos 0)) ∷ at 4 i.Div ∷ at 0 (i.Int (pos 1)) ∷ at 4 (i.Rel (pos 2)) ∷ at 0 (i.Jump (pos 22)) ∷ at 0 (i.Bool (pos 0)) ∷ at 0 (i.JumpF (pos 28)) ∷ at 0 i.Tick ∷ at 0 (i.Load (pos 1) (pos 0)) ∷ at 0 (i.Int (pos 2)) ∷ at 4 (i.Std (pos 40)) ∷ at 0 (i.Jump (pos 32)) ∷ at 0 i.Tick ∷ at 0 (i.Int (pos 0)) ∷ at 0 (i.Int (pos 2)) ∷ at 4 (i.Std (pos 40)) ∷ at 0 i.Tick ∷ at 5 (i.Std (pos 37)) ∷ at 0 (i.EndLevel (pos 0)) ∷ at 0 (i.Load (pos 1) (pos 0)) ∷ at 0 (i.Int (pos 3)) ∷ at 3 (i.Array (pos 1) (pos 1)) ∷ at 0 (i.Store (pos 2) (pos 0)) ∷ at 0 (i.Int (pos 1)) ∷ at 0 (i.Load (pos 1) (pos 1)) ∷ at 3 (i.Array (pos 1) (pos 1)) ∷ at 0 (i.Store (pos 2) (pos 1)) ∷ at 0 i.Tick ∷ at 0 (i.Load (pos 2) (pos 0)) ∷ at 0 (i.Int (pos 3)) ∷ at 3 (i.Elem (pos 1) (pos 0)) ∷ at 0 (i.Load (pos 2) (pos 1)) ∷ at 0 (i.Int (pos 2)) ∷ at 3 (i.Elem (pos 1) (pos 0)) ∷ at 0 i.Fetch ∷ at 0 (i.Int (pos 5)) ∷ at 3 i.Add ∷ at 0 i.Put ∷ at 0 i.Tick ∷ at 0 (i.Load (pos 2) (pos 0)) ∷ at 0 (i.Int (pos 3)) ∷ at 3 (i.Elem (pos 1) (pos 0)) ∷ at 0 i.Fetch ∷ at 0 (i.Int (pos 3)) ∷ at 3 (i.Std (pos 40)) ∷ at 0 i.Leave ∷ [])
+sub_block_apart = code (block block_kind.SubBlock 1 2 4 0 type.Nothing (type.Integer ∷ type.Integer ∷ type.Nothing ∷ type.Nothing ∷ type.Nothing ∷ type.Nothing ∷ []) [] ∷ block block_kind.SubBlock 2 2 0 35 type.Nothing (type.Nothing ∷ type.Nothing ∷ []) [] ∷ []) (at 1 (i.Jump (pos 1)) ∷ at 0 i.Tick ∷ at 0 (i.Int (pos 2)) ∷ at 0 (i.Store (pos 1) (pos 5)) ∷ at 0 (i.Load (pos 1) (pos 5)) ∷ at 0 (i.Store (pos 1) (pos 1)) ∷ at 0 (i.Load (pos 1) (pos 5)) ∷ at 0 (i.Store (pos 1) (pos 0)) ∷ at 0 i.Tick ∷ at 3 (i.Enter (pos 1)) ∷ at 0 i.Tick ∷ at 0 (i.Load (pos 1) (pos 0)) ∷ at 0 (i.Int (pos 2)) ∷ at 4 (i.Rel (pos 2)) ∷ at 0 (i.JumpF (pos 21)) ∷ at 0 (i.Load (pos 1) (pos 1)) ∷ at 0 (i.Load (pos 1) (pos 0)) ∷ at 4 i.Div ∷ at 0 (i.Int (pos 1)) ∷ at 4 (i.Rel (pos 2)) ∷ at 0 (i.Jump (pos 22)) ∷ at 0 (i.Bool (pos 0)) ∷ at 0 (i.JumpF (pos 28)) ∷ at 0 i.Tick ∷ at 0 (i.Load (pos 1) (pos 0)) ∷ at 0 (i.Int (pos 2)) ∷ at 4 (i.Std (pos 40)) ∷ at 0 (i.Jump (pos 32)) ∷ at 0 i.Tick ∷ at 0 (i.Int (pos 0)) ∷ at 0 (i.Int (pos 2)) ∷ at 4 (i.Std (pos 40)) ∷ at 0 i.Tick ∷ at 5 (i.Std (pos 37)) ∷ at 0 (i.EndLevel (pos 0)) ∷ at 0 (i.Load (pos 1) (pos 0)) ∷ at 0 (i.Int (pos 3)) ∷ at 3 (i.Array (pos 1) (pos 1)) ∷ at 0 (i.Store (pos 2) (pos 0)) ∷ at 0 (i.Int (pos 1)) ∷ at 0 (i.Load (pos 1) (pos 1)) ∷ at 3 (i.Array (pos 1) (pos 1)) ∷ at 0 (i.Store (pos 2) (pos 1)) ∷ at 0 i.Tick ∷ at 0 (i.Load (pos 2) (pos 0)) ∷ at 0 (i.Int (pos 3)) ∷ at 3 (i.Elem (pos 1) (pos 0)) ∷ at 0 (i.Load (pos 2) (pos 1)) ∷ at 0 (i.Int (pos 2)) ∷ at 3 (i.Elem (pos 1) (pos 0)) ∷ at 0 i.Fetch ∷ at 0 (i.Int (pos 5)) ∷ at 3 i.Add ∷ at 0 i.Put ∷ at 0 i.Tick ∷ at 0 (i.Load (pos 2) (pos 0)) ∷ at 0 (i.Int (pos 3)) ∷ at 3 (i.Elem (pos 1) (pos 0)) ∷ at 0 i.Fetch ∷ at 0 (i.Int (pos 3)) ∷ at 3 (i.Std (pos 40)) ∷ at 0 i.Leave ∷ [])
 
 -- the code of the program with texts: both constants, and the three temps of `&`
 abbrev pub parts_code : CodeOf
@@ -78,8 +79,16 @@ the_row = record { prefix = 4; block = 4; declarations = 24; statements = 25; af
 abbrev pub own_set_code : CodeOf
 own_set_code = record (code (record (block block_kind.Prefixed 1 1 0 0 type.Nothing (type.Reference ∷ []) []) { class_free = false; class = 1 } ∷ record (block block_kind.Object 2 0 0 1 type.Nothing [] []) { class_free = false; class = 2 } ∷ record (block block_kind.Object 2 0 0 2 type.Nothing [] []) { class_free = false; class = 3 } ∷ record (block block_kind.Object 2 0 0 3 type.Nothing [] []) { class_free = false; class = 4 } ∷ record (block block_kind.Object 2 0 0 0 type.Nothing [] []) { class_free = false; class = 5 } ∷ []) (at 1 (i.Jump (pos 1)) ∷ at 0 (i.NextDecl (pos 0)) ∷ at 0 i.Tick ∷ at 0 (i.Addr (pos 1) (pos 0) (pos 5)) ∷ at 0 (i.Link (pos 1)) ∷ at 4 (i.New (pos 5) (pos 0)) ∷ at 4 i.Put ∷ at 0 i.Tick ∷ at 0 (i.Load (pos 1) (pos 0)) ∷ at 5 i.NotNone ∷ at 5 (i.Std (pos 59)) ∷ at 0 (i.Int (pos 2)) ∷ at 5 (i.Std (pos 40)) ∷ at 0 (i.Inner (pos 0)) ∷ at 0 (i.EndLevel (pos 0)) ∷ at 0 (i.NextDecl (pos 0)) ∷ at 0 (i.Inner (pos 0)) ∷ at 0 (i.EndLevel (pos 0)) ∷ at 0 (i.NextDecl (pos 1)) ∷ at 0 (i.Inner (pos 1)) ∷ at 0 (i.EndLevel (pos 1)) ∷ at 0 (i.NextDecl (pos 1)) ∷ at 0 (i.Inner (pos 1)) ∷ at 0 (i.EndLevel (pos 1)) ∷ at 0 (i.NextDecl (pos 2)) ∷ at 0 i.Tick ∷ at 0 (i.This (pos 2)) ∷ at 2 i.NotNone ∷ at 2 (i.Std (pos 60)) ∷ at 0 (i.Inner (pos 2)) ∷ at 0 (i.EndLevel (pos 2)) ∷ [])) { classes = the_program ∷ the_linkage ∷ the_link ∷ the_head ∷ the_row ∷ [] }
 
+-- the code of a program that hands a parameter by name on: three actual parameters by name, each with a thunk
+abbrev pub the_formal : CodeFormal
+the_formal = record { mode = mode.Name; shape = shape.Simple; code_type = type.Integer; class = 0 }
+
+abbrev pub handed_on_code : CodeOf
+handed_on_code = record (code (block block_kind.SubBlock 1 1 0 21 type.Nothing (type.Integer ∷ []) [] ∷ block block_kind.Procedure 2 1 0 1 type.Nothing (type.Nothing ∷ []) (the_formal ∷ []) ∷ block block_kind.Procedure 2 1 0 6 type.Nothing (type.Nothing ∷ []) (the_formal ∷ []) ∷ []) (at 0 (i.Jump (pos 21)) ∷ at 0 i.Tick ∷ at 2 (i.NameVal (pos 2) (pos 0) (pos 0)) ∷ at 0 (i.Int (pos 3)) ∷ at 2 (i.Std (pos 40)) ∷ at 0 i.Return ∷ at 0 i.Tick ∷ at 0 i.Tick ∷ at 3 (i.NameAddr (pos 2) (pos 0) (pos 0)) ∷ at 3 (i.NameVal (pos 2) (pos 0) (pos 0)) ∷ at 0 (i.Int (pos 1)) ∷ at 3 i.Add ∷ at 0 i.Put ∷ at 0 i.Tick ∷ at 0 (i.Link (pos 1)) ∷ at 0 (i.Jump (pos 18)) ∷ at 3 (i.NameAddr (pos 2) (pos 0) (pos 1)) ∷ at 0 i.EndThunk ∷ at 0 (i.Thunk (pos 0)) ∷ at 3 (i.Call (pos 1) (pos 1)) ∷ at 0 i.Return ∷ at 1 (i.Jump (pos 22)) ∷ at 0 i.Tick ∷ at 0 (i.Int (pos 4)) ∷ at 0 (i.Store (pos 1) (pos 0)) ∷ at 0 i.Tick ∷ at 0 (i.Link (pos 1)) ∷ at 0 (i.Jump (pos 30)) ∷ at 0 (i.Addr (pos 1) (pos 0) (pos 0)) ∷ at 0 i.EndThunk ∷ at 0 (i.Thunk (pos 1)) ∷ at 6 (i.Call (pos 2) (pos 1)) ∷ at 0 i.Tick ∷ at 0 (i.Link (pos 1)) ∷ at 0 (i.Jump (pos 39)) ∷ at 0 (i.Load (pos 1) (pos 0)) ∷ at 0 (i.Int (pos 1)) ∷ at 7 i.Add ∷ at 0 i.EndThunk ∷ at 0 (i.Thunk (pos 2)) ∷ at 7 (i.Call (pos 2) (pos 1)) ∷ at 0 (i.EndLevel (pos 0)) ∷ [])) { thunks = record { entry = 16; room = 6 } ∷ record { entry = 28; room = 6 } ∷ record { entry = 35; room = 6 } ∷ [] }
+
 -- a `for` list of three kinds of elements with one statement; a procedure that calls itself; a sub-block with arrays, an assignment to
--- several left sides, a choice; attributes of texts, assignments of texts, `&`; objects of a class; a block with a prefix, in a program with `simset` in front
+-- several left sides, a choice; attributes of texts, assignments of texts, `&`; objects of a class; a block with a prefix, in a program with `simset` in front;
+-- parameters by name
 pub record WorkedCodes : Type 0 where
   pub for_list_stands : Compiled for_list for_list_code
   pub factorial_20_stands : Compiled factorial_20 factorial_20_code
@@ -88,3 +97,4 @@ pub record WorkedCodes : Type 0 where
   pub objects_stand : Compiled objects_without_end objects_code
   pub prefixed_stands : Compiled block_with_prefix prefixed_code
   pub own_set_stands : Compiled own_set own_set_code
+  pub handed_on_stands : Compiled handed_on handed_on_code

@@ -12,10 +12,11 @@ use Rattle.sim_values.specs.Words.{array_words, count_from, element_count, exten
 use Rattle.sim_code.specs.Outcome.{ArrayOf as OneArray, Run, World}
 use Rattle.sim_code.specs.Arrays.{added, are_inside, as_many, copying_array, element_place, finding_element, is_inside, live_array, making_array, place_from, unless_given, words_of_array}
 use Rattle.sim_code.specs.Events.{computing, having, popping, taking}
-use Rattle.sim_meaning.specs.Pending.{Address, ArrayValue, Instances, Link, Of, ProcedureValue, Tree, Val, array_in, plain}
-use Rattle.sim_sound.specs.Held.{ArrayOf, Holds, IsOfKind, Refers, Simply}
+use Rattle.sim_meaning.specs.Pending.{Actual, Address, ArrayValue, Instances, Link, Of, ProcedureValue, Val, array_in, plain}
+use Rattle.sim_sound.specs.Held.{ArrayOf, ByName, Holds, IsOfKind, Refers, Simply}
 use Rattle.sim_sound.proofs.Running.{StoreFine}
-use Rattle.sim_sound.proofs.Sound.{AllArrays, ArrayFine, CopyFine, ElementFine, HandsFine, Hidden, Kinds, Marks, NamesObject, Near, Open, PlainFine, Sight, ValFine, Value, at_itself, integers, near_below, see}
+use Rattle.sim_sound.proofs.Sound.{integers}
+use Rattle.sim_sound.proofs.Values.{AllArrays, ArrayFine, CopyFine, ElementFine, HandsFine, Hidden, Kinds, Marks, NamesObject, Near, Open, PlainFine, Sight, ValFine, Value, at_itself, near_below, see}
 use Rattle.sim_sound.proofs.Changes.{more}
 use Rattle.sim_sound.proofs.Lifts.{Goes, any_popped, computed, had, integers_popped, ran, took}
 use Rattle.sim_sound.proofs.Lists.{append_at}
@@ -106,6 +107,7 @@ pub initial_fine : (s : Source) (m : Instances) (h : Holds) (k : Kind) → IsOfK
 initial_fine s m (Simply j) k is = (initial_is k ∙ sym is, initial_known s m k)
 initial_fine s m (Refers c) k is = subst (λ z. PlainFine s m (Refers c) (initial z)) is tt
 initial_fine s m (ArrayOf h) k is = absurd is
+initial_fine s m (ByName h) k is = absurd is
 
 -- a new array of an instance
 pub record NewArray (s : Source) (m : Instances) (j : ℕ) (h : Holds) (x : OneArray) : Type 0 where
@@ -130,8 +132,8 @@ added_fine s o m j h x e f = record {
   count = f.count;
 }
 
-pub copied_fine : (s : Source) (o : AllArrays) (m : Instances) (j d : ℕ) (h : Holds) (x : OneArray) → length o.sights ≡ length o.real → NewArray s m j h x → CopyFine (more o (Hidden h j d) x) j d h (length o.real)
-copied_fine s o m j d h x e f = record { it = x; lives = ap unless_given (append_at o.real x) ∙ lives_if x x.given_back f.back; hidden = sight_at o (Hidden h j d) x e; owned = f.owned; count = f.count }
+pub copied_fine : (s : Source) (o : AllArrays) (m : Instances) (j d : ℕ) (h : Holds) (x : OneArray) → length o.sights ≡ length o.real → NewArray s m j h x → CopyFine (more o (Hidden h o.seat d) x) j d h (length o.real)
+copied_fine s o m j d h x e f = record { it = x; lives = ap unless_given (append_at o.real x) ∙ lives_if x x.given_back f.back; hidden = sight_at o (Hidden h o.seat d) x e; owned = f.owned; count = f.count }
 
 module _ {S : Type 0} (P : World → S → Type 0) where
   pub made_array : (l : Limits) (line owner : ℕ) (k : Kind) (bounds : List (ℤ × ℤ)) (o : World) (f : ℕ → World → Run S) (s : Source) (m : Instances) (h : Holds) → IsOfKind h k → ((t w : ℕ) (x : OneArray) → NewArray s m owner h x → Goes P (f (length o.arrays) (added (ran o t w) x))) → Goes P (making_array l line owner k bounds o f)
@@ -157,7 +159,7 @@ module _ {S : Type 0} (P : World → S → Type 0) where
   array_is s a m j h (Link i) o f y x = absurd y
   array_is s a m j h (Address i) o f y x = absurd y
   array_is s a m j h (ProcedureValue t i) o f y x = absurd y
-  array_is s a m j h (Tree t) o f y x = absurd y
+  array_is s a m j h (Actual t z) o f y x = absurd y
 
   pub found_element : (s : Source) (m : Instances) (j : ℕ) (h : Holds) (n line : ℕ) (left : List Kinds) (vals : List Val) (o : World) (g : Marks) (f : ℕ → ℕ → List Val → Run S) → HandsFine s (see g o) m j (integers n (Value (ArrayOf h) ∷ left)) vals → ((array index : ℕ) (rest : List Val) → ElementFine (see g o) m j h array index → HandsFine s (see g o) m j left rest → Goes P (f array index rest)) → Goes P (finding_element plain array_in n line vals o f)
   unfolding finding_element

@@ -19,9 +19,10 @@ use Rattle.sim_sound.specs.Held.{Among, ArrayOf, Holds, InBound, IsFixed, IsOfKi
 use Rattle.sim_sound.specs.Typed.{ArrayIs, ArraysAre, ArraysTyped, BoundsAre, Distinct, SegmentsAre, SomeName, Typed, arrays_in_segments, arrays_named, arrays_of_block, of_option}
 use Rattle.sim_sound.proofs.Closing.{expr_fine}
 use Rattle.sim_sound.proofs.Prefixes.{LevelOf, level_solid}
-use Rattle.sim_sound.proofs.Reach.{key_there, reaches_bound, text_bound}
+use Rattle.sim_sound.proofs.Reach.{key_there}
 use Rattle.sim_sound.proofs.Running.{Begun, WorkFine}
-use Rattle.sim_sound.proofs.Sound.{AllArrays, EntryIsArray, KeyAmong, Kinds, Value, Waits, array_stored, integers, keys_in, own_made, simple}
+use Rattle.sim_sound.proofs.Sound.{EntryIsArray, array_stored, integers, own_made, simple}
+use Rattle.sim_sound.proofs.Values.{AllArrays, KeyAmong, Kinds, Value, Waits, in_bound, keys_in}
 
 -- ---- what is declared there is an array
 
@@ -77,7 +78,7 @@ module _ (s : Source) (ok : Typed s) (o : AllArrays) (m : Instances) (j t k : �
 
   bounds_eval : (e : Expression) (todo : List DeclNo) (w : List Item) (ks : List Kinds) → ExprIs s (InBound k) e (Simply kind.Integer) → Wk w todo (Value (Simply kind.Integer) ∷ ks) → Wk (Do (Eval (close s m j e)) ∷ w) todo ks
   bounds_eval e todo w ks a z =
-      (todo, Value (Simply kind.Integer) ∷ ks, (simple kind.Integer, expr_fine s ok o m b.store j t todo (InBound k) (reaches_bound s ok o m b.store j t k all b.here b.own at (λ d f c. not_fixed s d (arrays d c) f) solid) (text_bound s ok o m b.store j t k all b.here b.own at) e (Simply kind.Integer) a, refl, refl), z)
+      (todo, Value (Simply kind.Integer) ∷ ks, (simple kind.Integer, expr_fine s ok o m b.store j t todo (InBound k) (in_bound b.here b.own at (λ d f c. not_fixed s d (arrays d c) f) solid) e (Simply kind.Integer) a, refl, refl), z)
 
   integers_more : (n : ℕ) (ks : List Kinds) → integers n (Value (Simply kind.Integer) ∷ ks) ≡ Value (Simply kind.Integer) ∷ integers n ks
   integers_more zero ks = refl

@@ -1,12 +1,12 @@
 -- Left sides and what is assigned to them.
-use Rattle.std.proofs.Common.{◌≡◌, ℕ, List, [], ◌∷◌, ◌++◌, reverse, Some, refl, sym, ap, ◌∙◌, subst}
+use Rattle.std.proofs.Common.{◌≡◌, ℕ, false, List, [], ◌∷◌, ◌++◌, reverse, Some, refl, sym, ap, ◌∙◌, subst}
 use Rattle.std.proofs.lemmas.List.{reverse-append}
 use Rattle.sim_scope.specs.Assignments.{LeftSide}
 use Rattle.sim_scope.specs.Source.{Source, line_at}
 use Rattle.sim_values.specs.declared.kind.Kind.{Kind}
 use Rattle.sim_values.specs.declared.kind.Kind.TheVariants as kind
-use Rattle.sim_meaning.specs.Closing.{Left, LeftAddress, LeftCell, LeftReference, LeftText, LeftUnbuilt, close_left, is_text}
-use Rattle.sim_meaning.specs.Pending.{Do, Eval, Instances, Item, Target, ToAddress, ToCell, ToReference, ToText}
+use Rattle.sim_meaning.specs.Closing.{Left, LeftAddress, LeftCell, LeftNamed, LeftReference, LeftText, LeftUnbuilt, close_left, is_text}
+use Rattle.sim_meaning.specs.Pending.{Do, Eval, Instances, Item, Target, ToAddress, ToCell, ToNamed, ToReference, ToText}
 use Rattle.sim_meaning.specs.Statements.{Lefts, assigning, lefts}
 use Rattle.sim_meaning.specs.Statements as statements
 use Rattle.sim_sound.specs.Held.{Simply}
@@ -14,7 +14,8 @@ use Rattle.sim_sound.specs.Statements.{LeftsAre}
 use Rattle.sim_sound.specs.Typed.{Typed}
 use Rattle.sim_sound.proofs.Lefts.{LeftFine, left_fine}
 use Rattle.sim_sound.proofs.Running.{StoreFine, WorkFine}
-use Rattle.sim_sound.proofs.Sound.{AddressOf, AllArrays, Kinds, OpFine, ReferenceAddress, TargetFine, TargetsFine, Value, Waits, Whole, simple, value_stored}
+use Rattle.sim_sound.proofs.Sound.{OpFine, TargetFine, TargetsFine, simple, value_stored}
+use Rattle.sim_sound.proofs.Values.{Whichever, AllArrays, Kinds, ReferenceAddress, Value, Waits, Whole}
 
 reverse_first : {A : Type 0} (x : A) (xs : List A) → reverse (x ∷ xs) ≡ reverse xs ++ x ∷ []
 reverse_first x xs = reverse-append (x ∷ []) xs
@@ -53,9 +54,9 @@ module _ (s : Source) (ok : Typed s) (o : AllArrays) (m : Instances) (store : St
   before_is (LeftAddress x) es e is a f = record {
     is = record { work = Do (Eval x) ∷ (f.is).work; targets = ToAddress ∷ (f.is).targets };
     found = ap (λ z. statements.before z (lefts s m i es)) is ∙ ap (statements.before (LeftAddress x)) f.found;
-    kinds = λ ks. f.kinds (AddressOf (Simply k) ∷ ks);
-    shared = λ ks. shares ToAddress (f.is).targets (f.kinds (AddressOf (Simply k) ∷ ks)) ks (AddressOf (Simply k) ∷ ks) (f.shared (AddressOf (Simply k) ∷ ks)) refl;
-    works = λ w ks h. ([], AddressOf (Simply k) ∷ ks, (Some (AddressOf (Simply k)), a, refl, refl), f.works w (AddressOf (Simply k) ∷ ks) h);
+    kinds = λ ks. f.kinds (a.0 ∷ ks);
+    shared = λ ks. shares ToAddress (f.is).targets (f.kinds (a.0 ∷ ks)) ks (a.0 ∷ ks) (f.shared (a.0 ∷ ks)) (a.0, a.1, refl);
+    works = λ w ks h. ([], a.0 ∷ ks, (Some a.0, a.2, refl, refl), f.works w (a.0 ∷ ks) h);
   }
   before_is (LeftText line x) es e is a f = record {
     is = record { work = Do (Eval x) ∷ (f.is).work; targets = ToText line ∷ (f.is).targets };
@@ -70,6 +71,13 @@ module _ (s : Source) (ok : Typed s) (o : AllArrays) (m : Instances) (store : St
     kinds = λ ks. f.kinds (ReferenceAddress a.1 ∷ ks);
     shared = λ ks. shares (ToReference line) (f.is).targets (f.kinds (ReferenceAddress a.1 ∷ ks)) ks (ReferenceAddress a.1 ∷ ks) (f.shared (ReferenceAddress a.1 ∷ ks)) (ap Simply a.0, a.1, refl);
     works = λ w ks h. ([], ReferenceAddress a.1 ∷ ks, (Some (ReferenceAddress a.1), a.2, refl, refl), f.works w (ReferenceAddress a.1 ∷ ks) h);
+  }
+  before_is (LeftNamed c line x) es e is a f = record {
+    is = record { work = Do (Eval x) ∷ (f.is).work; targets = ToNamed c line ∷ (f.is).targets };
+    found = ap (λ z. statements.before z (lefts s m i es)) is ∙ ap (statements.before (LeftNamed c line x)) f.found;
+    kinds = λ ks. f.kinds (Whichever false kind.Reference ∷ ks);
+    shared = λ ks. shares (ToNamed c line) (f.is).targets (f.kinds (Whichever false kind.Reference ∷ ks)) ks (Whichever false kind.Reference ∷ ks) (f.shared (Whichever false kind.Reference ∷ ks)) (ap Simply a.0, refl);
+    works = λ w ks h. ([], Whichever false kind.Reference ∷ ks, (Some (Whichever false kind.Reference), a.1, refl, refl), f.works w (Whichever false kind.Reference ∷ ks) h);
   }
   before_is LeftUnbuilt es e is a f = absurd a
 

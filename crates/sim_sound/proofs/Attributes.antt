@@ -18,6 +18,7 @@ use Rattle.sim_scope.specs.Levels.{has_level}
 use Rattle.sim_scope.specs.Scopes.{entry_in, entry_of, result_in, result_of}
 use Rattle.sim_scope.specs.Source.{Source, block_of, block_of_row}
 use Rattle.sim_tree.specs.Syntax.{Declarations, Expressions, NoDeclaration, NoMore, NoStatement, Statements, Then}
+use Rattle.sim_values.specs.declared.kind.Kind.{Kind}
 use Rattle.sim_values.specs.declared.kind.Kind.TheVariants as kind
 use Rattle.sim_values.specs.declared.standard.Standard.{Standard}
 use Rattle.sim_values.specs.declared.standard.Standard.TheVariants as name
@@ -26,19 +27,20 @@ use Rattle.sim_values.specs.Standard.{row_of}
 use Rattle.sim_code.specs.Sets.{is_attribute_name, is_set_name}
 use Rattle.sim_code.specs.Simulations.{is_process_name}
 use Rattle.sim_meaning.specs.Attributes.{array_attribute, attribute_formals, attribute_of_object, attribute_place, element_at, entry_at, entry_attribute, parameter_at, parameter_attribute, process_term, variable_at, variable_attribute}
+use Rattle.sim_meaning.specs.Closing.{formal_by_name, named_formal, type_of_formal}
 use Rattle.sim_meaning.specs.Entries.{formals_of, numbers_of}
 use Rattle.sim_meaning.specs.Levels.{has_levels, is_process_class, level_made, qualification, writes_inner}
 use Rattle.sim_meaning.specs.Objects.{attributes_from}
 use Rattle.sim_meaning.specs.Pending.{Declared, Instances, NotNoneOf, Term, Terms}
 use Rattle.sim_meaning.specs.Texts.{ClassText, PrefixedText, StandardText, Text, constant_of, kind_of_type, text}
-use Rattle.sim_sound.specs.Held.{ArrayOf, Fits, FitsIn, Holds, Refers, Simply, entry_holds, formal_holds, given_by, held_by, key_holds, reference_to, result_declared, result_holds}
-use Rattle.sim_sound.specs.Expressions.{ArrayNames, ConstantNames, DeclaredGives, HeldNames, VariableNames}
-use Rattle.sim_sound.specs.Statements.{LeftHeld}
+use Rattle.sim_sound.specs.Held.{ArrayOf, ByName, Fits, FitsIn, Holds, Refers, Simply, entry_holds, entry_names, formal_holds, formal_names, given_by, held_by, key_holds, reference_to, result_declared, result_holds}
+use Rattle.sim_sound.specs.Expressions.{ArrayNames, ConstantNames, DeclaredGives, HeldNames, LeftHeld, VariableNames}
 use Rattle.sim_sound.specs.Typed.{ClassTyped, IsAttribute, SetProcedureThere, Typed, owner_place}
 use Rattle.sim_sound.proofs.Lists.{same_some}
 use Rattle.sim_sound.proofs.Prefixes.{levels_solid}
 use Rattle.sim_sound.proofs.Reach.{among_block, key_there}
-use Rattle.sim_sound.proofs.Sound.{AddressOf, AttributeFine, GivesResult, IntegersFine, IsPlain, KeyAmong, Kinds, NotStandard, ObjectIn, ProcedureIn, TermFine, TermsFine, Value, formal_kinds, held_kinds, keys_in, own_cells, VirtualIn}
+use Rattle.sim_sound.proofs.Sound.{AttributeFine, GivesResult, IntegersFine, NotStandard, TermFine, TermsFine, formal_kinds, held_kinds, VirtualIn}
+use Rattle.sim_sound.proofs.Values.{AddressOf, IsPlain, KeyAmong, Kinds, ObjectIn, ProcedureIn, Value, keys_in, own_cells}
 
 -- ---- what is declared
 
@@ -59,20 +61,83 @@ pub names_variable : (s : Source) (Known : Type 0) (es : Expressions) (Indices :
 names_variable s Known es Indices (Simply k) h is a = a
 names_variable s Known es Indices (Refers c) h is a = a
 names_variable s Known es Indices (ArrayOf k) h is a = absurd is
+names_variable s Known es Indices (ByName k) h is a = absurd is
 
 pub left_variable_is : (Known : Type 0) (Indices : Type 0) (held h : Holds) → IsPlain held → LeftHeld Known NoMore Indices (Some held) h → (held ≡ h) × Known
 left_variable_is Known Indices (Simply k) h is a = a
 left_variable_is Known Indices (Refers c) h is a = a
 left_variable_is Known Indices (ArrayOf k) h is a = absurd is
+left_variable_is Known Indices (ByName k) h is a = absurd is
 
 pub no_left_variable : (Known : Type 0) (Indices : Type 0) (e : _) (es : Expressions) (held h : Holds) → IsPlain held → LeftHeld Known (Then e es) Indices (Some held) h → ⊥
 no_left_variable Known Indices e es (Simply k) h is a = a
 no_left_variable Known Indices e es (Refers c) h is a = a
 no_left_variable Known Indices e es (ArrayOf k) h is a = is
+no_left_variable Known Indices e es (ByName k) h is a = is
 
 pub entry_there : (s : Source) (e : Option Entry) (c : Bool) (h : Holds) → entry_holds s c e ≡ Some h → (x : Entry) × (e ≡ Some x)
 entry_there s None c h e = absurd (cc)
 entry_there s (Some x) c h e = (x, refl)
+
+-- a formal parameter by name that is alone, of a type
+pub record NamedEntry (s : Source) (d named : DeclNo) (e : Option Entry) (Known : Type 0) (es : Expressions) (h : Holds) : Type 0 where
+  pub type : SimType
+  pub same : d ≡ named
+  pub holds : (c : Bool) → entry_holds s c e ≡ Some (ByName (kind_of_type type))
+  pub has_type : type_of_formal e ≡ Some type
+  pub alone : es ≡ NoMore
+  pub held : held_by s type ≡ h
+  pub known : Known
+
+formal_alone : (Known : Type 0) (es : Expressions) (Indices : Type 0) (held h : Holds) → IsPlain held → LeftHeld Known es Indices (Some held) h → es ≡ NoMore
+formal_alone Known NoMore Indices held h is a = refl
+formal_alone Known (Then e es) Indices held h is a = absurd (no_left_variable Known Indices e es held h is a)
+
+pub named_entry : (s : Source) (d named : DeclNo) (e : Option Entry) (Known : Type 0) (es : Expressions) (Indices : Type 0) (h : Holds) → formal_by_name d e ≡ Some named → LeftHeld Known es Indices (entry_names s e) h → NamedEntry s d named e Known es h
+named_entry s d named (Some (entry.Formal f)) Known es Indices h is a = by_mode f.mode f.kind f.ty is a
+  where
+    by_mode : (f : Mode) (g : FormalKind) (ty : Option SimType) → named_formal f g d ≡ Some named → LeftHeld Known es Indices (formal_names s f g ty) h → NamedEntry s d named (Some (entry.Formal (record { mode = f; kind = g; ty = ty }))) Known es h
+    by_mode mode.ByName shape.Simple (Some ty) is a =
+        let alone = formal_alone Known es Indices (held_by s ty) h (held_plain s ty) a in
+        let x = left_variable_is Known Indices (held_by s ty) h (held_plain s ty) (subst (λ z. LeftHeld Known z Indices (Some (held_by s ty)) h) alone a) in
+        record { type = ty; same = cc; holds = λ c. refl; has_type = refl; alone = alone; held = x.0; known = x.1 }
+    by_mode mode.ByName shape.Simple None is a = absurd (nothing_held es a)
+      where
+        nothing_held : (es : Expressions) → LeftHeld Known es Indices None h → ⊥
+        nothing_held NoMore a = a
+        nothing_held (Then e es) a = a
+    by_mode mode.ByName shape.Array ty is a = absurd (cc)
+    by_mode mode.ByName shape.Procedure ty is a = absurd (cc)
+    by_mode mode.ByValue g ty is a = absurd (cc)
+    by_mode mode.ByReference g ty is a = absurd (cc)
+named_entry s d named None Known es Indices h is a = absurd (cc)
+named_entry s d named (Some _) Known es Indices h is a = absurd (cc)
+
+-- the kind of what a type holds
+pub held_of_kind : (s : Source) (ty : SimType) (k : Kind) → held_by s ty ≡ Simply k → kind_of_type ty ≡ k
+held_of_kind s type.Integer k e = cc
+held_of_kind s type.Boolean k e = cc
+held_of_kind s type.Character k e = cc
+held_of_kind s type.Text k e = cc
+held_of_kind s type.NoneType k e = cc
+held_of_kind s (type.Ref d) k e = of_reference (qualification s (Some (type.Ref d))) e
+  where
+    of_reference : (c : Option ℕ) → reference_to c ≡ Simply k → kind.Reference ≡ k
+    of_reference None e = cc
+    of_reference (Some c) e = absurd (cc)
+
+-- and the qualification of what refers
+pub held_qualified : (s : Source) (ty : SimType) (c : ℕ) → held_by s ty ≡ Refers c → (kind_of_type ty ≡ kind.Reference) × (qualification s (Some ty) ≡ Some c)
+held_qualified s type.Integer c e = absurd (cc)
+held_qualified s type.Boolean c e = absurd (cc)
+held_qualified s type.Character c e = absurd (cc)
+held_qualified s type.Text c e = absurd (cc)
+held_qualified s type.NoneType c e = absurd (cc)
+held_qualified s (type.Ref d) c e = (refl, of_reference (qualification s (Some (type.Ref d))) e)
+  where
+    of_reference : (x : Option ℕ) → reference_to x ≡ Refers c → x ≡ Some c
+    of_reference None e = absurd (cc)
+    of_reference (Some k) e = cc
 
 -- what is named is known where it stands
 module _ (s : Source) (Known : Type 0) (d : DeclNo) where
@@ -83,6 +148,8 @@ module _ (s : Source) (Known : Type 0) (d : DeclNo) where
   held_known (Then x es) Indices (Some (Refers q)) g a = absurd a
   held_known NoMore Indices (Some (ArrayOf q)) g a = a.1
   held_known (Then x es) Indices (Some (ArrayOf q)) g a = a.1
+  held_known NoMore Indices (Some (ByName q)) g a = absurd a
+  held_known (Then x es) Indices (Some (ByName q)) g a = absurd a
   held_known NoMore Indices None g a = absurd a
   held_known (Then x es) Indices None g a = absurd a
 
@@ -97,7 +164,7 @@ module _ (s : Source) (Known : Type 0) (d : DeclNo) where
   known_of es Indices Actuals (Some (entry.Constant ty)) (Some g) a = constant_known es g a
   known_of es Indices Actuals (Some (entry.Variable ty)) (Some g) a = held_known es Indices (Some (held_by s ty)) g a
   known_of es Indices Actuals (Some (entry.Array ty n)) (Some g) a = held_known es Indices (Some (ArrayOf (held_by s ty))) g a
-  known_of es Indices Actuals (Some (entry.Formal f)) (Some g) a = held_known es Indices (formal_holds s f.mode f.kind f.ty) g a
+  known_of es Indices Actuals (Some (entry.Formal f)) (Some g) a = held_known es Indices (formal_names s f.mode f.kind f.ty) g a
   known_of es Indices Actuals None h a = absurd a
   known_of es Indices Actuals (Some _) None a = absurd a
   known_of es Indices Actuals (Some _) (Some g) a = absurd a
@@ -109,6 +176,8 @@ module _ (s : Source) (Known : Type 0) (d : DeclNo) where
   left_known (Then x es) Indices (Some (Refers q)) h a = absurd a
   left_known NoMore Indices (Some (ArrayOf q)) h a = absurd a
   left_known (Then x es) Indices (Some (ArrayOf q)) h a = a.1
+  left_known NoMore Indices (Some (ByName q)) h a = absurd a
+  left_known (Then x es) Indices (Some (ByName q)) h a = absurd a
   left_known NoMore Indices None h a = absurd a
   left_known (Then x es) Indices None h a = absurd a
 
@@ -117,6 +186,7 @@ module _ (s : Source) (Known : Type 0) (d : DeclNo) where
   text_element (Simply k) e = ap Simply e
   text_element (Refers c) e = absurd (cc)
   text_element (ArrayOf h) e = absurd e
+  text_element (ByName k) e = absurd e
 
   pub text_left : (es : Expressions) (Indices : Type 0) (held : Option Holds) → HeldNames s Known es Indices held (Simply kind.Text) → LeftHeld Known es Indices held (Simply kind.Text)
   text_left NoMore Indices (Some (Simply q)) a = (ap Simply a.0, a.1)
@@ -131,6 +201,8 @@ module _ (s : Source) (Known : Type 0) (d : DeclNo) where
       array_none : ArrayOf q ≡ Simply kind.Text → ⊥
       array_none e = cc
   text_left (Then x es) Indices (Some (ArrayOf q)) a = (text_element q a.0, a.1, a.2)
+  text_left NoMore Indices (Some (ByName q)) a = absurd a
+  text_left (Then x es) Indices (Some (ByName q)) a = absurd a
   text_left NoMore Indices None a = absurd a
   text_left (Then x es) Indices None a = absurd a
 
@@ -229,6 +301,13 @@ module _ (s : Source) (ok : Typed s) where
     pub attribute_is : (h : Holds) → entry_holds s true (entry_of s.tables d) ≡ Some h → AttributeFine s (block_of s d) (Declared d.0) h c
     attribute_is h e = record { level = level; own = held_not_standard d true h e; is = holding h e; there = there_in h (holding h e) }
 
+    -- a parameter of a class is not by name
+    pub not_named : (k : Kind) → entry_holds s true (entry_of s.tables d) ≡ Some (ByName k) → has_levels (text s (block_of s d)) ≡ true → ⊥
+    not_named k e has = let w = leveled (block_of s d) has in (w.typed).not_by_name d k (among_block s ok d true (ByName k) e) e
+
+    pub attribute_named : (k : Kind) (h : Holds) → entry_holds s true (entry_of s.tables d) ≡ Some (ByName k) → AttributeFine s (block_of s d) (Declared d.0) h c
+    attribute_named k h e = record { level = level; own = held_not_standard d true (ByName k) e; is = λ has. absurd (not_named k e has); there = λ has. absurd (not_named k e has) }
+
     -- a constant, which has a value of its type
     constant_held : (ty : SimType) (v : Plain) → entry_of s.tables d ≡ Some (entry.Constant ty) → constant_of s d ≡ Some v → has_levels (text s (block_of s d)) ≡ true → key_holds s (block_of s d) (Declared d.0) ≡ Some (Simply (kind_of v))
     constant_held ty v e is has =
@@ -261,11 +340,12 @@ module _ (s : Source) (ok : Typed s) where
       array_fine Known NoMore ts Indices k h is go a = (h, AddressOf (ArrayOf k), subst (Fits s (ArrayOf k)) a.0 refl, refl, lies_fine (ArrayOf k) is)
       array_fine Known (Then e es) ts Indices k h is go a = (h, AddressOf k, a.0, refl, (k, refl, (ArrayOf k, AddressOf (ArrayOf k), refl, refl, lies_fine (ArrayOf k) is), go a.2))
 
-      formal_fine : (Known : Type 0) (f : Mode) (g : FormalKind) (ty : Option SimType) (es : Expressions) (ts : Terms) (Indices : Type 0) (h : Holds) → entry_holds s true (entry_of s.tables d) ≡ formal_holds s f g ty → (Indices → IntegersFine s m i t todo ts) → HeldNames s Known es Indices (formal_holds s f g ty) h → Fine (parameter_attribute line g lies es ts) (Some (Value h))
+      formal_fine : (Known : Type 0) (f : Mode) (g : FormalKind) (ty : Option SimType) (es : Expressions) (ts : Terms) (Indices : Type 0) (h : Holds) → entry_holds s true (entry_of s.tables d) ≡ formal_holds s f g ty → (Indices → IntegersFine s m i t todo ts) → HeldNames s Known es Indices (formal_names s f g ty) h → Fine (parameter_attribute line g lies es ts) (Some (Value h))
       formal_fine Known mode.ByValue shape.Simple (Some ty) es ts Indices h e go a = variable_fine Known es (held_by s ty) h (attribute_is (held_by s ty) e) (names_variable s Known es Indices (held_by s ty) h (held_plain s ty) a)
       formal_fine Known mode.ByReference shape.Simple (Some ty) es ts Indices h e go a = variable_fine Known es (held_by s ty) h (attribute_is (held_by s ty) e) (names_variable s Known es Indices (held_by s ty) h (held_plain s ty) a)
       formal_fine Known mode.ByValue shape.Array (Some ty) es ts Indices h e go a = array_fine Known es ts Indices (held_by s ty) h (attribute_is (ArrayOf (held_by s ty)) e) go a
       formal_fine Known mode.ByReference shape.Array (Some ty) es ts Indices h e go a = array_fine Known es ts Indices (held_by s ty) h (attribute_is (ArrayOf (held_by s ty)) e) go a
+      formal_fine Known mode.ByName shape.Simple (Some ty) es ts Indices h e go a = variable_fine Known es (held_by s ty) h (attribute_named (kind_of_type ty) (held_by s ty) e) (names_variable s Known es Indices (held_by s ty) h (held_plain s ty) a)
       formal_fine Known _ _ _ es ts Indices h e go a = absurd a
 
       constant_fine : (Known : Type 0) (ty : SimType) (es : Expressions) (h : Holds) → entry_of s.tables d ≡ Some (entry.Constant ty) → ConstantNames s Known d es h → Fine (variable_attribute lies es) (Some (Value h))
@@ -324,15 +404,16 @@ module _ (s : Source) (ok : Typed s) where
       element_lies Known NoMore ts Indices k h is go a = absurd a
       element_lies Known (Then e es) ts Indices k h is go a = (k, ap (λ z. Some (AddressOf z)) a.0, (ArrayOf k, AddressOf (ArrayOf k), refl, refl, lies_fine (ArrayOf k) is), go a.2)
 
-      formal_lies : (Known : Type 0) (f : Mode) (g : FormalKind) (ty : Option SimType) (es : Expressions) (ts : Terms) (Indices : Type 0) (h : Holds) → entry_holds s true (entry_of s.tables d) ≡ formal_holds s f g ty → (Indices → IntegersFine s m i t todo ts) → LeftHeld Known es Indices (formal_holds s f g ty) h → Fine (parameter_at line g lies es ts) (Some (AddressOf h))
+      formal_lies : (Known : Type 0) (f : Mode) (g : FormalKind) (ty : Option SimType) (es : Expressions) (ts : Terms) (Indices : Type 0) (h : Holds) → entry_holds s true (entry_of s.tables d) ≡ formal_holds s f g ty → (Indices → IntegersFine s m i t todo ts) → LeftHeld Known es Indices (formal_names s f g ty) h → Fine (parameter_at line g lies es ts) (Some (AddressOf h))
       formal_lies Known mode.ByValue shape.Simple (Some ty) es ts Indices h e go a = variable_lies Known es Indices (held_by s ty) h (held_plain s ty) (attribute_is (held_by s ty) e) a
       formal_lies Known mode.ByReference shape.Simple (Some ty) es ts Indices h e go a = variable_lies Known es Indices (held_by s ty) h (held_plain s ty) (attribute_is (held_by s ty) e) a
       formal_lies Known mode.ByValue shape.Array (Some ty) es ts Indices h e go a = element_lies Known es ts Indices (held_by s ty) h (attribute_is (ArrayOf (held_by s ty)) e) go a
       formal_lies Known mode.ByReference shape.Array (Some ty) es ts Indices h e go a = element_lies Known es ts Indices (held_by s ty) h (attribute_is (ArrayOf (held_by s ty)) e) go a
+      formal_lies Known mode.ByName shape.Simple (Some ty) es ts Indices h e go a = variable_lies Known es Indices (held_by s ty) h (held_plain s ty) (attribute_named (kind_of_type ty) (held_by s ty) e) a
       formal_lies Known _ _ _ NoMore ts Indices h e go a = absurd a
       formal_lies Known _ _ _ (Then x es) ts Indices h e go a = absurd a
 
-      pub entry_lies : (Known : Type 0) (es : Expressions) (ts : Terms) (Indices : Type 0) (e : Option Entry) (h : Holds) → entry_of s.tables d ≡ e → (Indices → IntegersFine s m i t todo ts) → LeftHeld Known es Indices (entry_holds s false e) h → Fine (entry_at s line d e object es ts) (Some (AddressOf h))
+      pub entry_lies : (Known : Type 0) (es : Expressions) (ts : Terms) (Indices : Type 0) (e : Option Entry) (h : Holds) → entry_of s.tables d ≡ e → (Indices → IntegersFine s m i t todo ts) → LeftHeld Known es Indices (entry_names s e) h → Fine (entry_at s line d e object es ts) (Some (AddressOf h))
       entry_lies Known es ts Indices (Some (entry.Variable ty)) h e ints a = variable_lies Known es Indices (held_by s ty) h (held_plain s ty) (attribute_is (held_by s ty) (ap (entry_holds s true) e)) a
       entry_lies Known es ts Indices (Some (entry.Array ty n)) h e ints a = element_lies Known es ts Indices (held_by s ty) h (attribute_is (ArrayOf (held_by s ty)) (ap (entry_holds s true) e)) ints a
       entry_lies Known es ts Indices (Some (entry.Formal f)) h e ints a = formal_lies Known f.mode f.kind f.ty es ts Indices h (ap (entry_holds s true) e) ints a

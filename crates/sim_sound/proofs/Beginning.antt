@@ -37,7 +37,8 @@ use Rattle.sim_sound.proofs.Members.{MembersFine, no_members}
 use Rattle.sim_sound.proofs.Simulated.{SimulationsFine}
 use Rattle.sim_sound.proofs.Moves.{ending_there, on_top}
 use Rattle.sim_sound.proofs.Running.{Begun, ChainFine, Headed, Placed, StoreFine, WorkFine, places}
-use Rattle.sim_sound.proofs.Sound.{AllArrays, CellsFine, Enclosed, Marks, PrefixedAt, Sight, alone, key_of, see}
+use Rattle.sim_sound.proofs.Sound.{PrefixedAt}
+use Rattle.sim_sound.proofs.Values.{AllArrays, CellsFine, Enclosed, Marks, Sight, alone, key_of, see}
 
 module _ (s : Source) (ok : Typed s) (l : Limits) (o : World) (marks : Marks) (long : length marks.sights ≡ length o.arrays) (m : Instances) (none : m.instances ≡ []) (nobody : m.standings ≡ []) (unseen : marks.sights ≡ []) (unnoted : marks.beneath ≡ []) (unmade : o.members ≡ no_members) (unscheduled : o.simulations ≡ []) where
   nothing_seen : (a : ℕ) (x : Sight) → slice_get [] a ≡ Some x → ⊥
@@ -115,14 +116,14 @@ module _ (s : Source) (ok : Typed s) (l : Limits) (o : World) (marks : Marks) (l
     abbrev after_first : Instances
     after_first = entered m (new_instance s 0 None hs) (NoObject None)
 
-    out : Enclosed s (on_top (see marks o) None o.members o.simulations) after_first (length m.instances) 0 None
+    out : Enclosed s (on_top (see marks o) (length m.instances) None o.members o.simulations) after_first (length m.instances) 0 None
     out = alone refl ok.outermost
 
     block_goes : Goes (IsFine s) (program_entered s l o m (Some (BlockText begin ds ss)))
     block_goes =
         enters (IsFine s) l (line_at s begin) (words_of_cells hs) o (λ p. in_instance s p m 0 None hs (λ now. Do PastOp ∷ block_work s now (length m.instances) ds ss EndProgram) []) (λ t' w'.
-        enters_fine s ok o marks long m 0 None hs (NoObject None) (arrays_of_block s ds) tt (Do PastOp ∷ block_work s after_first (length m.instances) ds ss EndProgram) [] o store placed headed (inr refl) (plain_begun s ok (see marks o) m 0 None begin ds ss is None store out)
-        (arrays_of_block s ds, [], (refl, refl), block_works s ok (see marks o) m 0 None begin ds ss is None store out (λ q. ChainFine s (on_top (see marks o) None o.members o.simulations) after_first [] q) ([] ≡ []) EndProgram ((None, stands_new m (new_instance s 0 None hs) (NoObject None) placed.as_many), refl)))
+        enters_fine s ok o marks long m 0 None hs (NoObject None) (arrays_of_block s ds) tt (Do PastOp ∷ block_work s after_first (length m.instances) ds ss EndProgram) [] o None refl store placed headed (inr refl) (plain_begun s ok (see marks o) m 0 None begin ds ss is None store out)
+        (arrays_of_block s ds, [], (refl, refl), block_works s ok (see marks o) m 0 None begin ds ss is None store out (λ q. ChainFine s (on_top (see marks o) (length m.instances) None o.members o.simulations) after_first [] q) ([] ≡ []) EndProgram ((None, stands_new m (new_instance s 0 None hs) (NoObject None) placed.as_many), refl, (refl, refl))))
 
   -- ---- a prefixed block
 
@@ -156,7 +157,7 @@ module _ (s : Source) (ok : Typed s) (l : Limits) (o : World) (marks : Marks) (l
     P = record o { members = linkages; simulations = blocks }
 
     abbrev V : AllArrays
-    V = on_top (see marks o) None linkages blocks
+    V = on_top (see marks o) (length m.instances) None linkages blocks
 
     abbrev block : PrefixedAt s 0
     block = record { class = class; arguments = es; declarations = ds; statements = ss; is = is }
@@ -185,7 +186,7 @@ module _ (s : Source) (ok : Typed s) (l : Limits) (o : World) (marks : Marks) (l
         (block_linked s ok o marks m store 0 None cells (NoObject None) has None block) (block_started s ok o marks m store 0 None cells (NoObject None) has None block)
 
     pending : WorkFine s V Then (λ q. ChainFine s V Then [] q) (◌≡◌ {A = List Activation} [] []) (length m.instances) 0 (levels_work xs EndProgram) (arrays_of_levels s xs) []
-    pending = works s ok V Then (length m.instances) 0 has (arrays_of_levels s xs) begun (λ q. ChainFine s V Then [] q) (◌≡◌ {A = List Activation} [] []) EndProgram ((None, stands_new m (new_instance s 0 None cells) (NoObject None) placed.as_many), refl)
+    pending = works s ok V Then (length m.instances) 0 has (arrays_of_levels s xs) begun (λ q. ChainFine s V Then [] q) (◌≡◌ {A = List Activation} [] []) EndProgram ((None, stands_new m (new_instance s 0 None cells) (NoObject None) placed.as_many), refl, (refl, refl))
 
     abbrev Entered : World → Run Configuration
     Entered p = in_instance s (block_begun s 0 N p) m 0 None cells (λ now. Do PastOp ∷ levels_work xs EndProgram) []
@@ -195,7 +196,7 @@ module _ (s : Source) (ok : Typed s) (l : Limits) (o : World) (marks : Marks) (l
         had (IsFine s) (levels s 0) xs o (λ xs. entering l (line_at s class.token.0) (words_of_cells (cells_of_levels s xs)) o (λ p. in_instance s (block_begun s 0 N p) m 0 None (cells_of_levels s xs) (λ now. Do PastOp ∷ levels_work xs EndProgram) [])) (levels_are s ok 0 has)
         (enters (IsFine s) l (line_at s class.token.0) (words_of_cells cells) o Entered (λ t' w'.
         same_arrays P (block_begun s 0 N (ran o t' w')) _ (sym (block_arrays s 0 N (ran o t' w'))) (sym (block_members s 0 N (ran o t' w'))) (sym (block_blocks s 0 N (ran o t' w')))
-        (enters_fine s ok P marks long m 0 None cells (NoObject None) (arrays_of_levels s xs) tt (Do PastOp ∷ levels_work xs EndProgram) [] o store placed headed (inr refl) begun (arrays_of_levels s xs, [], (refl, refl), pending))))
+        (enters_fine s ok P marks long m 0 None cells (NoObject None) (arrays_of_levels s xs) tt (Do PastOp ∷ levels_work xs EndProgram) [] o None refl store placed headed (inr refl) begun (arrays_of_levels s xs, [], (refl, refl), pending))))
 
   program_goes : Starts s → Goes (IsFine s) (program_entered s l o m (text s 0))
   program_goes (as_block {begin = begin} {ds = ds} {ss = ss} is) = subst (λ z. Goes (IsFine s) (program_entered s l o m z)) (sym is) (block_goes begin ds ss is)

@@ -1,5 +1,5 @@
 -- What a fine cell has in it.
-use Rattle.std.proofs.Common.{◌≡◌, ℕ, true, false, List, [], ◌∷◌, map, Option, Some, None, inl, inr, ⊎_elim, refl, sym, ap, ◌∙◌, subst}
+use Rattle.std.proofs.Common.{◌≡◌, ℕ, Bool, true, false, List, [], ◌∷◌, map, Option, Some, None, ◌⊎◌, inl, inr, ⊎_elim, refl, sym, ap, ◌∙◌, subst}
 use Rattle.sim_base.specs.declared.numbering.DeclNo.{DeclNo}
 use Rattle.sim_scope.specs.declared.types.Entry.{Entry}
 use Rattle.sim_scope.specs.declared.types.Entry.TheVariants as entry
@@ -8,18 +8,21 @@ use Rattle.sim_scope.specs.declared.types.SimType.TheVariants as t
 use Rattle.sim_scope.specs.Levels.{base}
 use Rattle.sim_scope.specs.Scopes.{entry_of}
 use Rattle.sim_scope.specs.Source.{Source, block_around}
-use Rattle.sim_code.specs.Instances.{Instance, live}
+use Rattle.sim_code.specs.Instances.{CellPlace, ElementPlace, ImagePlace, Instance, live}
+use Rattle.sim_values.specs.declared.kind.Kind.{Kind}
+use Rattle.sim_values.specs.declared.kind.Kind.TheVariants as kind
 use Rattle.sim_code.specs.Instances as instances
 use Rattle.sim_meaning.specs.Attributes.{cell_of_connection, is_connection}
 use Rattle.sim_meaning.specs.Entries.{first_cells, numbers_of}
 use Rattle.sim_meaning.specs.Levels.{has_levels, qualification}
 use Rattle.sim_meaning.specs.Objects.{attributes_from, with_attribute}
-use Rattle.sim_meaning.specs.Pending.{ArrayValue, Connection, Declared, Held, Instances, Key, Of, Result, Val, cell, cell_set, held, held_set}
+use Rattle.sim_meaning.specs.Pending.{Actual, Address, ArrayValue, Connection, Declared, Held, Instances, Key, Of, Result, Val, cell, cell_set, held, held_set}
 use Rattle.sim_meaning.specs.Texts.{BlockText, ClassText, ConnectionText, PrefixedText, ProcedureText, StandardText, Text, text}
-use Rattle.sim_sound.specs.Held.{Among, ArrayOf, Holds, Refers, Simply, connection_holds, entry_holds, given_by, held_by, key_holds, reference_to, result_type}
+use Rattle.sim_sound.specs.Held.{Among, ArrayOf, ByName, Holds, Refers, Simply, connection_holds, entry_holds, given_by, held_by, key_holds, reference_to, result_type}
 use Rattle.sim_sound.specs.Typed.{ConnectionTyped, Typed}
 use Rattle.sim_sound.proofs.Running.{Begun, StoreFine}
-use Rattle.sim_sound.proofs.Sound.{AllArrays, CellIs, CellTarget, InstanceFine, IsPlain, KeyAmong, Made, Near, Present, Site, StandsFor, ValFine, Whole, connected, first_key, in_connection, in_instance, key_of, keys_in, later_key, own_made, own_text}
+use Rattle.sim_sound.proofs.Sound.{CellIs, Site, in_connection, in_instance, own_made}
+use Rattle.sim_sound.proofs.Values.{AddressOf, AllArrays, CellLies, CellTarget, HandFine, InstanceFine, IsPlain, KeyAmong, Made, Near, Present, ReferenceAddress, StandsFor, Whichever, ValFine, Whole, connected, first_key, key_of, keys_in, later_key, own_text}
 use Rattle.sim_sound.proofs.Changes.{held_fine, held_plain, set_there}
 use Rattle.sim_sound.proofs.Lists.{same_some}
 use Rattle.sim_sound.proofs.Moves.{knows_near, near_then}
@@ -30,9 +33,11 @@ pub val_up : (s : Source) (o : AllArrays) (m : Instances) (i j : ℕ) → Near o
 val_up s o m i j near (Simply k) (Of p) a = a
 val_up s o m i j near (Refers c) (Of p) a = a
 val_up s o m i j near (ArrayOf k) (ArrayValue n) a = record { it = a.it; lives = a.lives; known = a.known; owned = ⊎_elim (λ k. inl k) (λ w. inr (near_then o m i j (a.it).owner near w)) a.owned; count = a.count }
+val_up s o m i j near (ByName k) (Actual home e) a = record { near = near_then o m i j home near a.near; from = a.from; stands = a.stands; typed = a.typed }
 val_up s o m i j near (Simply k) _ a = absurd a
 val_up s o m i j near (Refers c) _ a = absurd a
 val_up s o m i j near (ArrayOf k) _ a = absurd a
+val_up s o m i j near (ByName k) _ a = absurd a
 
 -- what a variable may hold is the same for all instances
 pub plain_anywhere : (s : Source) (o : AllArrays) (m : Instances) (j i : ℕ) (h : Holds) (v : Val) → IsPlain h → ValFine s o m j h v → ValFine s o m i h v
@@ -41,6 +46,7 @@ plain_anywhere s o m j i (Refers c) (Of p) is a = a
 plain_anywhere s o m j i (Simply k) _ is a = absurd a
 plain_anywhere s o m j i (Refers c) _ is a = absurd a
 plain_anywhere s o m j i (ArrayOf k) v is a = absurd is
+plain_anywhere s o m j i (ByName k) v is a = absurd is
 
 -- ---- what is no array
 
@@ -161,16 +167,24 @@ own_cell s o m j x key h lives fine made is there = by_held (held key x.cells) r
     by_held (Some v) e h made is = (v, at ∙ e, held_fine s o m j x.text key h x.cells v is fine.cells e)
     by_held None e (Simply k) made is = absurd (held_plain s o m j x.text key (Simply k) (λ a. a) x.cells is fine.cells there e)
     by_held None e (Refers c) made is = absurd (held_plain s o m j x.text key (Refers c) (λ a. a) x.cells is fine.cells there e)
+    by_held None e (ByName k) made is = absurd (held_plain s o m j x.text key (ByName k) (λ a. a) x.cells is fine.cells there e)
     by_held None e (ArrayOf k) made is = absurd (made k refl e)
 
--- a cell that holds what it should
-pub target_cell : (s : Source) (o : AllArrays) (m : Instances) (i j : ℕ) (key : Key) (h : Holds) → StoreFine s o m → CellTarget s m i j key h → (v : Val) × (cell m j key ≡ Some v) × ValFine s o m j h v
-target_cell s o m i j key h store c =
+-- a cell that holds what it should, of an instance that is there for as long
+pub lies_cell : (s : Source) (o : AllArrays) (m : Instances) (i j : ℕ) (key : Key) (h : Holds) → StoreFine s o m → CellLies s o m i j key h → (v : Val) × (cell m j key ≡ Some v) × ValFine s o m j h v
+lies_cell s o m i j key h store c =
     let p = c.here in
     let f = fine_at s o m j c.around c.todo store p in
     let at : LevelOf s (p.now).text c.around = own_key s p.now c.around key p.stands c.there in
     own_cell s o m j p.now key h p.lives f
     (λ k is none. let a = array_among s (p.now).text c.around c.todo (p.now).cells key k p.made at (c.holds ∙ ap Some is) c.there none in c.ready a.0 a.1 a.2) (f.holds c.around at key c.there ∙ c.holds) (f.keys c.around at key c.there)
+
+-- one that is known is there for as long
+pub target_lies : (s : Source) (o : AllArrays) (m : Instances) (i j : ℕ) (key : Key) (h : Holds) → StoreFine s o m → CellTarget s m i j key h → CellLies s o m i j key h
+target_lies s o m i j key h store c = record { around = c.around; todo = c.todo; near = knows_near s o m store i j c.near; here = c.here; ready = c.ready; holds = c.holds; there = c.there }
+
+pub target_cell : (s : Source) (o : AllArrays) (m : Instances) (i j : ℕ) (key : Key) (h : Holds) → StoreFine s o m → CellTarget s m i j key h → (v : Val) × (cell m j key ≡ Some v) × ValFine s o m j h v
+target_cell s o m i j key h store c = lies_cell s o m i j key h store (target_lies s o m i j key h store c)
 
 -- the cell of a connection
 connection_key : (s : Source) → Typed s → (c : ℕ) → is_connection (text s c) ≡ true → (t : ℕ) → key_holds s t (cell_of_connection s c) ≡ Some (reference_to (base s.tables c))
@@ -218,6 +232,28 @@ cell_put s m j x key v lives there =
       ap (λ z. instances.cells_put m j z (Rattle.sim_meaning.specs.Pending.put_in (instances.cells_in z) key v)) lives
           ∙ ap (λ z. instances.cells_put m j (Some x) z) r.1,
     )
+
+-- ---- addresses that parameters by name mean
+
+-- of what is no reference: where it lies, or a value
+pub whichever_value : (s : Source) (o : AllArrays) (m : Instances) (i : ℕ) (value_too : Bool) (k : Kind) (v : Val) → (k ≡ kind.Reference → ⊥) → HandFine s o m i (Whichever value_too k) v → HandFine s o m i (AddressOf (Simply k)) v ⊎ ((value_too ≡ true) × ValFine s o m i (Simply k) v)
+whichever_value s o m i value_too k (Address (ElementPlace a n None)) other f = inl f.1
+whichever_value s o m i value_too k (Address (CellPlace e key None)) other f = inl f.1
+whichever_value s o m i value_too k (Address (ElementPlace a n (Some c))) other f = absurd (other f.0)
+whichever_value s o m i value_too k (Address (CellPlace e key (Some c))) other f = absurd (other f.0)
+whichever_value s o m i value_too k (Address (ImagePlace n)) other f = absurd f
+whichever_value s o m i true k (Of p) other f = inr (refl, f)
+whichever_value s o m i false k (Of p) other f = absurd f
+whichever_value s o m i value_too k _ other f = absurd f
+
+-- of a reference, with its qualification
+pub whichever_reference : (s : Source) (o : AllArrays) (m : Instances) (i : ℕ) (k : Kind) (v : Val) → k ≡ kind.Reference → HandFine s o m i (Whichever false k) v → (c : ℕ) × HandFine s o m i (ReferenceAddress c) v
+whichever_reference s o m i k (Address (ElementPlace a n (Some c))) is f = (c, (refl, f.1))
+whichever_reference s o m i k (Address (CellPlace e key (Some c))) is f = (c, (refl, f.1))
+whichever_reference s o m i k (Address (ElementPlace a n None)) is f = absurd (f.0 is)
+whichever_reference s o m i k (Address (CellPlace e key None)) is f = absurd (f.0 is)
+whichever_reference s o m i k (Address (ImagePlace n)) is f = absurd f
+whichever_reference s o m i k _ is f = absurd f
 
 -- ---- where statements stand
 

@@ -8,9 +8,9 @@ use Rattle.sim_code.specs.Outcome.{ArrayOf as OneArray, World}
 use Rattle.sim_code.specs.Arrays.{owned_by, unless_given, with_array}
 use Rattle.sim_meaning.specs.Pending.{Declared, Held, Instances, Key, Val, before, held, held_set, same_key}
 use Rattle.sim_meaning.specs.Pending as meaning
-use Rattle.sim_sound.specs.Held.{ArrayOf, Holds, Refers, Simply, key_holds}
-use Rattle.sim_sound.proofs.Sound.{AllArrays, ArrayFine, Beneath, CellFine, CellsFine, CopyFine, ElementFine, Hidden, KeptFine, KeyAmong, Marks, Near, Open, PlainFine, Sight, ValFine, at_itself, elements_of, first_key, key_of, later_key, near_below, near_staying, one_lower, see}
-use Rattle.sim_sound.proofs.Later.{All, Copies, Later, as_it_was}
+use Rattle.sim_sound.specs.Held.{ArrayOf, ByName, Holds, Refers, Simply, key_holds}
+use Rattle.sim_sound.proofs.Values.{AllArrays, ArrayFine, Beneath, CellFine, CellsFine, CopyFine, ElementFine, Hidden, KeptFine, KeyAmong, Marks, Near, Open, PlainFine, Seat, Sight, ValFine, at_itself, at_seat, elements_of, first_key, key_of, later_key, near_below, near_staying, one_lower, see}
+use Rattle.sim_sound.proofs.Later.{All, AllCopies, Later, as_it_was}
 use Rattle.sim_sound.proofs.Lists.{append_at, append_before, equal_numbers, if_false, if_true, numbers_equal, same_some, set_len, set_other, set_same}
 
 -- ---- arrays alone
@@ -20,7 +20,7 @@ beneath_same : (o o' : AllArrays) (m : Instances) → o'.beneath ≡ o.beneath �
 beneath_same o o' m same at_itself = at_itself
 beneath_same o o' m same (one_lower {j = j} ends is way) = one_lower ends (ap (λ z. slice_get z j) same ∙ is) (beneath_same o o' m same way)
 
-near_same : (o o' : AllArrays) (m : Instances) (j e : ℕ) → o'.beneath ≡ o.beneath → Near o m j e → Near o' m j e
+pub near_same : (o o' : AllArrays) (m : Instances) (j e : ℕ) → o'.beneath ≡ o.beneath → Near o m j e → Near o' m j e
 near_same o o' m j e same (near_staying a) = near_staying a
 near_same o o' m j e same (near_below way) = near_below (beneath_same o o' m same way)
 
@@ -69,8 +69,8 @@ later_array s o m z x =
     arrays_later s o (more o z x) m refl (λ j h a f. array_more o m z x j h a f) (λ j h a n f. record { array = array_more o m z x j h a f.array; there = f.there })
     (λ h a f. record { it = f.it; lives = more_lives o.real x a f.it f.lives; known = get_more o.sights z a (Open h) f.known; keeps = f.keeps; count = f.count })
 
-pub copies_array : (o : AllArrays) (z : Sight) (x : OneArray) (j d : ℕ) → Copies o (more o z x) j d
-copies_array o z x j d e h a lt f = record { it = f.it; lives = more_lives o.real x a f.it f.lives; hidden = get_more o.sights z a (Hidden h j e) f.hidden; owned = f.owned; count = f.count }
+pub copies_array : (o : AllArrays) (z : Sight) (x : OneArray) → AllCopies o (more o z x)
+copies_array o z x q j d e h a lt f = record { it = f.it; lives = more_lives o.real x a f.it f.lives; hidden = get_more o.sights z a (Hidden h q e) f.hidden; owned = f.owned; count = f.count }
 
 -- the array of a number, if it was not given back
 array_if : (z it : OneArray) (b : Bool) → z.given_back ≡ b → (if b then None else Some z) ≡ Some it → (z ≡ it) × (z.given_back ≡ false)
@@ -104,8 +104,8 @@ elements_array s o m z x long new old a i it y p lives is at =
     subst (λ q. PlainFine s m (elements_of q) p) same (new i p (ap (λ q. slice_get q.elements i) now.1 ∙ at)))
     (old_or_last o.real x a it w.0)
 
-sights_differ : (g : List Sight) (a b j d : ℕ) (h k : Holds) → a ≡ b → slice_get g a ≡ Some (Hidden h j d) → slice_get g b ≡ Some (Open k) → ⊥
-sights_differ g a b j d h k same e f = let x : Hidden h j d ≡ Open k = same_some (slice_get g b) (Hidden h j d) (Open k) (subst (λ z. slice_get g z ≡ Some (Hidden h j d)) same e) f in cc
+sights_differ : (g : List Sight) (a b : ℕ) (q : Seat) (d : ℕ) (h k : Holds) → a ≡ b → slice_get g a ≡ Some (Hidden h q d) → slice_get g b ≡ Some (Open k) → ⊥
+sights_differ g a b q d h k same e f = let x : Hidden h q d ≡ Open k = same_some (slice_get g b) (Hidden h q d) (Open k) (subst (λ z. slice_get g z ≡ Some (Hidden h q d)) same e) f in cc
 
 -- an array with something else about it
 module _ (o : AllArrays) (a0 : ℕ) (old new : OneArray) (is : unless_given (slice_get o.real a0) ≡ Some old) (back : new.given_back ≡ old.given_back) (owner : (old.kept ≡ true) ⊎ (new.owner ≡ old.owner)) (kept : old.kept ≡ true → new.kept ≡ true) (bounds : new.bounds ≡ old.bounds) (len : length new.elements ≡ length old.elements) where
@@ -171,9 +171,9 @@ module _ (o : AllArrays) (a0 : ℕ) (old new : OneArray) (is : unless_given (sli
       other differ = all a i it y p (sym (others_live a differ) ∙ lives) is at
 
   -- it is open, so no copy is changed
-  pub copies_replaced : (h : Holds) → slice_get o.sights a0 ≡ Some (Open h) → (j d : ℕ) → Copies o replaced j d
-  copies_replaced h sight j d e k a lt f =
-      let differ : a ≢ a0 = λ same. sights_differ o.sights a a0 j e k h same f.hidden sight in
+  pub copies_replaced : (h : Holds) → slice_get o.sights a0 ≡ Some (Open h) → AllCopies o replaced
+  copies_replaced h sight q j d e k a lt f =
+      let differ : a ≢ a0 = λ same. sights_differ o.sights a a0 q e k h same f.hidden sight in
       record { it = f.it; lives = others_live a differ ∙ f.lives; hidden = f.hidden; owned = f.owned; count = f.count }
 
 -- another value of an element, which it may hold
@@ -193,8 +193,8 @@ module _ (o : AllArrays) (m : Instances) (j0 : ℕ) (h0 : Holds) (a0 i : ℕ) (v
   pub later_element : (s : Source) → Later s o m changed m All
   later_element s = later_replaced o a0 old new (at.array).lives refl (inr refl) (λ e. e) refl (set_len old.elements i v) s m
 
-  pub copies_element : (j d : ℕ) → Copies o changed j d
-  copies_element j d = copies_replaced o a0 old new (at.array).lives refl (inr refl) (λ e. e) refl (set_len old.elements i v) h0 (at.array).known j d
+  pub copies_element : AllCopies o changed
+  copies_element q j d = copies_replaced o a0 old new (at.array).lives refl (inr refl) (λ e. e) refl (set_len old.elements i v) h0 (at.array).known q j d
 
   pub elements_changed : (s : Source) → PlainFine s m h0 v → ElementsFine s o m → ElementsFine s changed m
   elements_changed s fine all = elements_replaced o a0 old new (at.array).lives refl (inr refl) (λ e. e) refl (set_len old.elements i v) s m (Open h0) (at.array).known by_place all
@@ -231,30 +231,30 @@ module _ (o : World) (g : Marks) (m : Instances) (i d : ℕ) (h0 : Holds) (a0 : 
 
   handed_array : (j : ℕ) (h : Holds) (a : ℕ) → ArrayFine (see g o) m j h a → ArrayFine Now m j h a
   handed_array j h a f =
-      let differ : a ≢ a0 = λ same. sights_differ g.sights a0 a i d h0 h (sym same) copy.hidden f.known in
+      let differ : a ≢ a0 = λ same. sights_differ g.sights a0 a g.seat d h0 h (sym same) copy.hidden f.known in
       record { it = f.it; lives = ap unless_given (set_other o.arrays a0 a moved differ) ∙ f.lives; known = set_other g.sights a0 a (Open h0) differ ∙ f.known; owned = owned_same (see g o) Now m j f.it refl f.owned; count = f.count }
 
   handed_kept : (h : Holds) (a : ℕ) → KeptFine (see g o) h a → KeptFine Now h a
   handed_kept h a f =
-      let differ : a ≢ a0 = λ same. sights_differ g.sights a0 a i d h0 h (sym same) copy.hidden f.known in
+      let differ : a ≢ a0 = λ same. sights_differ g.sights a0 a g.seat d h0 h (sym same) copy.hidden f.known in
       record { it = f.it; lives = ap unless_given (set_other o.arrays a0 a moved differ) ∙ f.lives; known = set_other g.sights a0 a (Open h0) differ ∙ f.known; keeps = f.keeps; count = f.count }
 
   pub handed_later : (s : Source) → Later s (see g o) m Now m All
   unfolding handed_array
   handed_later s = arrays_later s (see g o) Now m refl (λ j h a f. handed_array j h a f) (λ j h a n f. record { array = handed_array j h a f.array; there = f.there }) (λ h a f. handed_kept h a f)
 
-  pub handed_copy : (j e : ℕ) (k : Holds) (a : ℕ) → (j ≡ i → e ≢ d) → CopyFine (see g o) j e k a → CopyFine Now j e k a
-  handed_copy j e k a apart f =
-      let differ : a ≢ a0 = λ same. hidden_apart (same_some (slice_get g.sights a0) (Hidden k j e) (Hidden h0 i d) (subst (λ z. slice_get g.sights z ≡ Some (Hidden k j e)) same f.hidden) copy.hidden) apart in
+  pub handed_copy : (q : Seat) (j e : ℕ) (k : Holds) (a : ℕ) → (q ≡ g.seat → e ≢ d) → CopyFine (at_seat (see g o) q) j e k a → CopyFine (at_seat Now q) j e k a
+  handed_copy q j e k a apart f =
+      let differ : a ≢ a0 = λ same. hidden_apart (same_some (slice_get g.sights a0) (Hidden k q e) (Hidden h0 g.seat d) (subst (λ z. slice_get g.sights z ≡ Some (Hidden k q e)) same f.hidden) copy.hidden) apart in
       record { it = f.it; lives = ap unless_given (set_other o.arrays a0 a moved differ) ∙ f.lives; hidden = set_other g.sights a0 a (Open h0) differ ∙ f.hidden; owned = f.owned; count = f.count }
     where
-      hidden_apart : Hidden k j e ≡ Hidden h0 i d → (j ≡ i → e ≢ d) → ⊥
-      hidden_apart same apart = let x : j ≡ i = cc in let y : e ≡ d = cc in apart x y
+      hidden_apart : Hidden k q e ≡ Hidden h0 g.seat d → (q ≡ g.seat → e ≢ d) → ⊥
+      hidden_apart same apart = let x : q ≡ g.seat = cc in let y : e ≡ d = cc in apart x y
 
   pub handed_over_array : (m' : Instances) → ArrayFine Now m' n h0 a0
   handed_over_array m' =
       let w = array_there (slice_get o.arrays a0) copy.it copy.lives in
-      record { it = moved; lives = array_lives (slice_get (slice_set o.arrays a0 moved) a0) moved (set_same o.arrays a0 copy.it moved w.0) w.1; known = set_same g.sights a0 (Hidden h0 i d) (Open h0) copy.hidden; owned = inr (near_below at_itself); count = copy.count }
+      record { it = moved; lives = array_lives (slice_get (slice_set o.arrays a0 moved) a0) moved (set_same o.arrays a0 copy.it moved w.0) w.1; known = set_same g.sights a0 (Hidden h0 g.seat d) (Open h0) copy.hidden; owned = inr (near_below at_itself); count = copy.count }
 
   pub handed_elements : (s : Source) → ElementsFine s (see g o) m → ElementsFine s Now m
   handed_elements s all a k it y p lives is at = ⊎_elim here other (cases_eq a a0)
@@ -263,8 +263,8 @@ module _ (o : World) (g : Marks) (m : Instances) (i d : ℕ) (h0 : Holds) (a0 : 
       here same =
           let w = array_there (slice_get o.arrays a0) copy.it copy.lives in
           let e : it ≡ moved = same_some (unless_given (slice_get (slice_set o.arrays a0 moved) a)) it moved lives (array_lives (slice_get (slice_set o.arrays a0 moved) a) moved (ap (slice_get (slice_set o.arrays a0 moved)) same ∙ set_same o.arrays a0 copy.it moved w.0) w.1) in
-          let f : Open h0 ≡ y = same_some (slice_get handed_marks.sights a) (Open h0) y (ap (slice_get handed_marks.sights) same ∙ set_same g.sights a0 (Hidden h0 i d) (Open h0) copy.hidden) is in
-          subst (λ q. PlainFine s m (elements_of q) p) f (all a0 k copy.it (Hidden h0 i d) p copy.lives copy.hidden (ap (λ q. slice_get q.elements k) (sym e) ∙ at))
+          let f : Open h0 ≡ y = same_some (slice_get handed_marks.sights a) (Open h0) y (ap (slice_get handed_marks.sights) same ∙ set_same g.sights a0 (Hidden h0 g.seat d) (Open h0) copy.hidden) is in
+          subst (λ q. PlainFine s m (elements_of q) p) f (all a0 k copy.it (Hidden h0 g.seat d) p copy.lives copy.hidden (ap (λ q. slice_get q.elements k) (sym e) ∙ at))
 
       other : a ≢ a0 → PlainFine s m (elements_of y) p
       other differ = all a k it y p (sym (ap unless_given (set_other o.arrays a0 a moved differ)) ∙ lives) (sym (set_other g.sights a0 a (Open h0) differ) ∙ is) at
@@ -290,8 +290,8 @@ module _ (o : World) (g : Marks) (m : Instances) (h0 : Holds) (a0 : ℕ) (kept :
   pub given_later : (s : Source) → Later s (see g o) m Then m All
   given_later s = later_replaced (see g o) a0 kept.it given kept.lives refl (inl kept.keeps) (λ e. e) refl refl s m
 
-  pub given_copy : (j e : ℕ) (k : Holds) (a : ℕ) → CopyFine (see g o) j e k a → CopyFine Then j e k a
-  given_copy j e k a f = copies_replaced (see g o) a0 kept.it given kept.lives refl (inl kept.keeps) (λ e. e) refl refl h0 kept.known j (suc e) e k a (omega arith) f
+  pub given_copy : (q : Seat) (j e : ℕ) (k : Holds) (a : ℕ) → CopyFine (at_seat (see g o) q) j e k a → CopyFine (at_seat Then q) j e k a
+  given_copy q j e k a f = copies_replaced (see g o) a0 kept.it given kept.lives refl (inl kept.keeps) (λ e. e) refl refl h0 kept.known q j (suc e) e k a (omega arith) f
 
   pub given_elements : (s : Source) → ElementsFine s (see g o) m → ElementsFine s Then m
   given_elements s all = elements_replaced (see g o) a0 kept.it given kept.lives refl (inl kept.keeps) (λ e. e) refl refl s m (Open h0) kept.known (λ q p at. all a0 q kept.it (Open h0) p kept.lives kept.known at) all
@@ -318,11 +318,13 @@ pub cell_of : (s : Source) (o : AllArrays) (m : Instances) (j : ℕ) (h : Holds)
 cell_of s o m j (Simply k) v a = a
 cell_of s o m j (Refers c) v a = a
 cell_of s o m j (ArrayOf k) v a = a
+cell_of s o m j (ByName k) v a = a
 
 pub cell_is : (s : Source) (o : AllArrays) (m : Instances) (j : ℕ) (h : Holds) (v : Val) → CellFine s o m j (Some h) (Some v) → ValFine s o m j h v
 cell_is s o m j (Simply k) v a = a
 cell_is s o m j (Refers c) v a = a
 cell_is s o m j (ArrayOf k) v a = a
+cell_is s o m j (ByName k) v a = a
 
 -- a cell that is set
 module _ (key : Key) (v : Val) where

@@ -18,7 +18,8 @@ use Rattle.sim_sound.proofs.Changes.{SetAt, cell_of, equal_same, held_now, held_
 use Rattle.sim_sound.proofs.Constants.{constant_names}
 use Rattle.sim_sound.proofs.FirstCells.{SomeFine, ValsFine, first_value, held_kind, one_more}
 use Rattle.sim_sound.proofs.Lists.{no_some}
-use Rattle.sim_sound.proofs.Sound.{AllArrays, CellFine, CellsFine, KeyAmong, ValFine, first_key, holds_of, key_of, later_key}
+use Rattle.sim_sound.proofs.Sound.{holds_of}
+use Rattle.sim_sound.proofs.Values.{AllArrays, CellFine, CellsFine, KeyAmong, ValFine, first_key, key_of, later_key}
 
 -- ---- keys
 

@@ -22,7 +22,8 @@ use Rattle.sim_sound.proofs.Attributes.{Leveled, leveled}
 use Rattle.sim_sound.proofs.Lists.{no_some, same_some}
 use Rattle.sim_sound.proofs.Prefixes.{LevelOf, class_has, class_solid, level_has, level_of_levels, levels_solid, prefix_level, same_level}
 use Rattle.sim_sound.proofs.Running.{StoreFine}
-use Rattle.sim_sound.proofs.Sound.{AllArrays, EntryIsArray, KeyAmong, LevelsFine, ProcessText, first_key, key_of, later_key, own_cells, own_text}
+use Rattle.sim_sound.proofs.Sound.{EntryIsArray, LevelsFine, ProcessText}
+use Rattle.sim_sound.proofs.Values.{AllArrays, KeyAmong, first_key, key_of, later_key, own_cells, own_text}
 
 -- ---- lists of declarations
 

@@ -25,217 +25,46 @@ use Rattle.sim_scope.specs.declared.types.SimType.TheVariants as type
 use Rattle.sim_values.specs.declared.standard.Standard.TheVariants as name_of
 use Rattle.sim_meaning.specs.Closing as closing
 use Rattle.sim_meaning.specs.Names.{procedure_named, stream_named}
-use Rattle.std.proofs.Common.{◌≡◌, ℕ, Bool, true, false, List, [], ◌∷◌, Option, Some, None, ◌⊎◌, inl, refl, sym, ap, ◌∙◌, subst}
-use Rattle.std.specs.Prelude.{slice_get, ◌&&◌, ◌||◌, not, if◌then◌else◌}
-use Rattle.sim_scope.specs.declared.scopes.Declaration.{Declaration}
-use Rattle.sim_scope.specs.Levels.{base, class_block, class_block_in, has_level}
-use Rattle.sim_scope.specs.Scopes.{entry_in, entry_of}
+use Rattle.std.proofs.Common.{◌≡◌, ℕ, Bool, true, false, List, [], ◌∷◌, Option, Some, None, refl, sym, ap, ◌∙◌, subst}
+use Rattle.std.specs.Prelude.{◌&&◌, ◌||◌, not, if◌then◌else◌}
+use Rattle.sim_scope.specs.Levels.{base, has_level}
+use Rattle.sim_scope.specs.Scopes.{entry_of}
 use Rattle.sim_scope.specs.Source.{Source, block_of, denoted, found_at, level_of, line_at}
 use Rattle.sim_tree.specs.declared.expr.Membership.{Membership}
 use Rattle.sim_values.specs.Plain.{Nothing, Object}
 use Rattle.sim_code.specs.Instances.{at_level}
 use Rattle.sim_code.specs.Transfers.{Calling, Detaching, Resuming, Transfer}
 use Rattle.sim_code.specs.Simulations.{is_simulation_name}
-use Rattle.sim_meaning.specs.Attributes.{attribute, attribute_denoted, attribute_formals, attribute_if, block_found, cell_of_connection, class_made, class_unless, connected_object, connection_at, declared_attribute, detach_term, fitting, generation, if_any, is_connection, is_standard_attribute, kept_if, membership_term, own_attribute, own_term, parameter_qualification, place_of_attribute, qua_term, simulation_term, this_instance, this_term, transfer_at, transfer_term, with_arrays_kept, count_of}
-use Rattle.sim_meaning.specs.Closing.{Joining, Lazily, Negated, Plainly, Sort, actual_term, array_place, array_term, behind_dot, class_parameters, close, close_actuals, close_all, close_place, constant_term, declared_place, declared_term, dot_term, formal_place, formal_term, home_of, home_of_class, image_place, in_instance, is_attribute, is_attribute_denoted, is_image_behind, is_text, is_text_type, is_variable, is_variable_denoted, is_variable_entry, literal_term, name_term, named_place, named_term, object_term, signed_term, sort_of, standard_term, stream_denoted, stream_of, sysout, two_term, variable_place, variable_term}
+use Rattle.sim_meaning.specs.Attributes.{attribute, attribute_denoted, attribute_formals, attribute_if, block_found, cell_of_connection, class_made, class_unless, connected_object, connection_at, declared_attribute, detach_term, generation, if_any, is_connection, is_standard_attribute, membership_term, own_attribute, own_term, place_of_attribute, qua_term, simulation_term, this_instance, this_term, transfer_at, transfer_term, with_arrays_kept, count_of}
+use Rattle.sim_meaning.specs.Closing.{Joining, Lazily, Negated, Plainly, Sort, array_place, array_term, behind_dot, class_parameters, close, close_actuals, close_all, close_place, constant_term, declared_place, declared_term, dot_term, formal_place, formal_term, home_of, home_of_class, image_place, in_instance, is_attribute, is_attribute_denoted, is_image_behind, is_text, is_variable, is_variable_denoted, is_variable_entry, literal_term, class_of_formal, formal_by_name, named_formal, named_place, named_term, type_of_formal, object_term, signed_term, sort_of, standard_name_term, standard_term, stream_denoted, stream_of, sysout, two_term, variable_place, variable_term}
 use Rattle.sim_meaning.specs.Constants.{text_constant}
-use Rattle.sim_meaning.specs.Entries.{formals_of, is_array_by_value}
-use Rattle.sim_meaning.specs.Levels.{class_at, class_denoted, class_text, has_levels, is_class, qualification}
-use Rattle.sim_meaning.specs.Pending.{Cell, CallOf, CopyOf, Declared, ElementOf, FitsOf, Further, ImageOf, Instances, KeptOf, Key, NoTerm, PlaceOf, StandardOf, Term, Terms, Unbuilt, ValueAt, VirtualOf, Given}
-use Rattle.sim_meaning.specs.Texts.{constant_of, is_class_free, text}
-use Rattle.sim_sound.specs.Held.{Among, ArrayOf, Fits, Holds, In, InBound, IsFixed, Place, Refers, Sees, SeesConnected, Simply, StandsAround, declared_holds, entry_holds, formal_holds, held_by, reference_to}
-use Rattle.sim_sound.specs.Expressions.{ActualFits, ActualsFit, AreIntegers, AreOf, ArrayNames, BehindGives, CallGives, ConstantNames, DeclaredGives, DotGives, ExprIs, HeldNames, IdentifierGives, IsReference, KnownAt, LiteralIs, NameGives, NamedGives, NewIs, ObjectHas, OfText, OwnGives, OwnKnown, OwnNameGives, SimulationGives, SimulationKnown, SortKinds, StandardGives, ThisFound, ThisIs, VariableNames, passed, VirtualGives}
-use Rattle.sim_sound.specs.Statements.{LeftHeld, TransferIs}
+use Rattle.sim_meaning.specs.Entries.{formals_of}
+use Rattle.sim_meaning.specs.Levels.{class_at, has_levels, is_class, qualification}
+use Rattle.sim_meaning.specs.Pending.{ActualOf, Cell, CallOf, Declared, ElementOf, ForPlace, ForValue, NamedOf, Use, Further, ImageOf, Instances, Key, NoTerm, PlaceOf, StandardOf, Term, Terms, Unbuilt, ValueAt, VirtualOf, Given}
+use Rattle.sim_meaning.specs.Texts.{constant_of, is_class_free, kind_of_type, text}
+use Rattle.sim_sound.specs.Held.{ArrayOf, ByName, Fits, Holds, In, InBound, IsFixed, Place, Refers, Sees, SeesConnected, Simply, StandsAround, declared_holds, entry_holds, entry_names, formal_holds, formal_names, held_by, reference_to}
+use Rattle.sim_sound.specs.Expressions.{ActualIs, ActualsFit, AreIntegers, AreOf, ArrayNames, BehindGives, CallGives, ConstantNames, DeclaredGives, DotGives, ExprIs, HeldNames, IdentifierGives, IsReference, KnownAt, LeftHeld, LiteralIs, NameGives, NamedGives, NewIs, ObjectHas, OfText, OwnGives, OwnKnown, OwnNameGives, SimulationGives, SimulationKnown, SortKinds, StandardGives, ThisFound, ThisIs, VariableNames, VirtualGives}
 use Rattle.sim_sound.specs.Typed.{Typed}
-use Rattle.sim_sound.proofs.Attributes.{entry_fine, entry_lies, gives_result, held_plain, known_of, left_known, left_variable_is, leveled, names_variable, no_left_variable, procedure_in, text_left, virtual_in}
+use Rattle.sim_sound.proofs.Attributes.{NamedEntry, entry_fine, entry_lies, gives_result, held_of_kind, held_plain, known_of, left_known, named_entry, not_named, left_variable_is, leveled, names_variable, no_left_variable, procedure_in, text_left, virtual_in}
 use Rattle.sim_sound.proofs.Calls.{dot_transfers_not, identifier_transfers_not, not_own, own_denoted, own_is_attribute}
 use Rattle.sim_sound.proofs.Constants.{constant_no_reference, text_no_reference, value_fine}
-use Rattle.sim_sound.proofs.Fitting.{level_itself, level_self, plain_fits}
+use Rattle.sim_sound.proofs.Fitting.{level_self, plain_fits}
 use Rattle.sim_sound.proofs.Cells.{own_level, stands_level_of}
 use Rattle.sim_sound.proofs.Formals.{formals_same}
-use Rattle.sim_sound.proofs.Lists.{if_true}
-use Rattle.sim_sound.proofs.Prefixes.{LevelOf, class_has, level_has, level_is, level_of_levels, levels_solid}
-use Rattle.sim_sound.proofs.Reach.{Reached, Reaches, ReachesText, among_block, key_there}
+use Rattle.sim_sound.proofs.Prefixes.{LevelOf, class_has, level_has, level_has_levels, level_is, level_of_levels, levels_solid}
+use Rattle.sim_sound.proofs.Reach.{Reaches, ReachesText, reaches_from, text_from}
 use Rattle.sim_sound.proofs.Running.{StoreFine}
-use Rattle.sim_sound.proofs.Sound.{AddressOf, AllArrays, BlockIn, CellTarget, Component, Copied, ImageAddress, IntegersFine, IsImage, IsPlain, Kinds, Lasting, ObjectOf, OperandIs, OperandsAre, OperandsFine, PlainFine, Present, TermFine, TermsFine, Value, Whole, class_kinds, formal_kinds, held_kinds, in_connection, in_hand, in_instance as at_cell, kept_kinds, simple}
+use Rattle.sim_sound.proofs.Sound.{Gets, BlockIn, IntegersFine, OperandIs, OperandsAre, OperandsFine, TermFine, TermsFine, class_kinds, formal_kinds, held_kinds, in_connection, in_instance as at_cell, simple}
+use Rattle.sim_sound.proofs.Values.{Stands, Whichever, AddressOf, AllArrays, CellTarget, Component, ImageAddress, IsImage, IsPlain, Kinds, ObjectOf, PlainFine, Value, Whole}
+use Rattle.sim_sound.proofs.Passed.{class_itself, actual_fine, class_actual, value_kinds, values_are, and_second, or_first, StreamIs, stream_denotes, nothing_left, value_gets, attribute_entry, class_named, target_of, whole_of, TransferFrom}
 
--- ---- actual parameters
+module _ (s : Source) (ok : Typed s) (o : AllArrays) (m : Instances) (store : StoreFine s o m) (i t : ℕ) (todo : List DeclNo) (from : Place) (at : Stands s m i from) where
+  reach : Reaches s m i from
+  reach = reaches_from s ok o m store i from at
 
--- a class is one of its own levels
-class_itself : (s : Source) → Typed s → (k : ℕ) → is_class (text s k) ≡ true → has_level s.tables k k ≡ true
-class_itself s ok k is = level_itself s k ((leveled s ok k (class_has s ok k is)).typed).stays
+  around : ReachesText s m i from
+  around = text_from s ok o m store i from at
 
-class_is : (s : Source) (x : Option ℕ) (k : ℕ) → class_text s x ≡ Some k → is_class (text s k) ≡ true
-class_is s None k e = absurd (cc)
-class_is s (Some c) k e = by_class (is_class (text s c)) refl e
-  where
-    by_class : (b : Bool) → is_class (text s c) ≡ b → (if b then Some c else None) ≡ Some k → is_class (text s k) ≡ true
-    by_class true f g = let same : c ≡ k = cc in ap (λ z. is_class (text s z)) (sym same) ∙ f
-    by_class false f g = absurd (cc)
-
-pub qualified_class : (s : Source) (ty : Option SimType) (k : ℕ) → qualification s ty ≡ Some k → is_class (text s k) ≡ true
-unfolding qualification
-qualified_class s (Some (type.Ref d)) k e = class_is s (class_block s.tables d) k e
-qualified_class s (Some type.Integer) k e = absurd (cc)
-qualified_class s (Some type.Boolean) k e = absurd (cc)
-qualified_class s (Some type.Character) k e = absurd (cc)
-qualified_class s (Some type.Text) k e = absurd (cc)
-qualified_class s (Some type.NoneType) k e = absurd (cc)
-qualified_class s None k e = absurd (cc)
-
-not_qualified : (s : Source) (ty : SimType) → (h : Kind) → held_by s ty ≡ Simply h → (qualification s (Some ty) ≡ None) ⊎ (h ≡ kind.Reference)
-unfolding qualification
-not_qualified s type.Integer h e = inl refl
-not_qualified s type.Boolean h e = inl refl
-not_qualified s type.Character h e = inl refl
-not_qualified s type.Text h e = inl refl
-not_qualified s type.NoneType h e = inl refl
-not_qualified s (type.Ref d) h e = by_class (class_text s (class_block s.tables d)) refl e
-  where
-    by_class : (x : Option ℕ) → class_text s (class_block s.tables d) ≡ x → reference_to x ≡ Simply h → (class_text s (class_block s.tables d) ≡ None) ⊎ (h ≡ kind.Reference)
-    by_class None f g = inl f
-    by_class (Some k) f g = absurd (cc)
-
--- what an actual parameter is, with its term, by the term of the expression
-module _ (s : Source) (ok : Typed s) (Is : Holds → Type 0) (Fine : Term → Kinds → Type 0) (line : ℕ) (a : Term) (go : (h : Holds) → Is h → Fine a (Value h))
-    (text_copied : Fine a (Value (Simply kind.Text)) → Fine (StandardOf name_of.Copy (Further a NoTerm) line) (Value (Simply kind.Text)))
-    (array_copied : (k : Holds) → Fine a (Value (ArrayOf k)) → Fine (CopyOf line a) (Copied k))
-    (array_kept : (k : Holds) → Fine a (Value (ArrayOf k)) → Fine (KeptOf a) (Lasting k))
-    (held_against : (x : Term) (k : ℕ) → has_level s.tables k k ≡ true → Fine x (Value (Simply kind.Reference)) → Fine (FitsOf k line x) (Value (Refers k))) where
-  -- a reference that is passed: it is held against the qualification, if there is one
-  reference_passed : (x : Option ℕ) → ((k : ℕ) → x ≡ Some k → has_level s.tables k k ≡ true) → Is (passed (reference_to x)) → Fine (fitting x line a) (Value (reference_to x))
-  reference_passed None level y = go (Simply kind.Reference) y
-  reference_passed (Some k) level y = held_against a k (level k refl) (go (Simply kind.Reference) y)
-
-  type_level : (ty : SimType) (k : ℕ) → qualification s (Some ty) ≡ Some k → has_level s.tables k k ≡ true
-  type_level ty k e = class_itself s ok k (qualified_class s (Some ty) k e)
-
-  by_value : (ty : SimType) → Is (passed (held_by s ty)) → Fine (fitting (qualification s (Some ty)) line (actual_term line mode.ByValue shape.Simple (is_text_type (Some ty)) a)) (Value (held_by s ty))
-  unfolding qualification
-  by_value type.Text y = text_copied (go (Simply kind.Text) y)
-  by_value type.Integer y = go (Simply kind.Integer) y
-  by_value type.Boolean y = go (Simply kind.Boolean) y
-  by_value type.Character y = go (Simply kind.Character) y
-  by_value type.NoneType y = go (Simply kind.Reference) y
-  by_value (type.Ref d) y = reference_passed (class_text s (class_block s.tables d)) (λ k e. type_level (type.Ref d) k e) y
-
-  by_reference : (ty : SimType) → Is (passed (held_by s ty)) → Fine (fitting (qualification s (Some ty)) line a) (Value (held_by s ty))
-  unfolding qualification
-  by_reference type.Text y = go (Simply kind.Text) y
-  by_reference type.Integer y = go (Simply kind.Integer) y
-  by_reference type.Boolean y = go (Simply kind.Boolean) y
-  by_reference type.Character y = go (Simply kind.Character) y
-  by_reference type.NoneType y = go (Simply kind.Reference) y
-  by_reference (type.Ref d) y = reference_passed (class_text s (class_block s.tables d)) (λ k e. type_level (type.Ref d) k e) y
-
-  hand_plain : (h : Holds) → IsPlain h → in_hand false (Some h) ≡ Some (Value h)
-  hand_plain h is = refl
-
-  pub actual_fine : (f : Mode) (g : FormalKind) (ty : Option SimType) → ActualFits s f g ty Is → (h : Kinds) × (in_hand (is_array_by_value f g) (formal_holds s f g ty) ≡ Some h) × Fine (fitting (parameter_qualification s g ty) line (actual_term line f g (is_text_type ty) a)) h
-  actual_fine mode.ByValue shape.Simple (Some ty) y = (Value (held_by s ty), refl, by_value ty y)
-  actual_fine mode.ByReference shape.Simple (Some ty) y = (Value (held_by s ty), refl, by_reference ty y)
-  actual_fine mode.ByValue shape.Array (Some ty) y = (Copied (held_by s ty), refl, array_copied (held_by s ty) (go (ArrayOf (held_by s ty)) y))
-  actual_fine mode.ByReference shape.Array (Some ty) y = (Value (ArrayOf (held_by s ty)), refl, go (ArrayOf (held_by s ty)) y)
-  actual_fine _ _ _ y = absurd y
-
-  -- of a class, where an array by reference is kept
-  pub class_actual : (f : Mode) (g : FormalKind) (ty : Option SimType) → ActualFits s f g ty Is → (h : Kinds) × (kept_kinds f g (in_hand (is_array_by_value f g) (formal_holds s f g ty)) ≡ Some h) × Fine (kept_if f g (fitting (parameter_qualification s g ty) line (actual_term line f g (is_text_type ty) a))) h
-  class_actual mode.ByValue shape.Simple (Some ty) y = (Value (held_by s ty), refl, by_value ty y)
-  class_actual mode.ByReference shape.Simple (Some ty) y = (Value (held_by s ty), refl, by_reference ty y)
-  class_actual mode.ByValue shape.Array (Some ty) y = (Copied (held_by s ty), refl, array_copied (held_by s ty) (go (ArrayOf (held_by s ty)) y))
-  class_actual mode.ByReference shape.Array (Some ty) y = (Lasting (held_by s ty), refl, array_kept (held_by s ty) (go (ArrayOf (held_by s ty)) y))
-  class_actual _ _ _ y = absurd y
-
--- operands that are values of these kinds
-abbrev pub value_kinds : List Kind → List Kinds
-value_kinds [] = []
-value_kinds (k ∷ ks) = Value (Simply k) ∷ value_kinds ks
-
-values_are : (ks : List Kind) → OperandsAre ks (value_kinds ks)
-values_are [] = tt
-values_are (k ∷ ks) = (refl, values_are ks)
-
-and_second : (p q : Bool) → (p && q) ≡ true → q ≡ true
-and_second true q e = e
-and_second false q e = absurd (cc)
-
-or_first : (p q : Bool) → q ≡ false → (p || q) ≡ true → p ≡ true
-or_first true q f e = refl
-or_first false q f e = absurd (cc)
-
--- sysin and sysout have an image
-abbrev StreamIs : Option ℕ → Type 0
-StreamIs None = Unit {0}
-StreamIs (Some n) = IsImage n
-
-stream_found : (name : StandardName) → StreamIs (stream_named name)
-stream_found found.Sysin = tt
-stream_found found.Sysout = tt
-stream_found _ = tt
-
-stream_denotes : (d : Option Denotation) → StreamIs (stream_denoted d)
-stream_denotes None = tt
-stream_denotes (Some (denotation.Declared d)) = tt
-stream_denotes (Some (denotation.Standard name)) = stream_found name
-
--- nothing lies where nothing is held
-nothing_left : (Known : Type 0) (es : Expressions) (Indices : Type 0) (h : Holds) → LeftHeld Known es Indices None h → ⊥
-nothing_left Known NoMore Indices h a = a
-nothing_left Known (Then e es) Indices h a = a
-
-attribute_entry : (s : Source) (stream : Option ℕ) (d : DeclNo) (es : Expressions) → (is_image_behind stream (Some (denotation.Declared d)) || is_attribute_denoted s (Some (denotation.Declared d)) es) ≡ true → is_variable_entry (entry_of s.tables d) es ≡ true
-attribute_entry s None d es v = v
-attribute_entry s (Some image) d es v = v
-
--- the class that an identifier denotes
-row_class : (x : Option Declaration) (k : ℕ) → entry_in x ≡ Some (entry.Class k) → class_block_in (elim x [ None ↦ None | Some row ↦ Some row.entry ]) ≡ Some k
-row_class None k e = absurd (cc)
-row_class (Some row) k e = ap class_block_in e
-
-class_declared : (s : Source) (d : DeclNo) (k : ℕ) → entry_of s.tables d ≡ Some (entry.Class k) → class_block s.tables d ≡ Some k
-unfolding class_block entry_of
-class_declared s d k e = row_class (slice_get s.tables.declarations d.0) k e
-
-class_named : (s : Source) (token : ℕ) (d : DeclNo) (k : ℕ) → denoted s token ≡ Some (denotation.Declared d) → entry_of s.tables d ≡ Some (entry.Class k) → is_class (text s k) ≡ true → class_at s token ≡ Some k
-unfolding class_at
-class_named s token d k e declares is = ap (class_denoted s) e ∙ ap (class_text s) (class_declared s d k declares) ∙ if_true (is_class (text s k)) (Some k) None is
-
-abbrev number : ℕ → DeclNo
-number a = record { 0 = a }
-
-same_declared : (a b : ℕ) → Declared a ≡ Declared b → number b ≡ number a
-same_declared a b q = let r : b ≡ a = cc in ap number r
-
--- a declaration that is found has its cell, which holds what it should
-pub target_of : (s : Source) → Typed s → (m : Instances) (i : ℕ) (d : DeclNo) (h : Holds) → (x : Reached s m i d) → declared_holds s (block_of s d) d ≡ Some h → CellTarget s m i x.instance (Declared d.0) h
-target_of s ok m i d h x e =
-    let p = x.here in
-    record {
-      around = block_of s d;
-      near = x.near;
-      todo = x.todo;
-      here = p;
-      ready = λ c f a. x.ready (subst (λ z. Among z x.todo) (same_declared d.0 c.0 f) a);
-      holds = e;
-      there = key_there s ok (block_of s d) x.words d h (has_levels (text s (block_of s d))) x.solid x.has_text e (among_block s ok d (has_levels (text s (block_of s d))) h e);
-    }
-
--- the same instance, whole
-pub whole_of : (s : Source) (m : Instances) (i : ℕ) (d : DeclNo) → (x : Reached s m i d) → (IsFixed (entry_of s.tables d) → ⊥) → Whole s m x.instance (block_of s d)
-whole_of s m i d x free = subst (λ z. Present s m x.instance (block_of s d) z) (x.whole free) x.here
-
--- a transfer of control that stands somewhere
-abbrev pub TransferFrom : Source → Place → Transfer → (found : Option ℕ) → Expressions → Type 0
-TransferFrom s from Detaching found es = ThisFound s from found (Simply kind.Reference)
-TransferFrom s from Calling found es = AreOf s from es (kind.Reference ∷ [])
-TransferFrom s from Resuming found es = AreOf s from es (kind.Reference ∷ [])
-
-pub transfer_in : (s : Source) (u : ℕ) (c : Transfer) (found : Option ℕ) (es : Expressions) → TransferIs s u c found es → TransferFrom s (In u) c found es
-transfer_in s u Detaching found es a = a.0
-transfer_in s u Calling found es a = a
-transfer_in s u Resuming found es a = a
-
-module _ (s : Source) (ok : Typed s) (o : AllArrays) (m : Instances) (store : StoreFine s o m) (i t : ℕ) (todo : List DeclNo) (from : Place) (reach : Reaches s m i from) (around : ReachesText s m i from) where
   stream_is : (a : Expression) → StreamIs (stream_of s a)
   unfolding stream_of
   stream_is (syntax.Named name es) = stream_denotes (denoted s name.token.0)
@@ -267,12 +96,21 @@ module _ (s : Source) (ok : Typed s) (o : AllArrays) (m : Instances) (store : St
   array_fine d line (Then x es) ts Indices k h e go a =
       cell_seen d (ArrayOf k) (λ j. ValueAt (ElementOf line (Cell j (Declared d.0)) ts)) (Some (Value h)) e a.1 (λ j c. (h, AddressOf k, a.0, refl, (k, refl, array_given j (Declared d.0) k (ArrayOf k) refl c, go a.2)))
 
-  formal_fine : (d : DeclNo) (f : Mode) (g : FormalKind) (ty : Option SimType) (line : ℕ) (es : Expressions) (ts : Terms) (Indices : Type 0) (h : Holds) → declared_holds s (block_of s d) d ≡ formal_holds s f g ty → (Indices → IntegersFine s m i t todo ts) → HeldNames s (Sees s from d) es Indices (formal_holds s f g ty) h → Fine (formal_term s m i line d f g es ts) (Some (Value h))
-  formal_fine d mode.ByValue shape.Simple (Some ty) line es ts Indices h e go a = variable_fine d es (held_by s ty) h e (names_variable s (Sees s from d) es Indices (held_by s ty) h (held_plain s ty) a)
-  formal_fine d mode.ByReference shape.Simple (Some ty) line es ts Indices h e go a = variable_fine d es (held_by s ty) h e (names_variable s (Sees s from d) es Indices (held_by s ty) h (held_plain s ty) a)
-  formal_fine d mode.ByValue shape.Array (Some ty) line es ts Indices h e go a = array_fine d line es ts Indices (held_by s ty) h e go a
-  formal_fine d mode.ByReference shape.Array (Some ty) line es ts Indices h e go a = array_fine d line es ts Indices (held_by s ty) h e go a
-  formal_fine d _ _ _ line es ts Indices h e go a = absurd a
+  -- a parameter by name that is used
+  named_seen : (d : DeclNo) (ty : SimType) (wanted : Use) (x : Kinds) → declared_holds s (block_of s d) d ≡ Some (ByName (kind_of_type ty)) → Gets s (kind_of_type ty) wanted x → Sees s from d → Fine (closing.name_term s m i d NoMore wanted) (Some x)
+  named_seen d ty wanted x e gets sees = cell_seen d (ByName (kind_of_type ty)) (λ j. NamedOf j (Declared d.0) wanted) (Some x) e sees (λ j c. (kind_of_type ty, x, gets, refl, at_cell c))
+
+  value_used : (d : DeclNo) (ty : SimType) (line : ℕ) (es : Expressions) (h : Holds) → declared_holds s (block_of s d) d ≡ Some (ByName (kind_of_type ty)) → type_of_formal (entry_of s.tables d) ≡ Some ty → VariableNames s (Sees s from d) es (held_by s ty) h → Fine (closing.name_term s m i d es (ForValue (class_of_formal s d) line)) (Some (Value h))
+  value_used d ty line NoMore h e is a = named_seen d ty (ForValue (class_of_formal s d) line) (Value h) e (subst (λ z. Gets s (kind_of_type ty) (ForValue (qualification s z) line) (Value h)) (sym is) (value_gets s ty line h a.0)) a.1
+  value_used d ty line (Then x es) h e is a = absurd a
+
+  formal_fine : (d : DeclNo) (f : Mode) (g : FormalKind) (ty : Option SimType) (line : ℕ) (es : Expressions) (ts : Terms) (Indices : Type 0) (h : Holds) → declared_holds s (block_of s d) d ≡ formal_holds s f g ty → type_of_formal (entry_of s.tables d) ≡ ty → (Indices → IntegersFine s m i t todo ts) → HeldNames s (Sees s from d) es Indices (formal_names s f g ty) h → Fine (formal_term s m i line d f g es ts) (Some (Value h))
+  formal_fine d mode.ByName shape.Simple (Some ty) line es ts Indices h e is go a = value_used d ty line es h e is (names_variable s (Sees s from d) es Indices (held_by s ty) h (held_plain s ty) a)
+  formal_fine d mode.ByValue shape.Simple (Some ty) line es ts Indices h e is go a = variable_fine d es (held_by s ty) h e (names_variable s (Sees s from d) es Indices (held_by s ty) h (held_plain s ty) a)
+  formal_fine d mode.ByReference shape.Simple (Some ty) line es ts Indices h e is go a = variable_fine d es (held_by s ty) h e (names_variable s (Sees s from d) es Indices (held_by s ty) h (held_plain s ty) a)
+  formal_fine d mode.ByValue shape.Array (Some ty) line es ts Indices h e is go a = array_fine d line es ts Indices (held_by s ty) h e go a
+  formal_fine d mode.ByReference shape.Array (Some ty) line es ts Indices h e is go a = array_fine d line es ts Indices (held_by s ty) h e go a
+  formal_fine d _ _ _ line es ts Indices h e is go a = absurd a
 
   constant_fine : (d : DeclNo) (es : Expressions) (h : Holds) → ConstantNames s (Sees s from d) d es h → Fine (constant_term (constant_of s d) es) (Some (Value h))
   constant_fine d NoMore h a = subst (λ z. Fine (constant_term z NoMore) (Some (Value h))) (sym a.1) (h, refl, subst (λ z. PlainFine s m z a.0) a.2 (value_fine s m (constant_of s d) a.0 (constant_no_reference s d) a.1))
@@ -329,7 +167,7 @@ module _ (s : Source) (ok : Typed s) (o : AllArrays) (m : Instances) (store : St
       let r = a.0 in
       (r.0, ap held_kinds r.1, x ∷ value_kinds a.1, subst (λ z. OperandsAre z (x ∷ value_kinds a.1)) (sym a.2) (is, values_are a.1), (x, value_kinds a.1, refl, f, ops a.1 a.3))
 
-  name_fine : (line : ℕ) (ts : Terms) (Operands : List Kind → Type 0) → ((ks : List Kind) → Operands ks → OperandsFine s m i t todo ts (value_kinds ks)) → (is_image : Bool) (on : Option Standard) (n : Standard) (image : ℕ) (h : Option Holds) → IsImage image → NameGives is_image on n Operands h → Fine (name_term is_image on n image line ts) (held_kinds h)
+  name_fine : (line : ℕ) (ts : Terms) (Operands : List Kind → Type 0) → ((ks : List Kind) → Operands ks → OperandsFine s m i t todo ts (value_kinds ks)) → (is_image : Bool) (on : Option Standard) (n : Standard) (image : ℕ) (h : Option Holds) → IsImage image → NameGives is_image on n Operands h → Fine (standard_name_term is_image on n image line ts) (held_kinds h)
   name_fine line ts Operands ops true on n image h is a = (Simply kind.Text, ImageAddress, refl, ap held_kinds a.0, (refl, is))
   name_fine line ts Operands ops false (Some of_text) n image h is a = of_text_fine line ts Operands ops of_text (ImageOf image) ImageAddress h (refl, is) refl a
   name_fine line ts Operands ops false None n image h is a =
@@ -356,6 +194,21 @@ module _ (s : Source) (ok : Typed s) (o : AllArrays) (m : Instances) (store : St
   connected_by : (from : Place) (k : ℕ) (d : DeclNo) → SeesConnected s from k d → (u : ℕ) × (is_connection (text s k) ≡ true) × (base s.tables k ≡ Some u) × (has_level s.tables u (block_of s d) ≡ true)
   connected_by (In t) k d a = (a.class, a.is, a.connects, a.level)
   connected_by (InBound t) k d a = let b = a.seen in (b.class, b.is, b.connects, b.level)
+
+  connected_levels : (from : Place) (k : ℕ) (d : DeclNo) → SeesConnected s from k d → has_levels (text s (block_of s d)) ≡ true
+  connected_levels (In t) k d a = level_has_levels s ok (class_has s ok a.class a.is_class) (level_is s a.class (block_of s d) a.level)
+  connected_levels (InBound t) k d a = let b = a.seen in level_has_levels s ok (class_has s ok b.class b.is_class) (level_is s b.class (block_of s d) b.level)
+
+  -- what is seen through a connection is no parameter by name
+  pub connected_other : (k : ℕ) (d : DeclNo) (ys : Expressions) (Indices : Type 0) (h : Holds) → LeftHeld (SeesConnected s from k d) ys Indices (entry_names s (entry_of s.tables d)) h → formal_by_name d (entry_of s.tables d) ≡ None
+  connected_other k d ys Indices h a = by_name (formal_by_name d (entry_of s.tables d)) refl
+    where
+      by_name : (x : Option DeclNo) → formal_by_name d (entry_of s.tables d) ≡ x → formal_by_name d (entry_of s.tables d) ≡ None
+      by_name None is = is
+      by_name (Some named) is =
+          let x = named_entry s d named (entry_of s.tables d) (SeesConnected s from k d) ys Indices h is a in
+          let b = connected_by from k d x.known in
+          absurd (not_named s ok d b.0 b.3 (kind_of_type x.type) (x.holds true) (connected_levels from k d x.known))
 
   -- the object through which an attribute is seen
   object_seen : (k : ℕ) (d : DeclNo) → SeesConnected s from k d → (c : ℕ) × (has_level s.tables c (block_of s d) ≡ true) × Fine (connected_object s m i k) (Some (Value (Refers c)))
@@ -406,7 +259,7 @@ module _ (s : Source) (ok : Typed s) (o : AllArrays) (m : Instances) (store : St
     declared_fine d (Some (entry.Constant ty)) (Some h) e free a = constant_fine d es h a
     declared_fine d (Some (entry.Variable ty)) (Some h) e free a = variable_fine d es (held_by s ty) h (held_in d (entry.Variable ty) (held_by s ty) e (λ c. refl)) (names_variable s (Sees s from d) es Indices (held_by s ty) h (held_plain s ty) a)
     declared_fine d (Some (entry.Array ty n)) (Some h) e free a = array_fine d line es ts Indices (held_by s ty) h (held_in d (entry.Array ty n) (ArrayOf (held_by s ty)) e (λ c. refl)) ints a
-    declared_fine d (Some (entry.Formal f)) (Some h) e free a = formal_fine d f.mode f.kind f.ty line es ts Indices h (ap (entry_holds s (has_levels (text s (block_of s d)))) e) ints a
+    declared_fine d (Some (entry.Formal f)) (Some h) e free a = formal_fine d f.mode f.kind f.ty line es ts Indices h (ap (entry_holds s (has_levels (text s (block_of s d)))) e) (ap type_of_formal e) ints a
     declared_fine d None h e free a = absurd a
     declared_fine d (Some _) None e free a = absurd a
     declared_fine d (Some _) (Some h) e free a = absurd a
@@ -495,41 +348,71 @@ module _ (s : Source) (ok : Typed s) (o : AllArrays) (m : Instances) (store : St
     element_lies d NoMore k h e a = absurd a
     element_lies d (Then y ys) k h e a = cell_seen d (ArrayOf k) (λ j. ElementOf line (Cell j (Declared d.0)) ts) (Some (AddressOf h)) e a.1 (λ j c. (k, ap (λ z. Some (AddressOf z)) a.0, array_given j (Declared d.0) k (ArrayOf k) refl c, ints a.2))
 
-    formal_lies : (d : DeclNo) (f : Mode) (g : FormalKind) (ty : Option SimType) (ys : Expressions) (h : Holds) → declared_holds s (block_of s d) d ≡ formal_holds s f g ty → LeftHeld (Sees s from d) ys Indices (formal_holds s f g ty) h → Fine (formal_place s m i line d f g ys ts) (Some (AddressOf h))
-    formal_lies d mode.ByValue shape.Simple (Some ty) ys h e a = variable_lies d ys (held_by s ty) h (held_plain s ty) e a
-    formal_lies d mode.ByReference shape.Simple (Some ty) ys h e a = variable_lies d ys (held_by s ty) h (held_plain s ty) e a
-    formal_lies d mode.ByValue shape.Array (Some ty) ys h e a = element_lies d ys (held_by s ty) h e a
-    formal_lies d mode.ByReference shape.Array (Some ty) ys h e a = element_lies d ys (held_by s ty) h e a
-    formal_lies d _ _ _ ys h e a = absurd (nothing_left (Sees s from d) ys Indices h a)
+    -- what is no parameter by name
+    formal_lies : (d : DeclNo) (f : Mode) (g : FormalKind) (ty : Option SimType) (ys : Expressions) (h : Holds) → declared_holds s (block_of s d) d ≡ formal_holds s f g ty → named_formal f g d ≡ None → LeftHeld (Sees s from d) ys Indices (formal_names s f g ty) h → Fine (formal_place s m i line d f g ys ts) (Some (AddressOf h))
+    formal_lies d mode.ByName shape.Simple ty ys h e other a = absurd (cc)
+    formal_lies d mode.ByValue shape.Simple (Some ty) ys h e other a = variable_lies d ys (held_by s ty) h (held_plain s ty) e a
+    formal_lies d mode.ByReference shape.Simple (Some ty) ys h e other a = variable_lies d ys (held_by s ty) h (held_plain s ty) e a
+    formal_lies d mode.ByValue shape.Array (Some ty) ys h e other a = element_lies d ys (held_by s ty) h e a
+    formal_lies d mode.ByReference shape.Array (Some ty) ys h e other a = element_lies d ys (held_by s ty) h e a
+    formal_lies d _ _ _ ys h e other a = absurd (nothing_left (Sees s from d) ys Indices h a)
 
-    declared_lies : (d : DeclNo) (e : Option Entry) (h : Holds) → entry_of s.tables d ≡ e → LeftHeld (Sees s from d) es Indices (entry_holds s false e) h → Fine (declared_place s m i line d e es ts) (Some (AddressOf h))
-    declared_lies d (Some (entry.Variable ty)) h e a = variable_lies d es (held_by s ty) h (held_plain s ty) (held_in d (entry.Variable ty) (held_by s ty) e (λ c. refl)) a
-    declared_lies d (Some (entry.Array ty n)) h e a = element_lies d es (held_by s ty) h (held_in d (entry.Array ty n) (ArrayOf (held_by s ty)) e (λ c. refl)) a
-    declared_lies d (Some (entry.Formal f)) h e a = formal_lies d f.mode f.kind f.ty es h (ap (entry_holds s (has_levels (text s (block_of s d)))) e) a
-    declared_lies d None h e a = absurd (nothing_left (Sees s from d) es Indices h a)
-    declared_lies d (Some _) h e a = absurd (nothing_left (Sees s from d) es Indices h a)
+    declared_lies : (d : DeclNo) (e : Option Entry) (h : Holds) → entry_of s.tables d ≡ e → formal_by_name d e ≡ None → LeftHeld (Sees s from d) es Indices (entry_names s e) h → Fine (declared_place s m i line d e es ts) (Some (AddressOf h))
+    declared_lies d (Some (entry.Variable ty)) h e other a = variable_lies d es (held_by s ty) h (held_plain s ty) (held_in d (entry.Variable ty) (held_by s ty) e (λ c. refl)) a
+    declared_lies d (Some (entry.Array ty n)) h e other a = element_lies d es (held_by s ty) h (held_in d (entry.Array ty n) (ArrayOf (held_by s ty)) e (λ c. refl)) a
+    declared_lies d (Some (entry.Formal f)) h e other a = formal_lies d f.mode f.kind f.ty es h (ap (entry_holds s (has_levels (text s (block_of s d)))) e) other a
+    declared_lies d None h e other a = absurd (nothing_left (Sees s from d) es Indices h a)
+    declared_lies d (Some _) h e other a = absurd (nothing_left (Sees s from d) es Indices h a)
 
     abbrev identifier_place : Option ℕ → Option Denotation → Term
     identifier_place c x = if_any c (λ k. if_any (declared_attribute x) (place_of_attribute s line (connected_object s m i k) es ts) Unbuilt) (named_place s m i line x es ts)
 
     -- where what is declared lies, seen through a connection or not
-    pub lies_at : (c : Option ℕ) (d : DeclNo) (h : Holds) → LeftHeld (KnownAt s from c d) es Indices (entry_holds s false (entry_of s.tables d)) h → Fine (identifier_place c (Some (denotation.Declared d))) (Some (AddressOf h))
-    lies_at None d h a = declared_lies d (entry_of s.tables d) h refl a
-    lies_at (Some k) d h a =
-        let b = object_seen k d (left_known s (SeesConnected s from k d) d es Indices (entry_holds s false (entry_of s.tables d)) h a) in
+    pub lies_at : (c : Option ℕ) (d : DeclNo) (h : Holds) → formal_by_name d (entry_of s.tables d) ≡ None → LeftHeld (KnownAt s from c d) es Indices (entry_names s (entry_of s.tables d)) h → Fine (identifier_place c (Some (denotation.Declared d))) (Some (AddressOf h))
+    lies_at None d h other a = declared_lies d (entry_of s.tables d) h refl other a
+    lies_at (Some k) d h other a =
+        let b = object_seen k d (left_known s (SeesConnected s from k d) d es Indices (entry_names s (entry_of s.tables d)) h a) in
         entry_lies s ok d b.0 b.1 m i t todo line (connected_object s m i k) b.2 (SeesConnected s from k d) es ts Indices (entry_of s.tables d) h refl ints a
 
-    variable_left : (Known : Type 0) (d : DeclNo) (e : Option Entry) → is_variable_entry e es ≡ true → DeclaredGives s Known d es Indices Actuals e (Some (Simply kind.Text)) → LeftHeld Known es Indices (entry_holds s false e) (Simply kind.Text)
+    -- and where one by name alone does, or what it is for
+    pub named_lies : (value_too : Bool) (d named : DeclNo) (at : ℕ) (h : Holds) → formal_by_name d (entry_of s.tables d) ≡ Some named → (x : NamedEntry s d named (entry_of s.tables d) (Sees s from d) es h) → Fine (closing.name_term s m i d NoMore (ForPlace value_too at)) (Some (Whichever value_too (kind_of_type x.type)))
+    named_lies value_too d named at h is x = named_seen d x.type (ForPlace value_too at) (Whichever value_too (kind_of_type x.type)) (x.holds (has_levels (text s (block_of s d)))) refl x.known
+
+    place_named : (d named : DeclNo) (e : Option Entry) → formal_by_name d e ≡ Some named → declared_place s m i line d e es ts ≡ closing.name_term s m i d es (ForPlace true line)
+    place_named d named (Some (entry.Formal f)) is = by_mode f.mode f.kind is
+      where
+        by_mode : (f : Mode) (g : FormalKind) → named_formal f g d ≡ Some named → formal_place s m i line d f g es ts ≡ closing.name_term s m i d es (ForPlace true line)
+        by_mode mode.ByName shape.Simple is = refl
+        by_mode mode.ByName shape.Array is = absurd (cc)
+        by_mode mode.ByName shape.Procedure is = absurd (cc)
+        by_mode mode.ByValue g is = absurd (cc)
+        by_mode mode.ByReference g is = absurd (cc)
+    place_named d named None is = absurd (cc)
+    place_named d named (Some _) is = absurd (cc)
+
+    pub named_place_lies : (d named : DeclNo) (h : Holds) → formal_by_name d (entry_of s.tables d) ≡ Some named → (x : NamedEntry s d named (entry_of s.tables d) (Sees s from d) es h) → Fine (identifier_place None (Some (denotation.Declared d))) (Some (Whichever true (kind_of_type x.type)))
+    named_place_lies d named h is x =
+        subst (λ z. Fine z (Some (Whichever true (kind_of_type x.type)))) (sym (place_named d named (entry_of s.tables d) is ∙ ap (λ z. closing.name_term s m i d z (ForPlace true line)) x.alone)) (named_lies true d named line h is x)
+
+    variable_left : (Known : Type 0) (d : DeclNo) (e : Option Entry) → is_variable_entry e es ≡ true → DeclaredGives s Known d es Indices Actuals e (Some (Simply kind.Text)) → LeftHeld Known es Indices (entry_names s e) (Simply kind.Text)
     variable_left Known d (Some (entry.Variable ty)) v a = text_left s Known d es Indices (Some (held_by s ty)) a
     variable_left Known d (Some (entry.Array ty n)) v a = text_left s Known d es Indices (Some (ArrayOf (held_by s ty))) a
-    variable_left Known d (Some (entry.Formal f)) v a = text_left s Known d es Indices (formal_holds s f.mode f.kind f.ty) a
+    variable_left Known d (Some (entry.Formal f)) v a = text_left s Known d es Indices (formal_names s f.mode f.kind f.ty) a
     variable_left Known d None v a = absurd (cc)
     variable_left Known d (Some _) v a = absurd (cc)
 
     -- a text variable before a dot
+    seen_text_lies : (d : DeclNo) (x : Option DeclNo) → formal_by_name d (entry_of s.tables d) ≡ x → LeftHeld (Sees s from d) es Indices (entry_names s (entry_of s.tables d)) (Simply kind.Text) → (y : Kinds) × Fine (identifier_place None (Some (denotation.Declared d))) (Some y) × OperandIs kind.Text y
+    seen_text_lies d None is a = (AddressOf (Simply kind.Text), lies_at None d (Simply kind.Text) is a, (refl, refl))
+    seen_text_lies d (Some named) is a =
+        let x = named_entry s d named (entry_of s.tables d) (Sees s from d) es Indices (Simply kind.Text) is a in
+        (Whichever true (kind_of_type x.type), named_place_lies d named (Simply kind.Text) is x, (refl, held_of_kind s x.type kind.Text x.held))
+
     named_text_lies : (c : Option ℕ) (x : Option Denotation) → is_variable_denoted s x es ≡ true → NamedGives s from c x es Indices Operands Actuals (Some (Simply kind.Text)) → (y : Kinds) × Fine (identifier_place c x) (Some y) × OperandIs kind.Text y
-    named_text_lies None (Some (denotation.Declared d)) v a = (AddressOf (Simply kind.Text), lies_at None d (Simply kind.Text) (variable_left (Sees s from d) d (entry_of s.tables d) v a), (refl, refl))
-    named_text_lies (Some k) (Some (denotation.Declared d)) v a = (AddressOf (Simply kind.Text), lies_at (Some k) d (Simply kind.Text) (variable_left (SeesConnected s from k d) d (entry_of s.tables d) v a), (refl, refl))
+    named_text_lies None (Some (denotation.Declared d)) v a = seen_text_lies d (formal_by_name d (entry_of s.tables d)) refl (variable_left (Sees s from d) d (entry_of s.tables d) v a)
+    named_text_lies (Some k) (Some (denotation.Declared d)) v a =
+        let held = variable_left (SeesConnected s from k d) d (entry_of s.tables d) v a in
+        (AddressOf (Simply kind.Text), lies_at (Some k) d (Simply kind.Text) (connected_other k d es Indices (Simply kind.Text) held) held, (refl, refl))
     named_text_lies None (Some (denotation.Standard n)) v a = (ImageAddress, (refl, tt), refl)
     named_text_lies (Some k) (Some (denotation.Standard n)) v a = absurd a
     named_text_lies None None v a = absurd a
@@ -549,13 +432,14 @@ module _ (s : Source) (ok : Typed s) (o : AllArrays) (m : Instances) (store : St
     text_lies token None (Some d) e v a = absurd (own_no_variable (entry_of s.tables d) (own_is_attribute s token d e) (ap (λ z. is_variable_denoted s z es) (sym (own_denoted s token d e)) ∙ v))
 
     -- an attribute of the object that a tree gives
-    pub attribute_lies : (object : Term) (c : ℕ) (Known : Type 0) (d : DeclNo) (h : Holds) → has_level s.tables c (block_of s d) ≡ true → Fine object (Some (Value (Refers c))) → LeftHeld Known es Indices (entry_holds s false (entry_of s.tables d)) h → Fine (place_of_attribute s line object es ts d) (Some (AddressOf h))
+    pub attribute_lies : (object : Term) (c : ℕ) (Known : Type 0) (d : DeclNo) (h : Holds) → has_level s.tables c (block_of s d) ≡ true → Fine object (Some (Value (Refers c))) → LeftHeld Known es Indices (entry_names s (entry_of s.tables d)) h → Fine (place_of_attribute s line object es ts d) (Some (AddressOf h))
     attribute_lies object c Known d h level fine a = entry_lies s ok d c level m i t todo line object fine Known es ts Indices (entry_of s.tables d) h refl ints a
 
   no_object : (h : Holds) → IsReference h → PlainFine s m h Nothing
   no_object (Simply k) e = (e, tt)
   no_object (Refers c) e = tt
   no_object (ArrayOf k) e = absurd e
+  no_object (ByName k) e = absurd e
 
   literal_fine : (token : ℕ) (x : Literal) (h : Holds) → LiteralIs s token x h → Fine (literal_term s token x) (Some (Value h))
   literal_fine token (syntax.IntegerValue z) h e = (Simply kind.Integer, ap held_kinds e, (refl, tt))
@@ -771,7 +655,7 @@ module _ (s : Source) (ok : Typed s) (o : AllArrays) (m : Instances) (store : St
     actuals_fine line NoMore (f ∷ fs) x = absurd x
     actuals_fine line (Then e es) [] x = absurd x
     actuals_fine line (Then e es) (f ∷ fs) x =
-        let a = actual_fine s ok (ExprIs s from e) (λ z h. Fine z (Some h)) line (close s m i e) (λ h y. expr_fine e h y) (λ y. copy_fine line (close s m i e) y) (λ k y. (k, refl, y)) (λ k y. (k, refl, y)) (λ z k level y. ((Refers k, level, refl), y)) f.mode f.kind f.ty x.0 in
+        let a = actual_fine s ok (ExprIs s from e) (ActualIs s from e) (λ z h. Fine z (Some h)) line (close s m i e) (ActualOf i e) (λ h y. expr_fine e h y) (λ k y. (k, from, refl, refl, at, y)) (λ y. copy_fine line (close s m i e) y) (λ k y. (k, refl, y)) (λ k y. (k, refl, y)) (λ z k level y. ((Refers k, level, refl), y)) f.mode f.kind f.ty x.0 in
         (a.0, formal_kinds s fs, ap (λ z. z ∷ formal_kinds s fs) a.1, a.2, actuals_fine line es fs x.1)
 
     pub class_fine : (line : ℕ) (es : Expressions) (fs : List Formal) → ActualsFit s from es fs → TermsFine s m i t todo (with_arrays_kept fs (close_actuals s m i line es fs)) (class_kinds s fs)
@@ -779,7 +663,7 @@ module _ (s : Source) (ok : Typed s) (o : AllArrays) (m : Instances) (store : St
     class_fine line NoMore (f ∷ fs) x = absurd x
     class_fine line (Then e es) [] x = absurd x
     class_fine line (Then e es) (f ∷ fs) x =
-        let a = class_actual s ok (ExprIs s from e) (λ z h. Fine z (Some h)) line (close s m i e) (λ h y. expr_fine e h y) (λ y. copy_fine line (close s m i e) y) (λ k y. (k, refl, y)) (λ k y. (k, refl, y)) (λ z k level y. ((Refers k, level, refl), y)) f.mode f.kind f.ty x.0 in
+        let a = class_actual s ok (ExprIs s from e) (ActualIs s from e) (λ z h. Fine z (Some h)) line (close s m i e) (ActualOf i e) (λ h y. expr_fine e h y) (λ k y. (k, from, refl, refl, at, y)) (λ y. copy_fine line (close s m i e) y) (λ k y. (k, refl, y)) (λ k y. (k, refl, y)) (λ z k level y. ((Refers k, level, refl), y)) f.mode f.kind f.ty x.0 in
         (a.0, class_kinds s fs, ap (λ z. z ∷ class_kinds s fs) a.1, a.2, class_fine line es fs x.1)
 
   -- a call that stands as a statement

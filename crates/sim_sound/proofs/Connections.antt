@@ -23,7 +23,7 @@ use Rattle.sim_sound.specs.Typed.{Typed}
 use Rattle.sim_sound.proofs.Changes.{cell_of}
 use Rattle.sim_sound.proofs.Evals.{IsFine, Work, goes_on}
 use Rattle.sim_sound.proofs.Fitting.{main_of_class, of_class}
-use Rattle.sim_sound.proofs.Later.{Later}
+use Rattle.sim_sound.proofs.Later.{All, Later, seated_later}
 use Rattle.sim_sound.proofs.Lifts.{Goes, had, known_popped}
 use Rattle.sim_sound.proofs.Lists.{numbers_equal}
 use Rattle.sim_sound.proofs.Moves.{later_cells, same_cells, set_lives, store_cells}
@@ -31,7 +31,8 @@ use Rattle.sim_sound.proofs.Ops.{later_hands, later_work, same_copies}
 use Rattle.sim_sound.proofs.Prefixes.{same_is}
 use Rattle.sim_sound.proofs.References.{reference_popped}
 use Rattle.sim_sound.proofs.Running.{Begun, Operates}
-use Rattle.sim_sound.proofs.Sound.{AllArrays, CellFine, CellsFine, HandsFine, KeyAmong, Kinds, Marks, PlainFine, ReferenceFine, Site, StandsFor, ValFine, Value, connected as through, first_key, key_of, later_key, own_text, see}
+use Rattle.sim_sound.proofs.Sound.{Site}
+use Rattle.sim_sound.proofs.Values.{AllArrays, CellFine, CellsFine, HandsFine, KeyAmong, Kinds, Marks, PlainFine, ReferenceFine, StandsFor, ValFine, Value, connected as through, first_key, key_of, later_key, own_text, see}
 
 -- ---- a cell that is there from now on
 
@@ -99,7 +100,7 @@ stands_more : (s : Source) (x : Instance (List Held)) (cells : List Held) → ((
 stands_more s x cells keys t (own_text is) = own_text is
 stands_more s x cells keys t (through {u = u} is around there a) = through is around (keys _ there) (stands_more s x cells keys u a)
 
-module _ (s : Source) (ok : Typed s) (l : Limits) (o : World) (g : Marks) (long : length g.sights ≡ length o.arrays) (m : Instances) (i t : ℕ) (rest : List Activation) (top : Operates g.beneath m i rest) (w : List Item) (ks : List Kinds) (b : Begun s (see g o) m i t []) (work : Work s o g long m i t rest top w [] ks) where
+module _ (s : Source) (ok : Typed s) (l : Limits) (o : World) (g : Marks) (long : length g.sights ≡ length o.arrays) (m : Instances) (i t : ℕ) (rest : List Activation) (top : Operates g.beneath g.seat m i rest) (w : List Item) (ks : List Kinds) (b : Begun s (see g o) m i t []) (work : Work s o g long m i t rest top w [] ks) where
   -- a reference of the class that is connected
   reference_val : (x : Option ℕ) (p : Plain) → PlainFine s m (reference_to x) p → ValFine s (see g o) m i (reference_to x) (Of p)
   reference_val None p a = a
@@ -115,7 +116,7 @@ module _ (s : Source) (ok : Typed s) (l : Limits) (o : World) (g : Marks) (long 
       let keys : (k : Key) → KeyAmong k (map key_of x.cells) → KeyAmong k (map key_of cells) = λ k z. keys_put key v k x.cells z in
       let stays : (k : Key) → held k cells ≡ None → held k x.cells ≡ None = λ k z. holds_put key v k x.cells z in
       let n = with_instance m i (record x { cells = cells }) in
-      let e : Later s (see g o) m (see g o) n _ = later_cells s (see g o) m i x p.lives cells keys stays in
+      let e : Later s (see g o) m (see g o) n All = later_cells s (see g o) m i x p.lives cells keys stays in
       let same = same_cells s (see g o) m i x p.lives cells keys stays in
       let held_there : key_holds s x.text key ≡ Some (reference_to (base s.tables c.number)) = ap (connection_holds s) c.around in
       let store = store_cells s (see g o) m i x p.lives cells keys stays (cells_put key v s (see g o) m i x.text (reference_to (base s.tables c.number)) held_there (reference_val (base s.tables c.number) r fine) x.cells (b.store.instances i x p.lives).cells) b.store in
@@ -125,12 +126,13 @@ module _ (s : Source) (ok : Typed s) (l : Limits) (o : World) (g : Marks) (long 
       let stands : StandsFor s (record x { cells = cells }) c.number = through (ap is_connection c.is) c.stands_in at_key (stands_more s x cells keys u (subst (λ z. StandsFor s z u) same_instance site.stands)) in
       let there : Site s n i c.number = record { now = record x { cells = cells }; lives = set_lives s (see g o) m i x p.lives cells keys stays; stands = stands } in
       had (IsFine s) (cell_made m i key v) n o (λ m. go o m i (Do (Exec a) ∷ Do PastOp ∷ w) vals rest) made
-      (goes_on s o g long n i t rest (Rattle.sim_sound.proofs.Moves.operates_on g.beneath m n i rest same top) (Do (Exec a) ∷ Do PastOp ∷ w) vals [] ks (record {
+      (goes_on s o g long n i t rest (Rattle.sim_sound.proofs.Moves.operates_on g.beneath g.seat m n i rest same top) (Do (Exec a) ∷ Do PastOp ∷ w) vals [] ks (record {
         store = store;
         here = record { now = record x { cells = cells }; lives = set_lives s (see g o) m i x p.lives cells keys stays; stands = own_text (same_is s x.text t b.own); words = p.words; has_text = p.has_text; made = λ y at d k holds among none. p.made y at d k holds among (stays (Declared d.0) none) };
         own = b.own;
-      }) (later_hands s ok l o g long m i t rest top g o long refl refl n e (same_copies s ok l o g long m i t rest top) same store ks vals h)
-      ([], ks, (refl, refl, refl, (c.number, there, is)), ([], ks, (refl, refl), later_work s ok l o g long m i t rest top g o long refl refl n e (same_copies s ok l o g long m i t rest top) same store w [] ks work)))
+        works = seated_later s (see g o) m (see g o) n All e g.seat i tt b.works;
+      }) (later_hands s ok l o g long m i t rest top g o long refl refl refl n e (same_copies s ok l o g long m i t rest top) same store ks vals h)
+      ([], ks, (refl, refl, refl, (c.number, there, is)), ([], ks, (refl, refl), later_work s ok l o g long m i t rest top g o long refl refl refl n e (same_copies s ok l o g long m i t rest top) same store w [] ks work)))
     where
       same_live : (y x : Instance (List Held)) → live m i ≡ Some y → live m i ≡ Some x → y ≡ x
       same_live y x e f = cc

@@ -13,7 +13,7 @@ use Rattle.sim_meaning.specs.Constants.{TextConstant, constant_from, text_consta
 use Rattle.sim_meaning.specs.Pending.{Instances}
 use Rattle.sim_meaning.specs.Texts.{BlockText, ClassText, PrefixedText, Text, among_declarations, among_variables, constant_in, constant_of, constant_value, row_constant, text, value_in}
 use Rattle.sim_sound.specs.Held.{Simply}
-use Rattle.sim_sound.proofs.Sound.{NamesObject, PlainFine}
+use Rattle.sim_sound.proofs.Values.{NamesObject, PlainFine}
 
 abbrev pub NoReference : Option Plain → Type 0
 NoReference None = Unit {0}

@@ -18,7 +18,7 @@ use Rattle.sim_meaning.specs.Pending.{Activation, Configuration, Instances, owne
 use Rattle.sim_sound.specs.Typed.{Typed}
 use Rattle.sim_sound.proofs.Ends.{goes_below}
 use Rattle.sim_sound.proofs.Evals.{IsFine}
-use Rattle.sim_sound.proofs.Later.{All, Copies, Later, all_apart, as_it_was, fine_later}
+use Rattle.sim_sound.proofs.Later.{All, AllCopies, AnySeat, Later, all_apart, as_it_was, fine_later}
 use Rattle.sim_sound.proofs.Lifts.{Goes, computed, had}
 use Rattle.sim_sound.proofs.Lists.{same_some}
 use Rattle.sim_sound.proofs.Members.{one_outermost}
@@ -28,7 +28,7 @@ use Rattle.sim_sound.proofs.Prefixes.{LevelOf}
 use Rattle.sim_sound.proofs.Running.{ChainFine, Headed, Placed, StoreFine, parts}
 use Rattle.sim_sound.proofs.Simulated.{EachNotice, NumberFine, Processes, Scheduled, SimulationsFine, SomeNotice}
 use Rattle.sim_sound.proofs.Simulating.{each_map, number_still, simulations_changed}
-use Rattle.sim_sound.proofs.Sound.{Marks, Simulates, Takes, see}
+use Rattle.sim_sound.proofs.Values.{Marks, Simulates, Takes, see}
 use Rattle.sim_sound.proofs.Transfers.{main_on_again, resume_on}
 
 ok_is : {A : Type 0} {a b : A} → ◌≡◌ {A = Result A RunError} (Ok a) (Ok b) → a ≡ b
@@ -81,7 +81,7 @@ module _ (s : Source) (ok : Typed s) (o : World) (g : Marks) (long : length g.si
     later_then : Later s (see g o) m (see g (Then ns)) m All
     later_then = later_instances s (see g o) (see g (Then ns)) m m refl refl (λ j x e. e) (λ j x lives. record { now = x; lives = lives; grown = as_it_was x }) (λ j a. a) (λ j a. a) (λ j a. a)
 
-    copies : (j d : ℕ) → Copies (see g o) (see g (Then ns)) j d
+    copies : AllCopies (see g o) (see g (Then ns))
     copies = still_copies s (see g o) (see g (Then ns)) m m refl refl (λ j x e. e) (λ j x lives. record { now = x; lives = lives; grown = as_it_was x })
 
     simulations : SimulationsFine s (Then ns).simulations m
@@ -91,7 +91,7 @@ module _ (s : Source) (ok : Typed s) (o : World) (g : Marks) (long : length g.si
     store_then = store_with s (see g o) (see g (Then ns)) m later_then refl refl copies store.elements store.members simulations store
 
     fine_then : ChainFine s (see g (Then ns)) m chain (Takes None)
-    fine_then = fine_later s (see g o) m (see g (Then ns)) m All later_then All (λ j d q. copies j d) (λ j q. (refl, refl)) chain (all_apart chain) (all_apart chain) (Takes None) fine
+    fine_then = fine_later s (see g o) m (see g (Then ns)) m All later_then AnySeat (λ q j d k ok. copies q j d) (λ j q. (refl, refl)) chain (all_apart None chain) (all_apart None chain) (Takes None) fine
 
     abbrev After : Components Activation → Run Configuration
     After d = going_below (Then ns) d.operating (record m { standings = d.standings })

@@ -4,7 +4,7 @@ use Rattle.std.specs.Prelude.{◌&&◌, if◌then◌else◌, not, slice_get, sli
 use Rattle.std.specs.Option.{option_map}
 use Rattle.sim_base.specs.declared.limits.Limits.{Limits}
 use Rattle.sim_base.specs.declared.numbering.DeclNo.{DeclNo}
-use Rattle.sim_chains.specs.Chains.{cut_at, under}
+use Rattle.sim_chains.specs.Chains.{cut_at, is_instance, under}
 use Rattle.sim_chains.specs.Components.{AttachedObject, NoObject, ResumedObject, Standing, TerminatedObject, dropped, finish, finish_by, returned, standing_of, with_standing}
 use Rattle.sim_chains.specs.WellFormed.{IsWellFormed}
 use Rattle.sim_chains.proofs.Keeps.{end_law}
@@ -17,30 +17,27 @@ use Rattle.sim_code.specs.Outcome.{World}
 use Rattle.sim_meaning.specs.Levels.{has_levels}
 use Rattle.sim_meaning.specs.Meaning.{do_item, has_result, instances_left, leaving, with_any, world_left}
 use Rattle.sim_meaning.specs.Pending.{Activation, EndObject, EndProcedure, Instances, Item, Of, Result, Val, cell, owner}
-use Rattle.sim_meaning.specs.Sane.{AllOf, Other}
 use Rattle.sim_meaning.specs.Texts.{ProcedureText, is_class_free, text}
 use Rattle.sim_values.specs.Plain.{Object}
-use Rattle.sim_sound.specs.Held.{ArrayOf, Fits, FitsIn, Holds, Refers, Simply, result_holds, result_type}
+use Rattle.sim_sound.specs.Held.{ArrayOf, ByName, Fits, FitsIn, Holds, Refers, Simply, given_by, held_by, result_holds, result_type}
 use Rattle.sim_sound.specs.Typed.{ResultWritten, Typed}
 use Rattle.sim_sound.proofs.Cells.{fine_at, given_no_array, own_cell}
-use Rattle.sim_sound.proofs.Chains.{AboveHead, above_head, others_on, stands_on_top}
+use Rattle.sim_sound.proofs.Chains.{AboveHead, above_head, apart_on, own_top, stands_on_top}
 use Rattle.sim_sound.proofs.Evals.{IsFine}
 use Rattle.sim_sound.proofs.Fitting.{fits_plain, plain_fits, plain_val, val_fits}
-use Rattle.sim_sound.proofs.Heads.{at_is, headed_as, headed_first, headed_then, well_formed}
-use Rattle.sim_sound.proofs.Later.{All, Later, fine_later, live_less, object_later, plain_later}
+use Rattle.sim_scope.specs.declared.types.SimType.{SimType}
+use Rattle.sim_sound.proofs.Handing.{held_plain}
+use Rattle.sim_sound.proofs.Heads.{at_is, headed_as, headed_then, well_formed}
+use Rattle.sim_sound.proofs.Later.{All, AnySeat, Later, all_apart, fine_later, object_later, plain_later, seats_map}
 use Rattle.sim_sound.proofs.Lifts.{Goes, had, ran, ticked}
-use Rattle.sim_sound.proofs.Lists.{equal_numbers, other_numbers, set_other}
-use Rattle.sim_sound.proofs.Moves.{left_by, operates_first, placed_as}
+use Rattle.sim_sound.proofs.Lists.{equal_numbers, other_numbers, same_some, set_other}
+use Rattle.sim_sound.proofs.Moves.{left_by, placed_as}
 use Rattle.sim_sound.proofs.Prefixes.{same_is}
 use Rattle.sim_sound.proofs.Reach.{has_itself, key_of_result}
-use Rattle.sim_sound.proofs.Running.{Begun, ChainFine, Headed, IsRelease, NoObjectStands, ObjectStands, Operates, StoreFine, is_resumed, parts, resumes, runs}
-use Rattle.sim_sound.proofs.Sound.{AllArrays, Generated, GivesResult, HandsFine, IsPlain, Kinds, Made, Marks, ObjectOf, Suspended, Takes, ValFine, Value, Waits, given, held_kinds, see}
+use Rattle.sim_sound.proofs.Running.{Begun, ChainFine, Headed, IsRelease, NoObjectStands, ObjectStands, Operates, StoreFine, idle, is_resumed, parts, resumes, runs}
+use Rattle.sim_sound.proofs.Sound.{GivesResult, given, held_kinds}
+use Rattle.sim_sound.proofs.Values.{AllArrays, Generated, HandsFine, IsPlain, Kinds, Made, Marks, ObjectOf, Suspended, Takes, ValFine, Value, Waits, at_seat, see}
 use Rattle.sim_sound.proofs.Standings.{AllFine, kinds_same, later_changed, main_on, object_over}
-
--- those below are others
-pub others_apart : (i : ℕ) (P : Type 0) (chain : List Activation) → AllOf (Other i) chain → AllOf (λ j. P → j ≢ i) chain
-others_apart i P [] f = tt
-others_apart i P (a ∷ rest) f = ((λ p. f.0), others_apart i P rest f.1)
 
 -- what waits below a resumed object
 pub suspended : (i t : ℕ) (v : Waits) → IsRelease true i t v → v ≡ Suspended
@@ -70,17 +67,20 @@ released s ok o m store (a ∷ rest) Suspended i t release object c = absurd rel
 released s ok o m store (a ∷ rest) (Generated j u) i t release object c =
     let x = c.expects in
     let fine : ObjectOf s m j u = subst (λ z. ObjectOf s m j z) (sym release.1) (subst (λ z. ObjectOf s m z t) (sym release.0) object) in
-    let value : ValFine s o m a.instance x.0 (Of (Object j)) = plain_val s o m a.instance x.0 (Object j) (plain_fits s ok o m store (Refers u) x.0 (Object j) x.1 fine) in
+    let value : ValFine s (at_seat o c.seat) m a.instance x.0 (Of (Object j)) = plain_val s (at_seat o c.seat) m a.instance x.0 (Object j) (plain_fits s ok o m store (Refers u) x.0 (Object j) x.1 fine) in
     record {
       of_text = c.of_text;
       todo = c.todo;
       here = c.here;
       own = c.own;
-      on = c.on;
+      stands_on = c.stands_on;
+      seat = c.seat;
+      seated = c.seated;
+      works = c.works;
       vals = a.values;
       shown = refl;
       kinds = Value x.0 ∷ c.kinds;
-      hands = subst (HandsFine s o m a.instance (Value x.0 ∷ c.kinds)) (sym c.shown) (value, c.hands);
+      hands = subst (HandsFine s (at_seat o c.seat) m a.instance (Value x.0 ∷ c.kinds)) (sym c.shown) (value, c.hands);
       expected = c.expected;
       expects = x.2;
       goes = c.goes;
@@ -93,60 +93,63 @@ module _ (s : Source) (ok : Typed s) (l : Limits) (o : World) (g : Marks) (long 
   Leaves (Some (Value h)) (Some v) = IsPlain h × ValFine s (see g o) m i h v
   Leaves _ _ = ⊥
 
-  plain_later_val : (o' : AllArrays) (m' : Instances) (Apart : ℕ → Type 0) → Later s (see g o) m o' m' Apart → (j : ℕ) (h : Holds) (v : Val) → IsPlain h → ValFine s (see g o) m i h v → ValFine s o' m' j h v
-  plain_later_val o' m' Apart e j (Simply k) (Of p) is a = plain_val s o' m' j (Simply k) p (plain_later s (see g o) m o' m' Apart e (Simply k) p a)
-  plain_later_val o' m' Apart e j (Refers c) (Of p) is a = plain_val s o' m' j (Refers c) p (plain_later s (see g o) m o' m' Apart e (Refers c) p a)
-  plain_later_val o' m' Apart e j (Simply k) _ is a = absurd a
-  plain_later_val o' m' Apart e j (Refers c) _ is a = absurd a
-  plain_later_val o' m' Apart e j (ArrayOf h) v is a = absurd is
+  plain_later_val : (o' : AllArrays) (m' : Instances) (Apart : ℕ → Type 0) → Later s (see g o) m o' m' Apart → (v' : AllArrays) (j : ℕ) (h : Holds) (v : Val) → IsPlain h → ValFine s (see g o) m i h v → ValFine s v' m' j h v
+  plain_later_val o' m' Apart e v' j (Simply k) (Of p) is a = plain_val s v' m' j (Simply k) p (plain_later s (see g o) m o' m' Apart e (Simply k) p a)
+  plain_later_val o' m' Apart e v' j (Refers c) (Of p) is a = plain_val s v' m' j (Refers c) p (plain_later s (see g o) m o' m' Apart e (Refers c) p a)
+  plain_later_val o' m' Apart e v' j (Simply k) _ is a = absurd a
+  plain_later_val o' m' Apart e v' j (Refers c) _ is a = absurd a
+  plain_later_val o' m' Apart e v' j (ArrayOf h) v is a = absurd is
+  plain_later_val o' m' Apart e v' j (ByName h) v is a = absurd is
 
-  pub leaves : (rest : List Activation) → Operates g.beneath m i rest → NoObjectStands m i → (waits : Option Kinds) (v : Option Val) → Leaves waits v → ChainFine s (see g o) m rest (Takes waits) → Goes (IsFine s) (leaving s rest v i o m)
+  pub leaves : (rest : List Activation) → Operates g.beneath g.seat m i rest → (g.seat).evaluations ≡ 0 → NoObjectStands m i → (waits : Option Kinds) (v : Option Val) → Leaves waits v → ChainFine s (see g o) m rest (Takes waits) → Goes (IsFine s) (leaving s rest v i o m)
   unfolding leaving
-  leaves [] top nobody waits v f c = absurd c
-  leaves (a ∷ rest) top nobody waits v f c =
-      let y = left_by s g o m i (a ∷ rest) b.store top nobody (Takes waits) c in
+  leaves [] top alone nobody waits v f c = absurd c
+  leaves (a ∷ rest) top alone nobody waits v f c =
+      let y = left_by s g o m i (a ∷ rest) b.store top alone nobody (Takes waits) c in
       let o' = see g (world_left s i o m) in
       let m' = instances_left i m in
-      let apart = others_on g.beneath m i (a ∷ rest) top in
-      let n = fine_later s (see g o) m o' m' (λ j. is_given_at_end m i ≡ true → j ≢ i) y.later (Other i) y.copies (λ j k. y.steady j) (a ∷ rest) (others_apart i (is_given_at_end m i ≡ true) (a ∷ rest) apart) apart (Takes waits) c in (
+      let Apart : ℕ → Type 0 = λ j. is_given_at_end m i ≡ true → j ≢ i in
+      let apart = seats_map (λ q. q.owner ≢ i) (λ q. Apart q.owner) (λ q other given. other) None (a ∷ rest) (apart_on g.beneath g.seat m i (a ∷ rest) top alone) in
+      let n = fine_later s (see g o) m o' m' Apart y.later AnySeat (λ q j d k ok. y.copies q j d ok) (λ j k. y.steady j) (a ∷ rest) apart (all_apart None (a ∷ rest)) (Takes waits) c in
+      let next : Activation = record { instance = a.instance; work = a.work; values = with_any v a.values } in (
         g,
         long ∙ sym y.long,
-        runs y.store (placed_as m' a.instance a.work (with_any v a.values) rest (operates_first g.beneath m' a rest (live_less m' a.instance (n.here).now (n.here).lives) n.on y.placed y.headed).placed) (headed_as m' a.instance a.work (with_any v a.values) rest (headed_first m' a rest y.headed)) (record {
+        runs y.store (placed_as m' a next rest refl y.placed) (headed_as m' a next rest refl y.headed) (record {
           of_text = n.of_text;
           todo = n.todo;
           here = n.here;
           own = n.own;
-          on = n.on;
+          stands_on = n.stands_on;
+          seat = n.seat;
+          seated = n.seated;
+          works = n.works;
           vals = with_any v n.vals;
           shown = ap (with_any v) n.shown;
           kinds = given waits n.kinds;
-          hands = more o' m' (λ j. is_given_at_end m i ≡ true → j ≢ i) y.later waits v f n.kinds n.vals n.hands;
+          hands = more o' m' Apart y.later (at_seat o' n.seat) waits v f n.kinds n.vals n.hands;
           expected = n.expected;
           expects = n.expects;
           goes = n.goes;
         }),
       )
     where
-      more : (o' : AllArrays) (m' : Instances) (Apart : ℕ → Type 0) → Later s (see g o) m o' m' Apart → (waits : Option Kinds) (v : Option Val) → Leaves waits v → (ks : List Kinds) (vs : List Val) → HandsFine s o' m' a.instance ks vs → HandsFine s o' m' a.instance (given waits ks) (with_any v vs)
-      more o' m' Apart e None None f ks vs h = h
-      more o' m' Apart e None (Some v) f ks vs h = absurd f
-      more o' m' Apart e (Some (Value k)) (Some v) f ks vs h = (plain_later_val o' m' Apart e a.instance k v f.0 f.1, h)
-      more o' m' Apart e (Some (Value k)) None f ks vs h = absurd f
-      more o' m' Apart e (Some (Rattle.sim_sound.proofs.Sound.AddressOf k)) v f ks vs h = absurd f
-      more o' m' Apart e (Some (Rattle.sim_sound.proofs.Sound.ReferenceAddress k)) v f ks vs h = absurd f
-      more o' m' Apart e (Some (Rattle.sim_sound.proofs.Sound.LinkTo k)) v f ks vs h = absurd f
-      more o' m' Apart e (Some Rattle.sim_sound.proofs.Sound.ImageAddress) v f ks vs h = absurd f
-      more o' m' Apart e (Some (Rattle.sim_sound.proofs.Sound.Copied k)) v f ks vs h = absurd f
-      more o' m' Apart e (Some (Rattle.sim_sound.proofs.Sound.Lasting k)) v f ks vs h = absurd f
-      more o' m' Apart e (Some Rattle.sim_sound.proofs.Sound.Component) v f ks vs h = absurd f
-      more o' m' Apart e (Some (Rattle.sim_sound.proofs.Sound.ObjectIn k)) v f ks vs h = absurd f
-      more o' m' Apart e (Some (Rattle.sim_sound.proofs.Sound.MatchFor k)) v f ks vs h = absurd f
+      more : (o' : AllArrays) (m' : Instances) (Apart : ℕ → Type 0) → Later s (see g o) m o' m' Apart → (v' : AllArrays) (waits : Option Kinds) (v : Option Val) → Leaves waits v → (ks : List Kinds) (vs : List Val) → HandsFine s v' m' a.instance ks vs → HandsFine s v' m' a.instance (given waits ks) (with_any v vs)
+      more o' m' Apart e v' None None f ks vs h = h
+      more o' m' Apart e v' None (Some v) f ks vs h = absurd f
+      more o' m' Apart e v' (Some (Value k)) (Some v) f ks vs h = (plain_later_val o' m' Apart e v' a.instance k v f.0 f.1, h)
+      more o' m' Apart e v' (Some (Value k)) None f ks vs h = absurd f
+      more o' m' Apart e v' (Some _) v f ks vs h = absurd f
+
+  given_plain : (r : Option SimType) (h : Holds) → given_by s r ≡ Some h → IsPlain h
+  given_plain None h e = absurd (cc)
+  given_plain (Some type) h e = subst IsPlain (same_some (Some (held_by s type)) (held_by s type) h refl e) (held_plain s type)
 
   -- what a procedure gives is no array
   result_plain : (h : Holds) → result_holds s t ≡ Some h → IsPlain h
   result_plain (Simply k) e = tt
   result_plain (Refers c) e = tt
   result_plain (ArrayOf k) e = absurd (given_no_array s (result_type s t) k e)
+  result_plain (ByName k) e = given_plain (result_type s t) (ByName k) e
 
   some_result : (result : Option TypeName) (r : Option Holds) → ResultWritten result r → (type : TypeName) → result ≡ Some type → (h : Holds) × (r ≡ Some h)
   some_result None r w type e = absurd (cc)
@@ -158,24 +161,24 @@ module _ (s : Source) (ok : Typed s) (l : Limits) (o : World) (g : Marks) (long 
   no_result None (Some h) w e = absurd w
   no_result (Some z) r w e = absurd (cc)
 
-  pub procedure_ends : (leaves' : Bool) (w : List Item) (vals : List Val) (rest : List Activation) → Operates g.beneath m i rest → (result : Option TypeName) (heading : Heading) (body : Statement) → text s t ≡ Some (ProcedureText result heading body) → has_result result ≡ leaves' → (waits : Option Kinds) → GivesResult s t waits → NoObjectStands m i → ChainFine s (see g o) m rest (Takes waits) → Goes (IsFine s) (do_item s l o m i w vals rest (EndProcedure leaves'))
-  procedure_ends false w vals rest top None heading body is e waits gives nobody c = leaves rest top nobody waits None (by_fits (result_holds s t) (no_result None (result_holds s t) (ok.texts t (ProcedureText None heading body) is).result refl) gives.0 gives.1 waits gives.2) c
+  pub procedure_ends : (leaves' : Bool) (w : List Item) (vals : List Val) (rest : List Activation) → Operates g.beneath g.seat m i rest → (g.seat).evaluations ≡ 0 → (result : Option TypeName) (heading : Heading) (body : Statement) → text s t ≡ Some (ProcedureText result heading body) → has_result result ≡ leaves' → (waits : Option Kinds) → GivesResult s t waits → NoObjectStands m i → ChainFine s (see g o) m rest (Takes waits) → Goes (IsFine s) (do_item s l o m i w vals rest (EndProcedure leaves'))
+  procedure_ends false w vals rest top alone None heading body is e waits gives nobody c = leaves rest top alone nobody waits None (by_fits (result_holds s t) (no_result None (result_holds s t) (ok.texts t (ProcedureText None heading body) is).result refl) gives.0 gives.1 waits gives.2) c
     where
       by_fits : (r : Option Holds) → r ≡ None → (h : Option Holds) → FitsIn s r h → (waits : Option Kinds) → held_kinds h ≡ waits → Leaves waits None
       by_fits None none None f None e = tt
       by_fits None none None f (Some k) e = absurd (cc)
       by_fits None none (Some h) f waits e = absurd f
       by_fits (Some r) none h f waits e = absurd (cc)
-  procedure_ends true w vals rest top None heading body is e waits gives nobody c = absurd (cc)
-  procedure_ends false w vals rest top (Some type) heading body is e waits gives nobody c = absurd (cc)
-  procedure_ends true w vals rest top (Some type) heading body is e waits gives nobody c =
+  procedure_ends true w vals rest top alone None heading body is e waits gives nobody c = absurd (cc)
+  procedure_ends false w vals rest top alone (Some type) heading body is e waits gives nobody c = absurd (cc)
+  procedure_ends true w vals rest top alone (Some type) heading body is e waits gives nobody c =
       let p = b.here in
       let r = some_result (Some type) (result_holds s t) (ok.texts t (ProcedureText (Some type) heading body) is).result type refl in
       let f = fine_at s (see g o) m i t todo b.store p in
       let there = f.keys t (same_is s (p.now).text t own) Result (key_of_result s t type heading body is) in
       let x = own_cell s (see g o) m i p.now Result r.0 p.lives f (λ k same none. absurd (plain_not r.0 k (result_plain r.0 r.1) same)) (ap (λ z. result_holds s z) own ∙ r.1) there in
       had (IsFine s) (cell m i Result) x.0 o (λ v. leaving s rest (Some v) i o m) x.1
-      (leaves rest top nobody waits (Some x.0) (by_fits x.0 (result_holds s t) r.0 r.1 (result_plain r.0 r.1) x.2 gives.0 gives.1 waits gives.2) c)
+      (leaves rest top alone nobody waits (Some x.0) (by_fits x.0 (result_holds s t) r.0 r.1 (result_plain r.0 r.1) x.2 gives.0 gives.1 waits gives.2) c)
     where
       plain_not : (h k : Holds) → IsPlain h → h ≡ ArrayOf k → ⊥
       plain_not h k a e = subst IsPlain e a
@@ -214,9 +217,12 @@ module _ (s : Source) (ok : Typed s) (l : Limits) (o : World) (g : Marks) (long 
       }
 
   -- it is terminated, and its reference, where it is in hand below, is one to an object with its arrays
-  module _ (rest : List Activation) (top : Operates g.beneath m i rest) (made : todo ≡ []) (free : is_class_free s t ≡ false) (has : has_levels (text s t) ≡ true) (v : Waits) (c : ChainFine s (see g o) m rest v) where
+  module _ (rest : List Activation) (top : Operates g.beneath g.seat m i rest) (alone : (g.seat).evaluations ≡ 0) (made : todo ≡ []) (free : is_class_free s t ≡ false) (has : has_levels (text s t) ≡ true) (v : Waits) (c : ChainFine s (see g o) m rest v) where
     abbrev Top : Activation
-    Top = record { instance = i; work = []; values = [] }
+    Top = idle g.seat i
+
+    its : owner Top ≡ Some i
+    its = own_top g.beneath g.seat m i rest top alone
 
     well : IsWellFormed owner (system_head m) (parts m (Top ∷ rest))
     well = well_formed s (see g o) m (Top ∷ rest) b.store top.placed top.headed
@@ -226,16 +232,16 @@ module _ (s : Source) (ok : Typed s) (l : Limits) (o : World) (g : Marks) (long 
       Then = record m { standings = slice_set m.standings i TerminatedObject }
 
       over : AllFine s (see g o) Then rest v
-      over = object_over s (see g o) m i AttachedObject is tt refl rest v b.store top.placed (stays_at_end free) c
+      over = object_over s (see g o) m i AttachedObject is tt refl rest v b.store Top its top.placed (stays_at_end free) c
 
       finished : finish owner (system_head m) (parts m (Top ∷ rest)) i ≡ parts Then rest
       finished =
           ap (λ q. finish_by owner q (parts m (Top ∷ rest)) (system_head m i) i) (at_is m.standings i AttachedObject (NoObject None) is)
-          ∙ ap (λ q. with_standing i TerminatedObject (returned owner q (parts m (Top ∷ rest)))) (ap (λ q. if q then Some (record { above = []; here = Top; below = rest }) else option_map (under Top) (cut_at owner i rest)) (equal_numbers i i refl))
+          ∙ ap (λ q. with_standing i TerminatedObject (returned owner q (parts m (Top ∷ rest)))) (ap (λ q. if q then Some (record { above = []; here = Top; below = rest }) else option_map (under Top) (cut_at owner i rest)) (ap (is_instance i) its ∙ equal_numbers i i refl))
 
       headed : Headed Then rest
       headed =
-          headed_then m (parts Then rest) (subst (IsWellFormed owner (system_head m)) finished (end_law owner (system_head m) (parts m (Top ∷ rest)) i Top rest well refl refl (inl (at_is m.standings i AttachedObject (NoObject None) is)))) (top.headed).outer
+          headed_then m (parts Then rest) (subst (IsWellFormed owner (system_head m)) finished (end_law owner (system_head m) (parts m (Top ∷ rest)) i Top rest well refl its (inl (at_is m.standings i AttachedObject (NoObject None) is)))) (top.headed).outer
           (kinds_same s (see g o) (see g o) m i AttachedObject TerminatedObject is refl refl refl refl)
 
       ended_later : Later s (see g o) m (see g o) Then All
@@ -248,7 +254,7 @@ module _ (s : Source) (ok : Typed s) (l : Limits) (o : World) (g : Marks) (long 
 
     module _ (is : slice_get m.standings i ≡ Some ResumedObject) (release : IsRelease true i t v) where
       on_head : AboveHead m i rest
-      on_head = above_head g.beneath m i rest top is
+      on_head = above_head g.beneath g.seat m i rest top alone is
 
       abbrev Head : ℕ
       Head = system_head m i
@@ -271,13 +277,13 @@ module _ (s : Source) (ok : Typed s) (l : Limits) (o : World) (g : Marks) (long 
       resumed_over : AllFine s (see g o) Gone (on_head.head ∷ on_head.below) Suspended
       resumed_over =
           subst (AllFine s (see g o) Gone (on_head.head ∷ on_head.below)) (suspended i t v release)
-          (subst (λ q. AllFine s (see g o) Gone q v) on_head.is (object_over s (see g o) m i ResumedObject is tt refl rest v b.store top.placed (stays_at_end free) c))
+          (subst (λ q. AllFine s (see g o) Gone q v) on_head.is (object_over s (see g o) m i ResumedObject is tt refl rest v b.store Top its top.placed (stays_at_end free) c))
 
       back : AllFine s (see g o) (record m { standings = slice_set Gone.standings Head (NoObject None) }) Chain (Takes None)
       back = main_on s (see g o) Gone Head on_head.main (set_other m.standings i Head TerminatedObject (λ same. apart (sym same)) ∙ on_head.keeps) on_head.head on_head.below on_head.its_head resumed_over
 
       cut : cut_at owner Head rest ≡ Some (record { above = []; here = on_head.head; below = on_head.below })
-      cut = ap (cut_at owner Head) on_head.is ∙ ap (λ q. if q then Some (record { above = []; here = on_head.head; below = on_head.below }) else option_map (under on_head.head) (cut_at owner Head on_head.below)) (equal_numbers (on_head.head).instance Head on_head.its_head)
+      cut = ap (cut_at owner Head) on_head.is ∙ ap (λ q. if q then Some (record { above = []; here = on_head.head; below = on_head.below }) else option_map (under on_head.head) (cut_at owner Head on_head.below)) (ap (is_instance Head) on_head.its_head ∙ equal_numbers Head Head refl)
 
       went : (p : World) → ended_as owner p m i rest (Some ResumedObject) ≡ going_below p Chain (record m { standings = Last })
       went p =
@@ -288,12 +294,12 @@ module _ (s : Source) (ok : Typed s) (l : Limits) (o : World) (g : Marks) (long 
       resumed_finished =
           ap (λ q. finish_by owner q (parts m (Top ∷ rest)) Head i) (at_is m.standings i ResumedObject (NoObject None) is)
           ∙ ap (λ q. with_standing i TerminatedObject (dropped owner q (standing_of (parts m (Top ∷ rest)) Head) Head (parts m (Top ∷ rest))))
-          (ap (λ q. if q then Some (record { above = []; here = Top; below = rest }) else option_map (under Top) (cut_at owner Head rest)) (other_numbers i Head apart) ∙ ap (option_map (under Top)) cut)
+          (ap (λ q. if q then Some (record { above = []; here = Top; below = rest }) else option_map (under Top) (cut_at owner Head rest)) (ap (is_instance Head) its ∙ other_numbers i Head apart) ∙ ap (option_map (under Top)) cut)
           ∙ ap (λ q. with_standing i TerminatedObject (dropped owner (Some (record { above = Top ∷ []; here = on_head.head; below = on_head.below })) q Head (parts m (Top ∷ rest)))) (at_is m.standings Head (NoObject (Some on_head.main)) (NoObject None) on_head.keeps)
 
       resumed_headed : Headed (record m { standings = Last }) Chain
       resumed_headed =
-          headed_then m (record { operating = Chain; standings = Last }) (subst (IsWellFormed owner (system_head m)) resumed_finished (end_law owner (system_head m) (parts m (Top ∷ rest)) i Top rest well refl refl (inr (at_is m.standings i ResumedObject (NoObject None) is)))) (top.headed).outer
+          headed_then m (record { operating = Chain; standings = Last }) (subst (IsWellFormed owner (system_head m)) resumed_finished (end_law owner (system_head m) (parts m (Top ∷ rest)) i Top rest well refl its (inr (at_is m.standings i ResumedObject (NoObject None) is)))) (top.headed).outer
           (λ j. kinds_same s (see g o) (see g o) Free i ResumedObject TerminatedObject (set_other m.standings Head i (NoObject None) apart ∙ is) refl refl refl refl j ∙ kinds_same s (see g o) (see g o) m Head (NoObject (Some on_head.main)) (NoObject None) on_head.keeps refl refl refl refl j)
 
       resumed_ends : (t' w' : ℕ) → Goes (IsFine s) (ended_as owner (ran o t' w') m i rest (Some ResumedObject))
@@ -301,11 +307,11 @@ module _ (s : Source) (ok : Typed s) (l : Limits) (o : World) (g : Marks) (long 
           subst (Goes (IsFine s)) (sym (went (ran o t' w')))
           (goes_below s (ran o t' w') g long Chain (record m { standings = Last }) (subst (λ q. AllFine s (see g o) (record m { standings = q }) Chain (Takes None)) (set_swap m.standings i Head TerminatedObject (NoObject None) apart) back) resumed_headed)
 
-  pub object_ends : (w : List Item) (vals : List Val) (rest : List Activation) → Operates g.beneath m i rest → todo ≡ [] → is_class_free s t ≡ false → has_levels (text s t) ≡ true → ObjectStands m i → (v : Waits) → IsRelease (resumes m i) i t v → ChainFine s (see g o) m rest v → Goes (IsFine s) (do_item s l o m i w vals rest EndObject)
+  pub object_ends : (w : List Item) (vals : List Val) (rest : List Activation) → Operates g.beneath g.seat m i rest → (g.seat).evaluations ≡ 0 → todo ≡ [] → is_class_free s t ≡ false → has_levels (text s t) ≡ true → ObjectStands m i → (v : Waits) → IsRelease (resumes m i) i t v → ChainFine s (see g o) m rest v → Goes (IsFine s) (do_item s l o m i w vals rest EndObject)
   unfolding object_ended
-  object_ends w vals rest top made free has stands v release c =
+  object_ends w vals rest top alone made free has stands v release c =
       ticked (IsFine s) l o (λ p. object_ended owner p m i rest) (λ t' w'.
       ⊎_elim
-      (λ is. subst (λ z. Goes (IsFine s) (ended_as owner (ran o t' w') m i rest z)) (sym is) (attached_ends rest top made free has v c is (subst (λ q. IsRelease q i t v) (ap (λ q. is_resumed q) is) release) t' w'))
-      (λ is. subst (λ z. Goes (IsFine s) (ended_as owner (ran o t' w') m i rest z)) (sym is) (resumed_ends rest top made free has v c is (subst (λ q. IsRelease q i t v) (ap (λ q. is_resumed q) is) release) t' w'))
-      (stands_on_top s (see g o) g.beneath m i rest b.store top stands))
+      (λ is. subst (λ z. Goes (IsFine s) (ended_as owner (ran o t' w') m i rest z)) (sym is) (attached_ends rest top alone made free has v c is (subst (λ q. IsRelease q i t v) (ap (λ q. is_resumed q) is) release) t' w'))
+      (λ is. subst (λ z. Goes (IsFine s) (ended_as owner (ran o t' w') m i rest z)) (sym is) (resumed_ends rest top alone made free has v c is (subst (λ q. IsRelease q i t v) (ap (λ q. is_resumed q) is) release) t' w'))
+      (stands_on_top s (see g o) g.beneath g.seat m i rest b.store top alone stands))

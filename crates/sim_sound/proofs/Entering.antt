@@ -1,5 +1,5 @@
 -- A block, a procedure or an object is entered.
-use Rattle.std.proofs.Common.{Bool, List, None, Option, Some, [], ap, arith, false, inl, inr, length, map, refl, subst, suc, sym, true, ℕ, ◌++◌, ◌<◌, ◌∙◌, ◌∷◌, ◌≡◌, ◌⊎◌}
+use Rattle.std.proofs.Common.{Bool, List, None, Option, Some, [], ap, arith, false, inr, length, map, refl, subst, suc, sym, true, ℕ, ◌++◌, ◌<◌, ◌∙◌, ◌∷◌, ◌≡◌, ◌⊎◌}
 use Rattle.std.specs.Prelude.{not, slice_get, ◌&&◌}
 use Rattle.std.specs.List.{list_any}
 use Rattle.sim_base.specs.declared.limits.Limits.{Limits}
@@ -20,31 +20,31 @@ use Rattle.sim_meaning.specs.Attributes.{is_connection}
 use Rattle.sim_meaning.specs.Entries.{arrays_by_value, filled_behind, first_cells, formals_of, in_instance, instances_kept, is_held, new_instance, numbers_of, passes, words_of_cells}
 use Rattle.sim_meaning.specs.Levels.{has_levels}
 use Rattle.sim_meaning.specs.Meaning.{block_work, called, has_result, procedure_entered, sub_block_entered}
-use Rattle.sim_meaning.specs.Pending.{Activation, Address, ArrayValue, Configuration, Declared, Do, EndBlock, EndProcedure, Exec, Execs, Held, Instances, Item, Key, Link, Of, ProcedureValue, Tree, Val, instance_in}
-use Rattle.sim_meaning.specs.Sane.{Other}
+use Rattle.sim_meaning.specs.Pending.{Actual, Activation, Address, ArrayValue, Configuration, Declared, Do, EndBlock, EndProcedure, Exec, Execs, Held, Instances, Item, Key, Link, Of, ProcedureValue, Val, instance_in}
 use Rattle.sim_meaning.specs.Texts.{BlockText, ClassText, ConnectionText, PrefixedText, ProcedureText, StandardText, Text, is_class_free, text}
 use Rattle.sim_sound.specs.Held.{ArrayOf, Holds, InBound}
 use Rattle.sim_sound.specs.Typed.{BlockTyped, ProcedureTyped, Typed, TextTyped, arrays_of_block}
 use Rattle.sim_sound.proofs.ArrayWork.{arrays_are, block_arrays}
 use Rattle.sim_sound.proofs.Attributes.{leveled}
 use Rattle.sim_sound.proofs.Cells.{key_level, keys_alone, made_alone, own_site}
-use Rattle.sim_sound.proofs.Chains.{others_kept, others_on}
-use Rattle.sim_sound.proofs.Changes.{ElementsFine}
-use Rattle.sim_sound.proofs.Evals.{IsFine, Work, goes_on}
+use Rattle.sim_sound.proofs.Chains.{Elsewhere, others_kept, others_on, seat_under}
+use Rattle.sim_sound.proofs.Changes.{ElementsFine, near_same}
+use Rattle.sim_sound.proofs.Evals.{IsFine, Work, goes_on, work_owner}
 use Rattle.sim_sound.proofs.FirstCells.{ActualsAre, FilledBehind, ValsFine, actuals_later, all_taken, block_cells, block_key, formals_some, held_there, procedure_cells, taken}
 use Rattle.sim_sound.proofs.Handing.{Handed, Outlives, formals_hand, hand_all, handed_members, handed_same, handed_simulations, marks_of}
 use Rattle.sim_sound.proofs.InstancesKept.{Kept, entry_keeps}
-use Rattle.sim_sound.proofs.Later.{All, Copies, Later, Steady, all_apart, fine_later, hands_later, instance_later, kept_later, knows_later, live_less, own_later, present_later, standing_apart, stays_later, steady_same, work_later}
+use Rattle.sim_sound.proofs.Later.{All, AnySeat, Copies, Later, Steady, all_apart, fine_later, hands_later, instance_later, kept_later, knows_later, live_less, own_later, present_later, seated_later, standing_apart, stays_later, steady_same, work_later}
 use Rattle.sim_sound.proofs.Lifts.{Goes, any_popped, enters, had, ran, whens}
 use Rattle.sim_sound.proofs.Lists.{append_at, same_some}
 use Rattle.sim_sound.proofs.Members.{MembersFine, OneMore, members_more, plain_no_linkage, plain_no_simulation}
-use Rattle.sim_sound.proofs.Moves.{Begins, copies_entered, knows_near, later_entered, marked, near_new, on_top, one_more, operates_entered, operates_on, placed_as, steady_entered, store_entered}
+use Rattle.sim_sound.proofs.Moves.{Begins, copies_entered, knows_near, later_entered, marked, near_new, near_stays, near_then, on_top, one_more, operates_entered, operates_on, placed_as, steady_entered, store_entered}
 use Rattle.sim_sound.proofs.ProcessClasses.{plain_no_process}
 use Rattle.sim_sound.proofs.Prefixes.{LevelOf, prefix_level, same_level}
-use Rattle.sim_sound.proofs.Running.{Begun, ChainFine, Fine, Headed, Operates, Placed, StoreFine, WorkFine, first_of}
+use Rattle.sim_sound.proofs.Running.{Begun, ChainFine, Fine, Headed, Operates, Placed, SeatedFor, StoreFine, WorkFine, first_of, footing, idle, seat_on}
 use Rattle.sim_sound.proofs.Simulated.{SimulationsFine}
 use Rattle.sim_sound.proofs.Simulating.{simulations_more}
-use Rattle.sim_sound.proofs.Sound.{AllArrays, CallOpFine, CellsFine, Enclosed, GivesResult, HandFine, HandsFine, InstanceFine, KeyAmong, Kinds, Knows, LinkTo, Made, Marks, Near, Present, Sight, Stays, Takes, Waits, Whole, at_itself, formal_kinds, given, holds_of, key_of, keys_in, near_below, near_staying, own_text, see, within}
+use Rattle.sim_sound.proofs.Sound.{CallOpFine, GivesResult, formal_kinds, given, holds_of}
+use Rattle.sim_sound.proofs.Values.{AllArrays, CellsFine, Enclosed, HandFine, HandsFine, InstanceFine, KeyAmong, Kinds, Knows, LinkTo, Made, Marks, Near, Present, Seat, Sight, Stays, Takes, Waits, Whole, at_itself, at_seat, key_of, keys_in, near_below, near_staying, own_text, see, within}
 use Rattle.sim_sound.proofs.Heads.{headed_as}
 
 -- ---- a new instance
@@ -62,7 +62,7 @@ module _ (s : Source) (ok : Typed s) (v : AllArrays) (m : Instances) (k : ℕ) (
   now = entered m made_new z
 
   abbrev pub seen_now : AllArrays
-  seen_now = on_top v u linkages blocks
+  seen_now = on_top v (length m.instances) u linkages blocks
 
   passing_is : passes (text s k) (is_class_free s k) ≡ is_class_free s k
   passing_is = ap (λ z. passes z (is_class_free s k)) is ∙ by_text x is (ok.texts k x is)
@@ -93,7 +93,7 @@ module _ (s : Source) (ok : Typed s) (v : AllArrays) (m : Instances) (k : ℕ) (
 
   pub begun_new : StoreFine s v m → Begins z → ((u : ℕ) → LevelOf s k u → (key : Key) → KeyAmong key (keys_in s u (text s u)) → KeyAmong key (map key_of cells)) → CellsFine s seen_now now (length m.instances) k cells → Enclosed s seen_now now (length m.instances) k e → (todo : List DeclNo) → Made s k todo cells → MembersFine s linkages now → SimulationsFine s blocks now → Begun s seen_now now (length m.instances) k todo
   unfolding present_new
-  begun_new store begins keys fine out todo made members simulations = record { store = store_entered s v m made_new z u linkages blocks store (instance_new keys fine out) begins members simulations; here = present_new todo made; own = refl }
+  begun_new store begins keys fine out todo made members simulations = record { store = store_entered s v m made_new z u linkages blocks store (instance_new keys fine out) begins members simulations; here = present_new todo made; own = refl; works = record { near = near_below at_itself; through = near_below at_itself; lower = near_below at_itself } }
 
   -- one instance more, of this text
   pub more_new : OneMore s m now k e
@@ -107,7 +107,7 @@ module _ (s : Source) (ok : Typed s) (v : AllArrays) (m : Instances) (k : ℕ) (
   new_noted store = ap (slice_get seen_now.beneath) (sym store.noted) ∙ append_at v.beneath u
 
   -- What is not class-free needs only what stays, and else what is near to that on which it is entered.
-  near_inside : StoreFine s v m → (j : ℕ) → (is_class_free s k ≡ false → Stays m j) → (i : ℕ) → u ≡ Some i → Near v m i j → Near seen_now now (length m.instances) j
+  pub near_inside : StoreFine s v m → (j : ℕ) → (is_class_free s k ≡ false → Stays m j) → (i : ℕ) → u ≡ Some i → Near v m i j → Near seen_now now (length m.instances) j
   near_inside store j stays i on near = by_flag (is_class_free s k) refl
     where
       by_flag : (b : Bool) → is_class_free s k ≡ b → Near seen_now now (length m.instances) j
@@ -123,9 +123,9 @@ module _ (s : Source) (ok : Typed s) (v : AllArrays) (m : Instances) (k : ℕ) (
       level_free no_connection same_level f = f
       level_free {n = n} no_connection (prefix_level {b = b} q a) f = ((leveled s ok n ((ok.prefixes).prefixed_by n b no_connection q).has).typed).stays
 
-      stands_free : (y : Instance (List Held)) (t : ℕ) → is_connection (text s y.text) ≡ false → Rattle.sim_sound.proofs.Sound.StandsFor s y t → is_class_free s t ≡ false → is_class_free s y.text ≡ false
+      stands_free : (y : Instance (List Held)) (t : ℕ) → is_connection (text s y.text) ≡ false → Rattle.sim_sound.proofs.Values.StandsFor s y t → is_class_free s t ≡ false → is_class_free s y.text ≡ false
       stands_free y t no_connection (own_text at) f = level_free no_connection at f
-      stands_free y t no_connection (Rattle.sim_sound.proofs.Sound.connected {u = w} c around' key a) f = stands_free y w no_connection a (ok.not_class_free t w around' f)
+      stands_free y t no_connection (Rattle.sim_sound.proofs.Values.connected {u = w} c around' key a) f = stands_free y w no_connection a (ok.not_class_free t w around' f)
 
   pub inside_new : (out around i : ℕ) → e ≡ Some out → encloser s.tables k ≡ Some around → out < length m.instances → u ≡ Some i → Near v m i out → StoreFine s v m → Whole s m out around → Enclosed s seen_now now (length m.instances) k e
   inside_new out around i is_out is_in lt on near store whole =
@@ -133,22 +133,22 @@ module _ (s : Source) (ok : Typed s) (v : AllArrays) (m : Instances) (k : ℕ) (
 
   -- below it the chain stands as before
   pub below_new : Begins z → (chain : List Activation) (w : Waits) → ChainFine s v m chain w → ChainFine s seen_now now chain w
-  below_new begins chain w c = fine_later s v m seen_now now All later_new All (λ j d k. copies_entered s v m made_new z u linkages blocks j d) (λ j k. steady_entered s v m made_new z u linkages blocks begins j) chain (all_apart chain) (all_apart chain) w c
+  below_new begins chain w c = fine_later s v m seen_now now All later_new AnySeat (λ q j d k ok. copies_entered s v m made_new z u linkages blocks q j d) (λ j k. steady_entered s v m made_new z u linkages blocks begins j) chain (all_apart None chain) (all_apart None chain) w c
 
 -- it operates
 pub enters_fine : (s : Source) (ok : Typed s) (o : World) (marks : Marks) (long : length marks.sights ≡ length o.arrays) (m : Instances) (k : ℕ) (e : Option ℕ) (cells : List Held) (z : Standing Activation) (todo : List DeclNo)
-    → Begins z → (work : List Item) (rest : List Activation) (p : World) → StoreFine s (see marks p) m → Placed m rest → Headed m rest → (0 < length m.standings) ⊎ (z ≡ NoObject None) → Begun s (see (marked marks (first_of rest)) o) (entered m (new_instance s k e cells) z) (length m.instances) k todo
-    → WorkFine s (see (marked marks (first_of rest)) o) (entered m (new_instance s k e cells) z) (λ w. ChainFine s (see (marked marks (first_of rest)) o) (entered m (new_instance s k e cells) z) rest w) (rest ≡ []) (length m.instances) k work todo []
+    → Begins z → (work : List Item) (rest : List Activation) (p : World) (u : Option ℕ) → u ≡ first_of rest → StoreFine s (see marks p) m → Placed m rest → Headed m rest → (0 < length m.standings) ⊎ (z ≡ NoObject None) → Begun s (see (marked marks (length m.instances) u) o) (entered m (new_instance s k e cells) z) (length m.instances) k todo
+    → WorkFine s (see (marked marks (length m.instances) u) o) (entered m (new_instance s k e cells) z) (λ w. ChainFine s (see (marked marks (length m.instances) u) o) (entered m (new_instance s k e cells) z) rest w) (rest ≡ []) (length m.instances) k work todo []
     → IsFine s o (record { chain = record { instance = length m.instances; work = work; values = [] } ∷ rest; memory = entered m (new_instance s k e cells) z })
-enters_fine s ok o marks long m k e cells z todo begins work rest p store placed headed first b w =
-    goes_on s o (marked marks (first_of rest)) long (entered m (new_instance s k e cells) z) (length m.instances) k rest (operates_entered s (see marks p) m (new_instance s k e cells) z (first_of rest) o.members o.simulations rest refl store placed headed first begins) work [] todo [] b tt w
+enters_fine s ok o marks long m k e cells z todo begins work rest p u is store placed headed first b w =
+    goes_on s o (marked marks (length m.instances) u) long (entered m (new_instance s k e cells) z) (length m.instances) k rest (operates_entered s (see marks p) m (new_instance s k e cells) z u o.members o.simulations rest is store placed headed first begins) work [] todo [] b tt w
 
 -- the arrays, the linkages and the simulation blocks alone tell whether a configuration is fine
 pub same_arrays : {s : Source} (o p : World) (c : Configuration) → o.arrays ≡ p.arrays → o.members ≡ p.members → o.simulations ≡ p.simulations → IsFine s o c → IsFine s p c
 same_arrays {s = s} o p c e q r f =
-    subst (λ z. (g : Marks) × (length g.sights ≡ length p.arrays) × Fine s (record { sights = g.sights; beneath = g.beneath; waiting = g.waiting; real = p.arrays; members = p.members; simulations = z }) c) r
-    (subst (λ z. (g : Marks) × (length g.sights ≡ length p.arrays) × Fine s (record { sights = g.sights; beneath = g.beneath; waiting = g.waiting; real = p.arrays; members = z; simulations = o.simulations }) c) q
-    (subst (λ z. (g : Marks) × (length g.sights ≡ length z) × Fine s (record { sights = g.sights; beneath = g.beneath; waiting = g.waiting; real = z; members = o.members; simulations = o.simulations }) c) e f))
+    subst (λ z. (g : Marks) × (length g.sights ≡ length p.arrays) × Fine s (record { sights = g.sights; beneath = g.beneath; waiting = g.waiting; seat = g.seat; real = p.arrays; members = p.members; simulations = z }) c) r
+    (subst (λ z. (g : Marks) × (length g.sights ≡ length p.arrays) × Fine s (record { sights = g.sights; beneath = g.beneath; waiting = g.waiting; seat = g.seat; real = p.arrays; members = z; simulations = o.simulations }) c) q
+    (subst (λ z. (g : Marks) × (length g.sights ≡ length z) × Fine s (record { sights = g.sights; beneath = g.beneath; waiting = g.waiting; seat = g.seat; real = z; members = o.members; simulations = o.simulations }) c) e f))
 
 -- ---- blocks
 
@@ -166,7 +166,7 @@ module _ (s : Source) (ok : Typed s) (v : AllArrays) (m : Instances) (k : ℕ) (
   after = entered m (new_instance s k e cells) (NoObject None)
 
   abbrev pub seen_after : AllArrays
-  seen_after = on_top v u v.members v.simulations
+  seen_after = on_top v (length m.instances) u v.members v.simulations
 
   cells_fine : CellsFine s seen_after after (length m.instances) k cells
   cells_fine = block_cells s seen_after after (length m.instances) k begin ds ss is typed.no_formals
@@ -193,20 +193,27 @@ module _ (s : Source) (ok : Typed s) (v : AllArrays) (m : Instances) (k : ℕ) (
 
 -- ---- a sub-block
 
-module _ (s : Source) (ok : Typed s) (l : Limits) (o : World) (marks : Marks) (long : length marks.sights ≡ length o.arrays) (m : Instances) (i t : ℕ) (rest : List Activation) (top : Operates marks.beneath m i rest) (w : List Item) (vals : List Val) where
+module _ (s : Source) (ok : Typed s) (l : Limits) (o : World) (marks : Marks) (long : length marks.sights ≡ length o.arrays) (m : Instances) (i t : ℕ) (rest : List Activation) (top : Operates marks.beneath marks.seat m i rest) (w : List Item) (vals : List Val) where
   abbrev pub Chain : List Val → List Activation
   Chain vs = record { instance = i; work = w; values = vs } ∷ rest
 
   -- what is on the chain waits for a value or for none
   pub waits_on : (vs : List Val) (todo : List DeclNo) (ks : List Kinds) (g : Option Kinds) → Begun s (see marks o) m i t todo → HandsFine s (see marks o) m i ks vs → Work s o marks long m i t rest top w todo (given g ks) → ChainFine s (see marks o) m (Chain vs) (Takes g)
-  waits_on vs todo ks g b h work = record { of_text = t; todo = todo; here = b.here; own = b.own; on = top.on; vals = vs; shown = refl; kinds = ks; hands = h; expected = given g ks; expects = refl; goes = work }
+  waits_on vs todo ks g b h work =
+      let own = work_owner s o marks long m i t rest top w vs todo (given g ks) work in
+      record { of_text = t; todo = todo; here = b.here; own = b.own; stands_on = λ j is. top.stands_on j (sym own ∙ is); seat = marks.seat; seated = ap (λ u. seat_on u (footing None rest)) own ∙ top.seated; works = b.works; vals = vs; shown = refl; kinds = ks; hands = h; expected = given g ks; expects = refl; goes = work }
 
   -- and stands there
-  pub chain_placed : (vs : List Val) → Placed m (Chain vs)
-  chain_placed vs = placed_as m i w vs rest top.placed
+  module _ (todo : List DeclNo) (ks : List Kinds) (work : Work s o marks long m i t rest top w todo ks) where
+    pub chain_placed : (vs : List Val) → Placed m (Chain vs)
+    chain_placed vs = placed_as m (idle marks.seat i) (record { instance = i; work = w; values = vs }) rest (work_owner s o marks long m i t rest top w vs todo ks work) top.placed
 
-  pub chain_headed : (vs : List Val) → Headed m (Chain vs)
-  chain_headed vs = headed_as m i w vs rest top.headed
+    pub chain_headed : (vs : List Val) → Headed m (Chain vs)
+    chain_headed vs = headed_as m (idle marks.seat i) (record { instance = i; work = w; values = vs }) rest (work_owner s o marks long m i t rest top w vs todo ks work) top.headed
+
+    -- the owner of its seat is the first instance
+    pub chain_first : (vs : List Val) → Some (marks.seat).owner ≡ first_of (Chain vs)
+    chain_first vs = sym (seat_under None (Chain vs) marks.seat (ap (λ u. seat_on u (footing None rest)) (work_owner s o marks long m i t rest top w vs todo ks work) ∙ top.seated))
 
   pub block_entered : (k line u begin : ℕ) (ds : Declarations) (ss : Statements) (ks : List Kinds) → text s k ≡ Some (BlockText begin ds ss) → encloser s.tables k ≡ Some u → Whole s m i u → Begun s (see marks o) m i t [] → HandsFine s (see marks o) m i ks vals → Work s o marks long m i t rest top w [] ks → Goes (IsFine s) (sub_block_entered s l o m i w vals rest k line (Some (BlockText begin ds ss)))
   block_entered k line u begin ds ss ks is stands site b h work =
@@ -214,13 +221,14 @@ module _ (s : Source) (ok : Typed s) (l : Limits) (o : World) (marks : Marks) (l
       let x = BlockText begin ds ss in
       let hs = first_cells s k x in
       let z = NoObject None in
+      let first = (marks.seat).owner in
       let solid = block_solid s k begin ds ss is in
-      let out = inside_new s ok v m k (Some i) hs z x is solid (Some i) v.members v.simulations i u i refl stands top.before refl (near_below at_itself) b.store site in
+      let out = inside_new s ok v m k (Some i) hs z x is solid (Some first) v.members v.simulations i u first refl stands top.before refl (b.works).near b.store site in
       let m' = entered m (new_instance s k (Some i) hs) z in
       enters (IsFine s) l line (words_of_cells hs) o (λ p. in_instance s p m k (Some i) hs (λ now. block_work s now (length m.instances) ds ss EndBlock) (Chain vals)) (λ t' w'.
-      enters_fine s ok o marks long m k (Some i) hs z (arrays_of_block s ds) tt (block_work s m' (length m.instances) ds ss EndBlock) (Chain vals) o b.store (chain_placed vals) (chain_headed vals) (inr refl) (block_begun s ok v m k (Some i) begin ds ss is (Some i) b.store out)
-      (block_works s ok v m k (Some i) begin ds ss is (Some i) b.store out (λ q. ChainFine s (on_top v (Some i) v.members v.simulations) m' (Chain vals) q) (Chain vals ≡ []) EndBlock
-      ((None, stands_new m (new_instance s k (Some i) hs) z (top.placed).as_many), below_new s ok v m k (Some i) hs z x is solid (Some i) v.members v.simulations tt (Chain vals) (Takes None) (waits_on vals [] ks None b h work))))
+      enters_fine s ok o marks long m k (Some i) hs z (arrays_of_block s ds) tt (block_work s m' (length m.instances) ds ss EndBlock) (Chain vals) o (Some first) (chain_first [] ks work vals) b.store (chain_placed [] ks work vals) (chain_headed [] ks work vals) (inr refl) (block_begun s ok v m k (Some i) begin ds ss is (Some first) b.store out)
+      (block_works s ok v m k (Some i) begin ds ss is (Some first) b.store out (λ q. ChainFine s (on_top v (length m.instances) (Some first) v.members v.simulations) m' (Chain vals) q) (Chain vals ≡ []) EndBlock
+      ((None, stands_new m (new_instance s k (Some i) hs) z (top.placed).as_many), below_new s ok v m k (Some i) hs z x is solid (Some first) v.members v.simulations tt (Chain vals) (Takes None) (waits_on vals [] ks None b h work), (refl, refl))))
 
   -- ---- a procedure
 
@@ -230,25 +238,25 @@ module _ (s : Source) (ok : Typed s) (l : Limits) (o : World) (marks : Marks) (l
   link_is u (Address z) f a go = absurd a
   link_is u (ArrayValue z) f a go = absurd a
   link_is u (ProcedureValue z y) f a go = absurd a
-  link_is u (Tree z) f a go = absurd a
+  link_is u (Actual z y) f a go = absurd a
 
   pub lives_is : (j : ℕ) (x : Instance (List Held)) → live m j ≡ Some x → is_live m j ≡ true
   lives_is j x e = ap instances.is_live_in e
 
   -- the store in which copies of the instance have gone over, and a new instance is entered then
-  module _ (p : World) (g' : List Sight) (e : Later s (see marks o) m (see (marks_of marks g') p) m All) (copies : (j d : ℕ) → Other i j → Copies (see marks o) (see (marks_of marks g') p) j d) (fine : StoreFine s (see marks o) m) (elements : ElementsFine s (see marks o) m → ElementsFine s (see (marks_of marks g') p) m) (linkages : p.members ≡ o.members) (blocks : p.simulations ≡ o.simulations) where
+  module _ (p : World) (g' : List Sight) (e : Later s (see marks o) m (see (marks_of marks g') p) m All) (copies : (q : Seat) (j d : ℕ) → Elsewhere marks.seat q → Copies (at_seat (see marks o) q) (at_seat (see (marks_of marks g') p) q) j d) (fine : StoreFine s (see marks o) m) (elements : ElementsFine s (see marks o) m → ElementsFine s (see (marks_of marks g') p) m) (linkages : p.members ≡ o.members) (blocks : p.simulations ≡ o.simulations) where
     pub store_handed : StoreFine s (see (marks_of marks g') p) m
     store_handed = record {
       instances = λ j x lives. instance_later s (see marks o) m (see (marks_of marks g') p) m All e j x tt (fine.instances j x lives);
       elements = elements fine.elements;
-      kept = kept_later s (see marks o) m (see (marks_of marks g') p) m All e (Other i) copies (λ j k. (refl, refl)) refl refl (λ j x is. standing_apart x) (others_kept marks.beneath m i rest top) fine.kept;
+      kept = kept_later s (see marks o) m (see (marks_of marks g') p) m All e (Elsewhere marks.seat) (λ q j d k ok. copies q j d k) (λ j k. (refl, refl)) refl refl (λ j x is. standing_apart j x) (others_kept marks.beneath marks.seat m i rest top) fine.kept;
       noted = fine.noted;
       members = subst (λ q. MembersFine s q m) (sym linkages) fine.members;
       simulations = subst (λ q. SimulationsFine s q m) (sym blocks) fine.simulations;
     }
 
     pub below_handed : (v : Waits) → ChainFine s (see marks o) m rest v → ChainFine s (see (marks_of marks g') p) m rest v
-    below_handed v c = fine_later s (see marks o) m (see (marks_of marks g') p) m All e (Other i) copies (λ j k. (refl, refl)) rest (all_apart rest) (others_on marks.beneath m i rest top) v c
+    below_handed v c = fine_later s (see marks o) m (see (marks_of marks g') p) m All e (Elsewhere marks.seat) (λ q j d k ok. copies q j d k) (λ j k. (refl, refl)) rest (all_apart None rest) (others_on marks.beneath marks.seat m i rest top) v c
 
   module _ (k line : ℕ) (result : Option TypeName) (h : Heading) (a : Statement) (vs vs' : List Val) (d j u : ℕ) (todo : List DeclNo) (left : List Kinds) (g : Option Kinds) (is : text s k ≡ Some (ProcedureText result h a)) (stands : encloser s.tables k ≡ Some u) (knows : Knows m i j) (whole : Whole s m j u) (acts : ActualsAre s (see marks o) m i d (formal_kinds s (formals_of s k)) vs) (less : length vs' < d) (gives : GivesResult s k g) (b : Begun s (see marks o) m i t todo) (hands : HandsFine s (see marks o) m i left vs') (work : Work s o marks long m i t rest top w todo (given g left)) (lasts : is_class_free s k ≡ false → list_any is_held (formals_of s k) ≡ true → Stays m i) where
     abbrev X : Text
@@ -256,6 +264,9 @@ module _ (s : Source) (ok : Typed s) (l : Limits) (o : World) (marks : Marks) (l
 
     abbrev N : ℕ
     N = length m.instances
+
+    abbrev First : ℕ
+    First = (marks.seat).owner
 
     abbrev Nobody : Standing Activation
     Nobody = NoObject None
@@ -280,18 +291,14 @@ module _ (s : Source) (ok : Typed s) (l : Limits) (o : World) (marks : Marks) (l
     After c = entered m (new_instance s k (Some j) c) Nobody
 
     abbrev noted : Marks
-    noted = marked marks (Some i)
+    noted = marked marks N (Some First)
 
     later_with : (c : List Held) (z : List Sight) (q : World) → Later s (see (marks_of marks z) q) m (see (marks_of noted z) q) (After c) All
-    later_with c z q = later_new s ok (see (marks_of marks z) q) m k (Some j) c Nobody X is solid (Some i) q.members q.simulations
+    later_with c z q = later_new s ok (see (marks_of marks z) q) m k (Some j) c Nobody X is solid (Some First) q.members q.simulations
 
     -- where it takes arrays by reference, the instance that enters it is there for as long
     outlives : (c : List Held) → list_any is_held fs ≡ true → Outlives s m (After c) i N top.before marks noted (later_with c)
-    outlives c held = by_flag (is_class_free s k) refl
-      where
-        by_flag : (f : Bool) → is_class_free s k ≡ f → Outlives s m (After c) i N top.before marks noted (later_with c)
-        by_flag true free = inl (new_passes s ok (see marks o) m k (Some j) c Nobody X is solid (Some i) o.members o.simulations free, new_noted s ok (see marks o) m k (Some j) c Nobody X is solid (Some i) o.members o.simulations b.store)
-        by_flag false free = inr (stays_later s (see marks o) m (see noted o) (After c) All (later_with c marks.sights o) i (lasts free held))
+    outlives c held q p = near_same (see noted o) (see (marks_of noted q) p) (After c) N i refl (near_inside s ok (see marks o) m k (Some j) c Nobody X is solid (Some First) o.members o.simulations b.store i (λ free. lasts free held) First refl (b.works).near)
 
     handed : (c : List Held) → Handed s m (After c) i N top.before marks noted (later_with c) o marks.sights d P (λ z. (kk : ℕ) → ValsFine s z (After c) N kk (holds_of s fs) vs)
     handed c = hand_all s m (After c) i N top.before marks noted (later_with c) fs (formal_kinds s fs) (formals_hand s (Outlives s m (After c) i N top.before marks noted (later_with c)) (numbers_of s k) fs typed_procedure.formals (outlives c)) vs o marks.sights long d acts
@@ -309,7 +316,7 @@ module _ (s : Source) (ok : Typed s) (l : Limits) (o : World) (marks : Marks) (l
     V = see G P
 
     abbrev V' : AllArrays
-    V' = on_top V (Some i) V.members V.simulations
+    V' = on_top V N (Some First) V.members V.simulations
 
     abbrev M : Instances
     M = After Cells
@@ -332,8 +339,8 @@ module _ (s : Source) (ok : Typed s) (l : Limits) (o : World) (marks : Marks) (l
     e : Later s (see marks o) m V m All
     e = (handed Cells).later marks m
 
-    copies : (n y : ℕ) → Other i n → Copies (see marks o) V n y
-    copies n y other q kd c' small copy = (handed Cells).copies n q kd c' (λ same. absurd (other same)) copy
+    copies : (q : Seat) (n y : ℕ) → Elsewhere marks.seat q → Copies (at_seat (see marks o) q) (at_seat V q) n y
+    copies q n y other z kd c' small copy = (handed Cells).copies q n z kd c' (λ same. absurd (other same)) copy
 
     linkages : P.members ≡ o.members
     linkages = handed_members N (arrays_by_value fs vs) o
@@ -346,26 +353,31 @@ module _ (s : Source) (ok : Typed s) (l : Limits) (o : World) (marks : Marks) (l
 
     begun : Begun s V' M N k []
     begun =
-        begun_new s ok V m k (Some j) Cells Nobody X is solid (Some i) V.members V.simulations store tt (keys_alone s ok k (map key_of Cells) solid plain keys) fine
-        (inside_new s ok V m k (Some j) Cells Nobody X is solid (Some i) V.members V.simulations j u i refl stands (live_less m j whole.now whole.lives) refl (knows_near s V m store i j knows) store whole) [] made
-        (members_more s V.members m M k (Some j) (more_new s ok V m k (Some j) Cells Nobody X is solid (Some i) V.members V.simulations) (plain_no_linkage s ok k solid plain) (plain_no_simulation s ok k solid plain) store.members)
-        (simulations_more s V.simulations m M k (Some j) (more_new s ok V m k (Some j) Cells Nobody X is solid (Some i) V.members V.simulations) store.simulations (plain_no_simulation s ok k solid plain) (plain_no_process s ok k solid plain))
+        begun_new s ok V m k (Some j) Cells Nobody X is solid (Some First) V.members V.simulations store tt (keys_alone s ok k (map key_of Cells) solid plain keys) fine
+        (inside_new s ok V m k (Some j) Cells Nobody X is solid (Some First) V.members V.simulations j u First refl stands (live_less m j whole.now whole.lives) refl (near_then V m First i j (near_same (see marks o) V m First i refl (b.works).near) (knows_near s V m store i j knows)) store whole) [] made
+        (members_more s V.members m M k (Some j) (more_new s ok V m k (Some j) Cells Nobody X is solid (Some First) V.members V.simulations) (plain_no_linkage s ok k solid plain) (plain_no_simulation s ok k solid plain) store.members)
+        (simulations_more s V.simulations m M k (Some j) (more_new s ok V m k (Some j) Cells Nobody X is solid (Some First) V.members V.simulations) store.simulations (plain_no_simulation s ok k solid plain) (plain_no_process s ok k solid plain))
 
     chain : ChainFine s V m (Chain vs') (Takes g)
-    chain = record {
-      of_text = t;
-      todo = todo;
-      here = b.here;
-      own = b.own;
-      on = top.on;
-      vals = vs';
-      shown = refl;
-      kinds = left;
-      hands = hands_later s (see marks o) m V m All e i tt left vs' (λ z kd c deep copy. (handed Cells).copies i z kd c (λ q. omega (arith, deep, less)) copy) hands;
-      expected = given g left;
-      expects = refl;
-      goes = work_later s (see marks o) m V m All e i t tt refl (rest ≡ []) (rest ≡ []) (λ q. q) (λ q. ChainFine s (see marks o) m rest q) (λ q. ChainFine s V m rest q) (below_handed P (handed Cells).sights e copies b.store (handed Cells).elements linkages blocks) w todo (given g left) work;
-    }
+    chain =
+        let own = work_owner s o marks long m i t rest top w vs' todo (given g left) work in
+        record {
+          of_text = t;
+          todo = todo;
+          here = b.here;
+          own = b.own;
+          stands_on = λ x at. top.stands_on x (sym own ∙ at);
+          seat = marks.seat;
+          seated = ap (λ x. seat_on x (footing None rest)) own ∙ top.seated;
+          works = seated_later s (see marks o) m V m All e marks.seat i tt b.works;
+          vals = vs';
+          shown = refl;
+          kinds = left;
+          hands = hands_later s (see marks o) m V m All e i tt left vs' (λ z kd c deep copy. (handed Cells).copies marks.seat i z kd c (λ q. omega (arith, deep, less)) copy) hands;
+          expected = given g left;
+          expects = refl;
+          goes = work_later s (see marks o) m V m All e i t tt refl (λ q. refl) (rest ≡ []) (rest ≡ []) (λ q. q) (λ q. ChainFine s (see marks o) m rest q) (λ q. ChainFine s V m rest q) (below_handed P (handed Cells).sights e copies b.store (handed Cells).elements linkages blocks) w todo (given g left) work;
+        }
 
     -- after the instances that it needs were kept
     pub enters_procedure : Goes (IsFine s) (having (filled_behind result vs first) o (λ c. entering l line (words_of_cells first) o (λ q. in_instance s (handed_over N (arrays_by_value fs vs) q) m k (Some j) c (λ now. Do (Exec a) ∷ EndProcedure (has_result result) ∷ []) (Chain vs'))))
@@ -374,21 +386,21 @@ module _ (s : Source) (ok : Typed s) (l : Limits) (o : World) (marks : Marks) (l
         had (IsFine s) (filled_behind result vs first) Cells o (λ c. entering l line (words_of_cells first) o (λ q. in_instance s (handed_over N ns q) m k (Some j) c (λ now. Do (Exec a) ∷ EndProcedure (has_result result) ∷ []) (Chain vs'))) (filled first).filled_is
         (enters (IsFine s) l line (words_of_cells first) o (λ q. in_instance s (handed_over N ns q) m k (Some j) Cells (λ now. Do (Exec a) ∷ EndProcedure (has_result result) ∷ []) (Chain vs')) (λ t' w'.
         same_arrays P (handed_over N ns (ran o t' w')) _ (handed_same N ns o (ran o t' w') refl) (linkages ∙ sym (handed_members N ns (ran o t' w'))) (blocks ∙ sym (handed_simulations N ns (ran o t' w')))
-        (enters_fine s ok P G (handed Cells).long m k (Some j) Cells Nobody [] tt (Do (Exec a) ∷ EndProcedure (has_result result) ∷ []) (Chain vs') P store (chain_placed vs') (chain_headed vs') (inr refl) begun
-        ([], [], (refl, refl, refl, (k, own_site s V' M N k [] begun, typed_procedure.body)), (result, h, a, is, refl, g, gives, (None, stands_new m (new_instance s k (Some j) Cells) Nobody (top.placed).as_many), below_new s ok V m k (Some j) Cells Nobody X is solid (Some i) V.members V.simulations tt (Chain vs') (Takes g) chain)))))
+        (enters_fine s ok P G (handed Cells).long m k (Some j) Cells Nobody [] tt (Do (Exec a) ∷ EndProcedure (has_result result) ∷ []) (Chain vs') P (Some First) (chain_first todo (given g left) work vs') store (chain_placed todo (given g left) work vs') (chain_headed todo (given g left) work vs') (inr refl) begun
+        ([], [], (refl, refl, refl, (k, own_site s V' M N k [] begun, typed_procedure.body)), (result, h, a, is, refl, g, gives, (None, stands_new m (new_instance s k (Some j) Cells) Nobody (top.placed).as_many), below_new s ok V m k (Some j) Cells Nobody X is solid (Some First) V.members V.simulations tt (Chain vs') (Takes g) chain, (refl, refl))))))
 
-module _ (s : Source) (ok : Typed s) (l : Limits) (o : World) (marks : Marks) (long : length marks.sights ≡ length o.arrays) (m : Instances) (i t : ℕ) (rest : List Activation) (top : Operates marks.beneath m i rest) (w : List Item) (vals : List Val) where
+module _ (s : Source) (ok : Typed s) (l : Limits) (o : World) (marks : Marks) (long : length marks.sights ≡ length o.arrays) (m : Instances) (i t : ℕ) (rest : List Activation) (top : Operates marks.beneath marks.seat m i rest) (w : List Item) (vals : List Val) where
   -- the instances that the procedure needs are kept first
   procedure_goes : (k line : ℕ) (result : Option TypeName) (h : Heading) (a : Statement) (vs vs' : List Val) (d j u : ℕ) (todo : List DeclNo) (left : List Kinds) (g : Option Kinds) → text s k ≡ Some (ProcedureText result h a) → encloser s.tables k ≡ Some u → Knows m i j → Whole s m j u → ActualsAre s (see marks o) m i d (formal_kinds s (formals_of s k)) vs → length vs' < d → GivesResult s k g → Begun s (see marks o) m i t todo → HandsFine s (see marks o) m i left vs' → Work s o marks long m i t rest top w todo (given g left)
       → Goes (IsFine s) (procedure_entered s l o m i w vs' rest k line vs j (Some (ProcedureText result h a)))
   procedure_goes k line result h a vs vs' d j u todo left g is stands knows whole acts less gives b hands work =
       subst (λ z. Goes (IsFine s) (having (filled_behind result vs first) o (λ c. entering l line (words_of_cells first) o (λ q. in_instance s (handed_over z (arrays_by_value (formals_of s k) vs) q) n k (Some j) c (λ now. Do (Exec a) ∷ EndProcedure (has_result result) ∷ []) (Below vs'))))) (y.same).count
-      (enters_procedure s ok l o marks long n i t rest (operates_on marks.beneath m n i rest y.same top) w vals k line result h a vs vs' d j u todo left g is stands (knows_later s v m v n All y.later i j tt knows) (present_later s v m v n All y.later j u [] tt whole)
+      (enters_procedure s ok l o marks long n i t rest (operates_on marks.beneath marks.seat m n i rest y.same top) w vals k line result h a vs vs' d j u todo left g is stands (knows_later s v m v n All y.later i j tt knows) (present_later s v m v n All y.later j u [] tt whole)
       (actuals_later s v m v n y.later i (λ z e x c deep f. f) (formal_kinds s (formals_of s k)) vs d acts) less gives
-      (record { store = y.store; here = present_later s v m v n All y.later i t todo tt b.here; own = own_later s v m v n All y.later i t todo tt b.here ∙ b.own })
+      (record { store = y.store; here = present_later s v m v n All y.later i t todo tt b.here; own = own_later s v m v n All y.later i t todo tt b.here ∙ b.own; works = works })
       (hands_later s v m v n All y.later i tt left vs' (λ e x c deep f. f) hands)
-      (work_later s v m v n All y.later i t tt (steady i).1 (rest ≡ []) (rest ≡ []) (λ q. q) (λ q. ChainFine s v m rest q) (λ q. ChainFine s v n rest q) (λ q c. fine_later s v m v n All y.later All (λ e x f p z r deep copy. copy) (λ e f. steady e) rest (all_apart rest) (all_apart rest) q c) w todo (given g left) work)
-      y.lasts)
+      (work_later s v m v n All y.later i t tt refl (λ q. (steady i).1) (rest ≡ []) (rest ≡ []) (λ q. q) (λ q. ChainFine s v m rest q) (λ q. ChainFine s v n rest q) (λ q c. fine_later s v m v n All y.later AnySeat (λ q j d k ok e h a deep copy. copy) (λ e f. steady e) rest (all_apart None rest) (all_apart None rest) q c) w todo (given g left) work)
+      (λ free held. near_stays v n (marks.seat).owner i (y.lasts free held) works.near))
     where
       v : AllArrays
       v = see marks o
@@ -402,8 +414,11 @@ module _ (s : Source) (ok : Typed s) (l : Limits) (o : World) (marks : Marks) (l
       n : Instances
       n = instances_kept s k (Below vs') m
 
-      y : Kept s v m n i (is_class_free s k) (list_any is_held (formals_of s k))
-      y = entry_keeps s v m (Below vs') (Takes g) (waits_on s ok l o marks long m i t rest top w vals vs' todo left g b hands work) b.store i refl k
+      y : Kept s v m n (marks.seat).owner (is_class_free s k) (list_any is_held (formals_of s k))
+      y = entry_keeps s v m (Below vs') (Takes g) (waits_on s ok l o marks long m i t rest top w vals vs' todo left g b hands work) b.store (marks.seat).owner (sym (chain_first s ok l o marks long m i t rest top w vals todo (given g left) work vs')) k
+
+      works : SeatedFor v n marks.seat i
+      works = seated_later s v m v n All y.later marks.seat i tt b.works
 
       steady : (e : ℕ) → Steady v m v n e
       steady = steady_same v m v n (y.same).standings refl

@@ -1,5 +1,5 @@
 -- Trees are taken apart, and operators do what they do, in an instance.
-use Rattle.std.proofs.Common.{◌≡◌, ℕ, zero, suc, List, [], ◌∷◌, length, Option, Some, None, refl, sym, ap, ◌∙◌, subst}
+use Rattle.std.proofs.Common.{◌≡◌, ◌<◌, ℕ, zero, suc, true, false, arith, List, [], ◌∷◌, length, Option, Some, None, refl, sym, ap, ◌∙◌, subst}
 use Rattle.sim_base.specs.declared.numbering.DeclNo.{DeclNo}
 use Rattle.sim_scope.specs.declared.types.Formal.{Formal}
 use Rattle.sim_scope.specs.Access.{encloser}
@@ -7,27 +7,49 @@ use Rattle.sim_scope.specs.Source.{Source, block_of}
 use Rattle.sim_values.specs.declared.kind.Kind.TheVariants as kind
 use Rattle.sim_code.specs.Instances.{CellPlace, ImagePlace}
 use Rattle.sim_code.specs.Outcome.{World}
-use Rattle.std.specs.Prelude.{◌+◌}
+use Rattle.std.specs.Prelude.{◌+◌, if◌then◌else◌}
 use Rattle.sim_meaning.specs.Attributes.{attribute_formals}
 use Rattle.sim_meaning.specs.Entries.{formals_of}
 use Rattle.sim_meaning.specs.Closing.{class_parameters}
-use Rattle.sim_meaning.specs.Pending.{SetOf, SetOp, ProcessOf, ProcessOp, SimulationOf, SimulationOp, Activation, Address, AttributeOf, AttributeOp, CallOf, CallOp, Cell, cell, Configuration, CopyOf, CopyOp, Do, Either, ElementOf, ElementOp, Eval, FetchOp, FitsOf, FitsOp, Further, Given, IfOp, ImageOf, Instances, Item, Joined, JoinOp, KeepOp, KeptOf, Link, MemberOf, MemberOp, NewOf, NewOp, NoTerm, NotNoneOf, NotNoneOp, ObjectOp, Of, One, OneOp, PlaceOf, PrefixedOp, QualifiedElementOf, QualifiedElementOp, QualifiedPlaceOf, QuaOf, QuaOp, RemoteCallOf, StandardOf, StandardOp, Term, Terms, TransferOf, TransferOp, Two, TwoOp, Unbuilt, Val, ValueAt, VirtualOf, VirtualOp, CheckOp, CallValueOp}
+use Rattle.sim_meaning.specs.Pending.{Actual, ActualOf, NamedOf, NamedOp, EndBlock, EndEvaluation, EndLevel, EndObject, EndPrefixed, EndProcedure, EndProgram, evaluates, is_evaluation, owner, SetOf, SetOp, ProcessOf, ProcessOp, SimulationOf, SimulationOp, Activation, Address, AttributeOf, AttributeOp, CallOf, CallOp, Cell, cell, Configuration, CopyOf, CopyOp, Do, Either, ElementOf, ElementOp, Eval, FetchOp, FitsOf, FitsOp, Further, Given, IfOp, ImageOf, Instances, Item, Joined, JoinOp, KeepOp, KeptOf, Link, MemberOf, MemberOp, NewOf, NewOp, NoTerm, NotNoneOf, NotNoneOp, ObjectOp, Of, One, OneOp, PlaceOf, PrefixedOp, QualifiedElementOf, QualifiedElementOp, QualifiedPlaceOf, QuaOf, QuaOp, RemoteCallOf, StandardOf, StandardOp, Term, Terms, TransferOf, TransferOp, Two, TwoOp, Unbuilt, Val, ValueAt, VirtualOf, VirtualOp, CheckOp, CallValueOp}
 use Rattle.sim_meaning.specs.Steps.{count, each, eval, go}
-use Rattle.sim_sound.specs.Held.{ArrayOf, Refers, Simply}
+use Rattle.sim_sound.specs.Held.{ByName, ArrayOf, Refers, Simply}
 use Rattle.sim_sound.specs.Typed.{Typed}
-use Rattle.sim_sound.proofs.Cells.{cell_found}
+use Rattle.sim_sound.proofs.Cells.{target_lies, cell_found}
 use Rattle.sim_sound.proofs.Lifts.{Goes, had}
 use Rattle.sim_sound.proofs.Fitting.{plain_val, val_fits}
 use Rattle.sim_sound.proofs.Moves.{placed_as}
-use Rattle.sim_sound.proofs.Running.{Begun, ChainFine, Fine, Operates, WorkFine, runs}
-use Rattle.sim_sound.proofs.Sound.{ObjectIn, PrefixedAt, set_operands, AddressOf, Copied, GivesResult, HandsFine, ImageAddress, IntegersFine, Kinds, Lasting, LinkTo, Marks, OperandsFine, ProcedureIn, ReferenceAddress, Site, TermFine, TermsFine, Value, Waits, class_kinds, component_kind, formal_kinds, given, integers, onto, pushed, see, simple, MatchFor}
+use Rattle.sim_sound.proofs.Running.{Begun, ChainFine, Fine, Operates, WorkFine, footing, idle, idle_work, runs, seat_on}
+use Rattle.sim_sound.proofs.Sound.{PrefixedAt, set_operands, GivesResult, IntegersFine, OperandsFine, Site, TermFine, TermsFine, class_kinds, component_kind, formal_kinds, given, integers, onto, pushed, simple}
+use Rattle.sim_sound.proofs.Values.{Near, Stands, at_itself, near_below, AllArrays, ObjectIn, AddressOf, Copied, HandsFine, ImageAddress, Kinds, Lasting, LinkTo, Marks, ProcedureIn, ReferenceAddress, Value, Waits, see, MatchFor}
 use Rattle.sim_sound.proofs.Heads.{headed_as}
+
+-- the last item of pending work is that of its seat
+pub idle_evaluates : (n : ℕ) → 0 < n → evaluates (idle_work n) ≡ true
+idle_evaluates zero some = absurd (omega (arith, some))
+idle_evaluates (suc n) some = refl
+
+last_seat : (x : Item) (w : List Item) (n : ℕ) → is_evaluation x ≡ false → w ≡ [] → n ≡ 0 → evaluates (x ∷ w) ≡ evaluates (idle_work n)
+last_seat x w n plain last own = ap (λ z. evaluates (x ∷ z)) last ∙ plain ∙ sym (ap (λ z. evaluates (idle_work z)) own)
+
+pub work_seat : (s : Source) (o : AllArrays) (m : Instances) (Below : Waits → Type 0) (Outermost : Type 0) (j t : ℕ) (w : List Item) (todo : List DeclNo) (before : List Kinds) → WorkFine s o m Below Outermost j t w todo before → evaluates w ≡ evaluates (idle_work (o.seat).evaluations)
+work_seat s o m Below Outermost j t [] todo before a = absurd a
+work_seat s o m Below Outermost j t (Do op ∷ []) todo before a = absurd a.3
+work_seat s o m Below Outermost j t (Do op ∷ x ∷ w) todo before a = work_seat s o m Below Outermost j t (x ∷ w) a.0 a.1 a.3
+work_seat s o m Below Outermost j t (EndBlock ∷ w) todo before a = last_seat EndBlock w (o.seat).evaluations refl (a.2).0 (a.2).1
+work_seat s o m Below Outermost j t (EndProcedure leaves ∷ w) todo before a = last_seat (EndProcedure leaves) w (o.seat).evaluations refl (a.9).0 (a.9).1
+work_seat s o m Below Outermost j t (EndLevel k ∷ []) todo before a = absurd a
+work_seat s o m Below Outermost j t (EndLevel k ∷ x ∷ w) todo before a = work_seat s o m Below Outermost j t (x ∷ w) todo before a
+work_seat s o m Below Outermost j t (EndObject ∷ w) todo before a = last_seat EndObject w (o.seat).evaluations refl (a.7).0 (a.7).1
+work_seat s o m Below Outermost j t (EndPrefixed ∷ w) todo before a = last_seat EndPrefixed w (o.seat).evaluations refl (a.2).0 (a.2).1
+work_seat s o m Below Outermost j t (EndProgram ∷ w) todo before a = last_seat EndProgram w (o.seat).evaluations refl (a.2).0 (a.2).1
+work_seat s o m Below Outermost j t (EndEvaluation wanted ∷ w) todo before a = ap (λ z. evaluates (EndEvaluation wanted ∷ z)) a.0 ∙ sym (idle_evaluates (o.seat).evaluations a.1)
 
 -- the configurations that are fine
 abbrev pub IsFine : Source → World → Configuration → Type 0
 IsFine s o c = (g : Marks) × (length g.sights ≡ length o.arrays) × Fine s (see g o) c
 
-module _ (s : Source) (o : World) (g : Marks) (long : length g.sights ≡ length o.arrays) (m : Instances) (i t : ℕ) (rest : List Activation) (top : Operates g.beneath m i rest) where
+module _ (s : Source) (o : World) (g : Marks) (long : length g.sights ≡ length o.arrays) (m : Instances) (i t : ℕ) (rest : List Activation) (top : Operates g.beneath g.seat m i rest) where
   abbrev pub Rest : Waits → Type 0
   Rest v = ChainFine s (see g o) m rest v
 
@@ -37,10 +59,35 @@ module _ (s : Source) (o : World) (g : Marks) (long : length g.sights ≡ length
   abbrev pub Hands : List Kinds → List Val → Type 0
   Hands ks vals = HandsFine s (see g o) m i ks vals
 
+  -- its work tells whether it is an evaluation
+  pub work_owner : (w : List Item) (vals : List Val) (todo : List DeclNo) (ks : List Kinds) → Work w todo ks → owner (record { instance = i; work = w; values = vals }) ≡ owner (idle g.seat i)
+  work_owner w vals todo ks work = ap (λ z. if z then None else Some i) (work_seat s (see g o) m Rest (rest ≡ []) i t w todo ks work)
+
   -- the instance goes on
   pub goes_on : (w : List Item) (vals : List Val) (todo : List DeclNo) (ks : List Kinds) → Begun s (see g o) m i t todo → Hands ks vals → Work w todo ks → IsFine s o (record { chain = record { instance = i; work = w; values = vals } ∷ rest; memory = m })
   goes_on w vals todo ks b h work =
-      (g, long, runs b.store (placed_as m i w vals rest top.placed) (headed_as m i w vals rest top.headed) (record { of_text = t; todo = todo; here = b.here; own = b.own; on = top.on; vals = vals; shown = refl; kinds = ks; hands = h; expected = ks; expects = refl; goes = work }))
+      let act : Activation = record { instance = i; work = w; values = vals } in
+      let same = work_owner w vals todo ks work in (
+        g,
+        long,
+        runs b.store (placed_as m (idle g.seat i) act rest same top.placed) (headed_as m (idle g.seat i) act rest same top.headed) (record {
+          of_text = t;
+          todo = todo;
+          here = b.here;
+          own = b.own;
+          stands_on = λ j is. top.stands_on j (sym same ∙ is);
+          seat = g.seat;
+          seated = ap (λ u. seat_on u (footing None rest)) same ∙ top.seated;
+          works = b.works;
+          vals = vals;
+          shown = refl;
+          kinds = ks;
+          hands = h;
+          expected = ks;
+          expects = refl;
+          goes = work;
+        }),
+      )
 
   -- operands one after the other
   integers_more : (n : ℕ) (ks : List Kinds) → integers n (Value (Simply kind.Integer) ∷ ks) ≡ Value (Simply kind.Integer) ∷ integers n ks
@@ -167,7 +214,7 @@ module _ (s : Source) (o : World) (g : Marks) (long : length g.sights ≡ length
         (todo, Value k ∷ ks, (k, a.1, ks, a.2, refl, refl, refl), subst (λ z. Work w todo (given z ks)) (sym a.3) work),
       )
   eval_goes ok (PlaceOf e key) r w vals todo ks b h a work =
-      goes_on w (Address (CellPlace e key None) ∷ vals) todo (AddressOf a.0 ∷ ks) b (a.2, h) (subst (λ z. Work w todo (given z ks)) (sym a.1) work)
+      goes_on w (Address (CellPlace e key None) ∷ vals) todo (AddressOf a.0 ∷ ks) b (target_lies s (see g o) m i e key a.0 b.store a.2, h) (subst (λ z. Work w todo (given z ks)) (sym a.1) work)
   eval_goes ok (ImageOf n) r w vals todo ks b h a work =
       goes_on w (Address (ImagePlace n) ∷ vals) todo (ImageAddress ∷ ks) b (a.1, h) (subst (λ z. Work w todo (given z ks)) (sym a.0) work)
   eval_goes ok (Joined line x y) r w vals todo ks b h a work =
@@ -238,7 +285,7 @@ module _ (s : Source) (o : World) (g : Marks) (long : length g.sights ≡ length
         ),
       )
   eval_goes ok (QualifiedPlaceOf e key c) r w vals todo ks b h a work =
-      goes_on w (Address (CellPlace e key (Some c)) ∷ vals) todo (ReferenceAddress c ∷ ks) b ((refl, a.1), h) (subst (λ z. Work w todo (given z ks)) (sym a.0) work)
+      goes_on w (Address (CellPlace e key (Some c)) ∷ vals) todo (ReferenceAddress c ∷ ks) b ((refl, target_lies s (see g o) m i e key (Refers c) b.store a.1), h) (subst (λ z. Work w todo (given z ks)) (sym a.0) work)
   eval_goes ok (QualifiedElementOf line c x ts) r w vals todo ks b h a work =
       goes_on (Do (Eval x) ∷ each ts (Do (QualifiedElementOp (count ts) line c) ∷ w)) vals todo ks b h (
         todo,
@@ -317,4 +364,10 @@ module _ (s : Source) (o : World) (g : Marks) (long : length g.sights ≡ length
           (todo, MatchFor a.1 ∷ ks, (a.1, ks, refl, refl, refl), (todo, given r ks, (a.1, ks, refl, ap (λ z. given z ks) (sym a.3), refl), work)),
         ),
       )
+  -- parameters by name
+  eval_goes ok (ActualOf home e) r w vals todo ks b h a work =
+      goes_on w (Actual home e ∷ vals) todo (Value (ByName a.0) ∷ ks) b (record { near = subst (λ z. Near (see g o) m i z) (sym a.2) (near_below at_itself); from = a.1; stands = subst (λ z. Stands s m z a.1) (sym a.2) a.4; typed = a.5 }, h)
+      (subst (λ z. Work w todo (given z ks)) (sym a.3) work)
+  eval_goes ok (NamedOf e key wanted) r w vals todo ks b h a work =
+      goes_on (Do (NamedOp e key wanted) ∷ w) vals todo ks b h (todo, a.1 ∷ ks, (a.0, a.1, a.2, a.4, refl, refl), subst (λ z. Work w todo (given z ks)) (sym a.3) work)
   eval_goes ok Unbuilt r w vals todo ks b h a work = absurd a

@@ -1,26 +1,32 @@
 -- Some programs are typed.
-use Rattle.std.proofs.Common.{◌≡◌, ℕ, Bool, zero, suc, [], ◌∷◌, true, false, arith, Option, Some, None, refl, subst}
+use Rattle.std.proofs.Common.{List, ◌≡◌, ℕ, Bool, zero, suc, [], ◌∷◌, true, false, arith, Option, Some, None, refl, subst}
 use Rattle.std.specs.Prelude.{slice_get}
 use Rattle.sim_base.specs.declared.numbering.DeclNo.{DeclNo}
 use Rattle.sim_scope.specs.declared.scopes.Declaration.{Declaration}
 use Rattle.sim_scope.specs.declared.types.Entry.{Entry}
 use Rattle.sim_scope.specs.declared.types.Entry.TheVariants as entry
+use Rattle.sim_scope.specs.declared.types.FormalKind.{FormalKind}
+use Rattle.sim_scope.specs.declared.types.FormalKind.TheVariants as shape
+use Rattle.sim_scope.specs.declared.types.Mode.{Mode}
+use Rattle.sim_scope.specs.declared.types.Mode.TheVariants as mode
 use Rattle.sim_scope.specs.declared.types.StandardClass.{StandardClass}
 use Rattle.sim_scope.specs.declared.types.StandardClass.TheVariants as standard
 use Rattle.sim_scope.specs.declared.types.SimType.{SimType}
 use Rattle.sim_scope.specs.declared.types.SimType.TheVariants as sim_type
 use Rattle.sim_scope.specs.Source.{Source}
+use Rattle.sim_values.specs.declared.kind.Kind.{Kind}
 use Rattle.sim_values.specs.declared.kind.Kind.TheVariants as kind
 use Rattle.sim_values.specs.declared.standard.Standard.{Standard}
 use Rattle.sim_meaning.specs.Entries.{numbers_of}
 use Rattle.sim_meaning.specs.Examples.{factorial_20, for_list, sub_block, value_array}
+use Rattle.sim_meaning.specs.Levels.{qualification}
 use Rattle.sim_meaning.specs.TextExamples.{parts}
 use Rattle.sim_meaning.specs.Texts.{StandardText, Text}
 use Rattle.sim_scope.specs.Levels.{has_level, is_simulation_block, some_level_of}
 use Rattle.sim_scope.specs.Source.{found_at}
 use Rattle.sim_meaning.specs.Attributes.{connection_at, transfer_at, own_attribute}
-use Rattle.sim_meaning.specs.Closing.{is_attribute, result_meant}
-use Rattle.sim_sound.specs.Held.{Among, ArrayOf, Holds, Simply, entry_holds, first, from_around, further, itself, later}
+use Rattle.sim_meaning.specs.Closing.{by_name, is_attribute, result_meant}
+use Rattle.sim_sound.specs.Held.{ByName, formal_holds, held_by, reference_to, Among, ArrayOf, Holds, Simply, entry_holds, first, from_around, further, itself, later}
 use Rattle.sim_sound.specs.Typed.{ProcedureThere, TextTyped, Typed, as_block}
 use Rattle.std.specs.Fmt.{digits}
 use Rattle.sim_code.specs.Arrays.{element_place, making_array, copying_array, keeping_array, finding_element, giving_back, handed_over}
@@ -91,6 +97,64 @@ no_set_procedure x name parameter result a e = subst NoSetProcedure e a
 pub no_virtual : (x : Option Entry) (result : Option SimType) (own : Option DeclNo) → NoSetProcedure x → x ≡ Some (entry.Virtual result own) → ⊥
 no_virtual x result own a e = subst NoSetProcedure e a
 
+-- values by `:=` are no references
+pub integer_apart : kind.Integer ≡ kind.Reference → ⊥
+integer_apart e = cc
+
+pub text_apart : kind.Text ≡ kind.Reference → ⊥
+text_apart e = cc
+
+-- no parameter by name
+abbrev NotNamed : Mode → Type 0
+NotNamed mode.ByName = ⊥
+NotNamed _ = Unit {0}
+
+abbrev NoName : Option Entry → Type 0
+NoName (Some (entry.Formal f)) = NotNamed f.mode
+NoName _ = Unit {0}
+
+abbrev pub NoneNamed : Source → List DeclNo → Type 0
+NoneNamed s [] = Unit {0}
+NoneNamed s (d ∷ ds) = NoName (entry_of s.tables d) × NoneNamed s ds
+
+reference_no_name : (c : Option ℕ) (k : Kind) → Some (reference_to c) ≡ Some (ByName k) → ⊥
+reference_no_name None k e = cc
+reference_no_name (Some c) k e = cc
+
+held_no_name : (s : Source) (ty : SimType) (k : Kind) → Some (held_by s ty) ≡ Some (ByName k) → ⊥
+held_no_name s (sim_type.Ref d) k e = reference_no_name (qualification s (Some (sim_type.Ref d))) k e
+held_no_name s sim_type.Integer k e = cc
+held_no_name s sim_type.Boolean k e = cc
+held_no_name s sim_type.Character k e = cc
+held_no_name s sim_type.Text k e = cc
+held_no_name s sim_type.NoneType k e = cc
+
+formal_no_name : (s : Source) (f : Mode) (g : FormalKind) (ty : Option SimType) (k : Kind) → NotNamed f → formal_holds s f g ty ≡ Some (ByName k) → ⊥
+formal_no_name s mode.ByName g ty k a e = a
+formal_no_name s mode.ByValue shape.Simple (Some ty) k a e = held_no_name s ty k e
+formal_no_name s mode.ByReference shape.Simple (Some ty) k a e = held_no_name s ty k e
+formal_no_name s mode.ByValue shape.Array (Some ty) k a e = cc
+formal_no_name s mode.ByReference shape.Array (Some ty) k a e = cc
+formal_no_name s mode.ByValue shape.Simple None k a e = cc
+formal_no_name s mode.ByReference shape.Simple None k a e = cc
+formal_no_name s mode.ByValue shape.Array None k a e = cc
+formal_no_name s mode.ByReference shape.Array None k a e = cc
+formal_no_name s mode.ByValue shape.Procedure ty k a e = cc
+formal_no_name s mode.ByReference shape.Procedure ty k a e = cc
+
+entry_no_name : (s : Source) (x : Option Entry) (k : Kind) → NoName x → entry_holds s true x ≡ Some (ByName k) → ⊥
+entry_no_name s (Some (entry.Variable ty)) k a e = held_no_name s ty k e
+entry_no_name s (Some (entry.Constant ty)) k a e = cc
+entry_no_name s (Some (entry.Array ty n)) k a e = cc
+entry_no_name s (Some (entry.Formal f)) k a e = formal_no_name s f.mode f.kind f.ty k a e
+entry_no_name s None k a e = cc
+entry_no_name s (Some _) k a e = cc
+
+pub none_named : (s : Source) (d : DeclNo) (k : Kind) (ds : List DeclNo) → NoneNamed s ds → Among d ds → entry_holds s true (entry_of s.tables d) ≡ Some (ByName k) → ⊥
+none_named s d k [] a among e = none_among d among
+none_named s _ k (d ∷ ds) a first e = entry_no_name s (entry_of s.tables d) k a.0 e
+none_named s d k (x ∷ ds) a (later b) e = none_named s d k ds a.1 b e
+
 pub true_never : (b : Bool) → b ≡ false → b ≡ true → ⊥
 true_never b off on = cc
 
@@ -124,7 +188,7 @@ sub_inner = record {
   made = λ d k a e. a;
   own = λ d a. a;
   statements = (
-    (kind.Integer, ((refl, record { found = 1; around = itself; instance = refl; level = refl }, (refl, tt)), tt), (kind.Integer, kind.Integer, (refl, refl), refl, (refl, record { found = 1; around = itself; instance = refl; level = refl }, (refl, tt)), refl)),
+    (kind.Integer, ((integer_apart, (refl, record { found = 1; around = itself; instance = refl; level = refl }, (refl, tt))), tt), (kind.Integer, kind.Integer, (refl, refl), refl, (refl, record { found = 1; around = itself; instance = refl; level = refl }, (refl, tt)), refl)),
     ((None, (((refl, refl, refl), refl), ((refl, record { found = 1; around = itself; instance = refl; level = refl }, (refl, tt)), (refl, tt))), refl), tt),
   );
 }
@@ -144,7 +208,7 @@ sub_outer = record {
   made = sub_made;
   own = λ d a. absurd (none_among d a);
   statements = (
-    (kind.Integer, ((refl, record { found = 0; around = itself; instance = refl; level = refl }), ((refl, record { found = 0; around = itself; instance = refl; level = refl }), tt)), refl),
+    (kind.Integer, ((integer_apart, (refl, record { found = 0; around = itself; instance = refl; level = refl })), ((integer_apart, (refl, record { found = 0; around = itself; instance = refl; level = refl })), tt)), refl),
     (
       record { number = 1; around = refl; stands_in = refl; begin = _; declarations = _; statements = _; is = refl },
       (
@@ -268,7 +332,7 @@ f_inner = record {
   formals = (Simply kind.Integer, refl, refl, tt);
   body = (
     kind.Integer,
-    ((refl, itself), tt),
+    ((integer_apart, (refl, itself)), tt),
     (
       (kind.Integer, kind.Boolean, (tt, refl), refl, (refl, record { found = 1; around = itself; instance = refl; level = refl }), refl),
       refl,
@@ -399,7 +463,7 @@ l_made d k first e = absurd (cc)
 l_made d k (later a) e = a
 
 l_outer : TextHolds for_list 0 (text for_list 0)
-unfolding digits element_place making_array copying_array keeping_array finding_element giving_back handed_over stopping no_rule ticking taking entering having when computing choosing popping pop_many pop_plain pop_truth pop_integers pop_operands pop_text answering applying_one applying_two testing_step performing putting_back assigning making_text joining at_level kept_on pushing index level_of_machine cell_at jumping block_at own_block leaving with_result putting put_back is_text home_of first_cells leaving_of_meaning constants_of putting_of_steps back_of_steps text_constants text_constant is_variable stream_of own_result own_match is_inside text is_class_free declared_at constant_of calculate compare compare_as_texts connect same_objects same_texts two_of one_of step_test take_integer take_character take_text take_nothing row_of standard_effect default_mode mode_allowed marked type_named result_named mode_named first_of_procedure first_of_class variable_marks array_marks parameter_marks moded_marks specified_marks headed_marks procedure_marks class_marks virtual_name_marks program_marks inner_marks declaring of_segment of_mode_part of_specification of_specifier of_virtual of_heading declared_by declarations_of run_of_runs lookup shown_of_scopes encloser searched block_at_of_scopes declaration_from binding entry_of formals_of formal_of result_of source_of denoted type_at line_at level_of block_of block_around standard_name text_attribute sysin_attribute sysout_attribute signature is_real_function is_random_drawing is_file_or_layout is_environment_name undeclared program_events of_statement of_branch of_arm of_block of_whole of_class_body of_declaration accessible protects is_kind some_around_of some_around base brought_by level_shows shown_of is_detach ends_search outward virtual_of represented standard_at qualified_marks qualified_result has_level some_level_of found_at connection_at transfer_at is_attribute result_meant own_attribute
+unfolding digits element_place making_array copying_array keeping_array finding_element giving_back handed_over stopping no_rule ticking taking entering having when computing choosing popping pop_many pop_plain pop_truth pop_integers pop_operands pop_text answering applying_one applying_two testing_step performing putting_back assigning making_text joining at_level kept_on pushing index level_of_machine cell_at jumping block_at own_block leaving with_result putting put_back is_text home_of first_cells leaving_of_meaning constants_of putting_of_steps back_of_steps text_constants text_constant is_variable stream_of own_result own_match is_inside text is_class_free declared_at constant_of calculate compare compare_as_texts connect same_objects same_texts two_of one_of step_test take_integer take_character take_text take_nothing row_of standard_effect default_mode mode_allowed marked type_named result_named mode_named first_of_procedure first_of_class variable_marks array_marks parameter_marks moded_marks specified_marks headed_marks procedure_marks class_marks virtual_name_marks program_marks inner_marks declaring of_segment of_mode_part of_specification of_specifier of_virtual of_heading declared_by declarations_of run_of_runs lookup shown_of_scopes encloser searched block_at_of_scopes declaration_from binding entry_of formals_of formal_of result_of source_of denoted type_at line_at level_of block_of block_around standard_name text_attribute sysin_attribute sysout_attribute signature is_real_function is_random_drawing is_file_or_layout is_environment_name undeclared program_events of_statement of_branch of_arm of_block of_whole of_class_body of_declaration accessible protects is_kind some_around_of some_around base brought_by level_shows shown_of is_detach ends_search outward virtual_of represented standard_at qualified_marks qualified_result has_level some_level_of found_at connection_at transfer_at is_attribute result_meant own_attribute by_name
 l_outer = record {
   no_formals = (tt, tt);
   arrays = tt;
@@ -409,7 +473,7 @@ l_outer = record {
   statements = (
     (
       kind.Integer,
-      (refl, record { found = 0; around = itself; instance = refl; level = refl }),
+      (refl, (refl, record { found = 0; around = itself; instance = refl; level = refl })),
       ((refl, refl, (refl, refl), refl), (refl, (((kind.Integer, kind.Integer, (refl, refl), refl, (refl, record { found = 0; around = itself; instance = refl; level = refl }), refl), (kind.Integer, kind.Boolean, (tt, refl), refl, (refl, record { found = 0; around = itself; instance = refl; level = refl }), refl)), tt))),
       (None, (((refl, refl, refl), refl), ((refl, record { found = 0; around = itself; instance = refl; level = refl }), (refl, tt))), refl),
     ),
@@ -511,7 +575,7 @@ t_outer = record {
   distinct = tt;
   made = t_made;
   own = λ d a. absurd (none_among d a);
-  statements = ((kind.Text, ((refl, record { found = 0; around = itself; instance = refl; level = refl }), tt), (((refl, refl, refl), refl), (refl, tt))), ((None, ((refl, record { found = 0; around = itself; instance = refl; level = refl }), (((refl, refl, refl), refl), kind.Integer ∷ [], refl, ((refl, refl), tt))), refl), ((kind.Text, ((refl, record { found = 0; around = itself; instance = refl; level = refl }), tt), ((refl, record { found = 0; around = itself; instance = refl; level = refl }), (((refl, refl, refl), refl), kind.Integer ∷ kind.Integer ∷ [], refl, (refl, (refl, tt))))), ((kind.Text, ((refl, (refl, record { found = 0; around = itself; instance = refl; level = refl })), tt), (_, refl, refl)), ((None, (((refl, refl, refl), refl), ((refl, record { found = 0; around = itself; instance = refl; level = refl }), tt)), refl), ((None, (((refl, refl, refl), refl), (refl, tt)), refl), ((None, (((refl, refl, refl), refl), (((refl, record { found = 0; around = itself; instance = refl; level = refl }), (((refl, refl, refl), refl), [], refl, tt)), (refl, tt))), refl), ((None, (((refl, refl, refl), refl), (refl, tt)), refl), ((None, (((refl, refl, refl), refl), ((kind.Text, kind.Text, (refl, refl), refl, (((refl, refl, refl), refl), (((refl, record { found = 0; around = itself; instance = refl; level = refl }), (((refl, refl, refl), refl), [], refl, tt)), tt)), (_, refl, refl)), tt)), refl), ((None, (((refl, refl, refl), refl), tt), refl), tt))))))))));
+  statements = ((kind.Text, ((text_apart, (refl, record { found = 0; around = itself; instance = refl; level = refl })), tt), (((refl, refl, refl), refl), (refl, tt))), ((None, ((refl, record { found = 0; around = itself; instance = refl; level = refl }), (((refl, refl, refl), refl), kind.Integer ∷ [], refl, ((refl, refl), tt))), refl), ((kind.Text, ((text_apart, (refl, record { found = 0; around = itself; instance = refl; level = refl })), tt), ((refl, record { found = 0; around = itself; instance = refl; level = refl }), (((refl, refl, refl), refl), kind.Integer ∷ kind.Integer ∷ [], refl, (refl, (refl, tt))))), ((kind.Text, ((refl, (refl, record { found = 0; around = itself; instance = refl; level = refl })), tt), (_, refl, refl)), ((None, (((refl, refl, refl), refl), ((refl, record { found = 0; around = itself; instance = refl; level = refl }), tt)), refl), ((None, (((refl, refl, refl), refl), (refl, tt)), refl), ((None, (((refl, refl, refl), refl), (((refl, record { found = 0; around = itself; instance = refl; level = refl }), (((refl, refl, refl), refl), [], refl, tt)), (refl, tt))), refl), ((None, (((refl, refl, refl), refl), (refl, tt)), refl), ((None, (((refl, refl, refl), refl), ((kind.Text, kind.Text, (refl, refl), refl, (((refl, refl, refl), refl), (((refl, record { found = 0; around = itself; instance = refl; level = refl }), (((refl, refl, refl), refl), [], refl, tt)), tt)), (_, refl, refl)), tt)), refl), ((None, (((refl, refl, refl), refl), tt), refl), tt))))))))));
 }
 
 t_texts : (k : ℕ) → TextHolds parts k (text parts k)
@@ -600,7 +664,7 @@ v_rows (suc (suc (suc n))) = tt
 
 v_inner : TextHolds value_array 1 (text value_array 1)
 unfolding digits element_place making_array copying_array keeping_array finding_element giving_back handed_over stopping no_rule ticking taking entering having when computing choosing popping pop_many pop_plain pop_truth pop_integers pop_operands pop_text answering applying_one applying_two testing_step performing putting_back assigning making_text joining at_level kept_on pushing index level_of_machine cell_at jumping block_at own_block leaving with_result putting put_back is_text home_of first_cells leaving_of_meaning constants_of putting_of_steps back_of_steps text_constants text_constant is_variable stream_of own_result own_match is_inside text is_class_free declared_at constant_of calculate compare compare_as_texts connect same_objects same_texts two_of one_of step_test take_integer take_character take_text take_nothing row_of standard_effect default_mode mode_allowed marked type_named result_named mode_named first_of_procedure first_of_class variable_marks array_marks parameter_marks moded_marks specified_marks headed_marks procedure_marks class_marks virtual_name_marks program_marks inner_marks declaring of_segment of_mode_part of_specification of_specifier of_virtual of_heading declared_by declarations_of run_of_runs lookup shown_of_scopes encloser searched block_at_of_scopes declaration_from binding entry_of formals_of formal_of result_of source_of denoted type_at line_at level_of block_of block_around standard_name text_attribute sysin_attribute sysout_attribute signature is_real_function is_random_drawing is_file_or_layout is_environment_name undeclared program_events of_statement of_branch of_arm of_block of_whole of_class_body of_declaration accessible protects is_kind some_around_of some_around base brought_by level_shows shown_of is_detach ends_search outward virtual_of represented standard_at qualified_marks qualified_result has_level some_level_of found_at connection_at transfer_at is_attribute result_meant own_attribute
-v_inner = record { result = tt; formals = (ArrayOf (Simply kind.Integer), refl, refl, tt); body = (kind.Integer, ((refl, record { found = 1; around = itself; instance = refl; level = refl }, (refl, tt)), tt), refl) }
+v_inner = record { result = tt; formals = (ArrayOf (Simply kind.Integer), refl, refl, tt); body = (kind.Integer, ((integer_apart, (refl, record { found = 1; around = itself; instance = refl; level = refl }, (refl, tt))), tt), refl) }
 
 v_made : (d : DeclNo) (k : Holds) → Among d (numbers_of value_array 0) → entry_holds value_array false (entry_of value_array.tables d) ≡ Some (ArrayOf k) → Among d (number 2 ∷ [])
 unfolding digits element_place making_array copying_array keeping_array finding_element giving_back handed_over stopping no_rule ticking taking entering having when computing choosing popping pop_many pop_plain pop_truth pop_integers pop_operands pop_text answering applying_one applying_two testing_step performing putting_back assigning making_text joining at_level kept_on pushing index level_of_machine cell_at jumping block_at own_block leaving with_result putting put_back is_text home_of first_cells leaving_of_meaning constants_of putting_of_steps back_of_steps text_constants text_constant is_variable stream_of own_result own_match is_inside text is_class_free declared_at constant_of calculate compare compare_as_texts connect same_objects same_texts two_of one_of step_test take_integer take_character take_text take_nothing row_of standard_effect default_mode mode_allowed marked type_named result_named mode_named first_of_procedure first_of_class variable_marks array_marks parameter_marks moded_marks specified_marks headed_marks procedure_marks class_marks virtual_name_marks program_marks inner_marks declaring of_segment of_mode_part of_specification of_specifier of_virtual of_heading declared_by declarations_of run_of_runs lookup shown_of_scopes encloser searched block_at_of_scopes declaration_from binding entry_of formals_of formal_of result_of source_of denoted type_at line_at level_of block_of block_around standard_name text_attribute sysin_attribute sysout_attribute signature is_real_function is_random_drawing is_file_or_layout is_environment_name undeclared program_events of_statement of_branch of_arm of_block of_whole of_class_body of_declaration accessible protects is_kind some_around_of some_around base brought_by level_shows shown_of is_detach ends_search outward virtual_of represented standard_at qualified_marks qualified_result has_level some_level_of found_at connection_at transfer_at is_attribute result_meant own_attribute

@@ -20,11 +20,12 @@ use Rattle.sim_scope.specs.declared.types.SimType.TheVariants as t
 use Rattle.sim_values.specs.declared.kind.Kind.{Kind}
 use Rattle.sim_values.specs.declared.kind.Kind.TheVariants as kind
 use Rattle.sim_meaning.specs.Levels.{has_levels, qualification}
-use Rattle.sim_sound.specs.Held.{Among, ArrayOf, Holds, IsOfKind, Refers, Simply, entry_holds, first, formal_holds, held_by, key_holds, later, reference_to, result_holds}
+use Rattle.sim_sound.specs.Held.{Among, ArrayOf, ByName, Holds, IsOfKind, Refers, Simply, entry_holds, first, formal_holds, held_by, key_holds, later, reference_to, result_holds}
 use Rattle.sim_sound.specs.Typed.{FormalsAre, NoFormal, NoFormals, ResultWritten}
 use Rattle.sim_sound.proofs.Changes.{cell_of, equal_same}
 use Rattle.sim_sound.proofs.Later.{All, Copies, Later, deep_later}
-use Rattle.sim_sound.proofs.Sound.{AllArrays, CellFine, CellsFine, DeepFine, HandsFine, KeyAmong, Kinds, ValFine, first_key, formal_kinds, holds_of, in_hand, key_of, later_key, onto}
+use Rattle.sim_sound.proofs.Sound.{formal_kinds, holds_of, in_hand, onto}
+use Rattle.sim_sound.proofs.Values.{AllArrays, CellFine, CellsFine, DeepFine, HandsFine, KeyAmong, Kinds, ValFine, first_key, key_of, later_key}
 
 -- the first value of a kind names no object
 pub first_value : (s : Source) (o : AllArrays) (m : Instances) (j : ℕ) (k : Kind) (h : Holds) → IsOfKind h k → ValFine s o m j h (Of (initial k))
@@ -39,6 +40,7 @@ first_value s o m j kind.Boolean (Refers c) e = absurd (cc)
 first_value s o m j kind.Character (Refers c) e = absurd (cc)
 first_value s o m j kind.Text (Refers c) e = absurd (cc)
 first_value s o m j k (ArrayOf h) e = absurd e
+first_value s o m j k (ByName h) e = absurd e
 
 reference_kind : (c : Option ℕ) → IsOfKind (reference_to c) kind.Reference
 reference_kind None = refl
@@ -243,6 +245,7 @@ some_first : (b : Bool) (h : Holds) (hs : List (Option Kinds)) → AllSome hs �
 some_first true (ArrayOf k) hs a = a
 some_first true (Simply k) hs a = a
 some_first true (Refers c) hs a = a
+some_first true (ByName k) hs a = a
 some_first false h hs a = a
 
 pub formals_some : (s : Source) (ds : List DeclNo) (fs : List Formal) → FormalsAre s ds fs → AllSome (formal_kinds s fs)

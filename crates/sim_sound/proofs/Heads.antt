@@ -1,17 +1,17 @@
 -- System heads, and the resumed objects that stand above them.
 use Rattle.std.proofs.Common.{◌≡◌, ◌≢◌, ◌<◌, ◌≤◌, ◌+◌, ℕ, zero, suc, Bool, true, false, List, [], ◌∷◌, ◌++◌, length, Option, Some, None, ◌⊎◌, ⊎_elim, refl, sym, ap, ◌∙◌, subst, arith}
 use Rattle.std.proofs.lemmas.Bool.{cases_eq}
-use Rattle.std.specs.Prelude.{◌==◌, ◌&&◌, if◌then◌else◌, slice_get, slice_index_or}
-use Rattle.sim_chains.specs.Chains.{is_first, once_if, times_above}
+use Rattle.std.specs.Prelude.{◌&&◌, if◌then◌else◌, slice_get, slice_index_or}
+use Rattle.sim_chains.specs.Chains.{is_first, is_instance, once_if, times_above}
 use Rattle.sim_chains.specs.Components.{Components, DetachedObject, NoObject, ResumedObject, Standing, TerminatedObject, standing_of}
 use Rattle.sim_chains.specs.Heads.{head_within}
 use Rattle.sim_chains.specs.WellFormed.{IsWellFormed, is_object, over_kept, times_above_in}
 use Rattle.sim_scope.specs.Source.{Source}
 use Rattle.sim_code.specs.Instances.{Instance, encloser_in, encloser_of, given_in, is_object_at, or_first, system_head}
-use Rattle.sim_meaning.specs.Pending.{Activation, Held, Instances, Item, Val, owner}
+use Rattle.sim_meaning.specs.Pending.{Activation, Held, Instances, owner}
 use Rattle.sim_sound.proofs.Lists.{other_numbers, same_some, set_other, set_same}
 use Rattle.sim_sound.proofs.Running.{Headed, Placed, StoreFine, parts}
-use Rattle.sim_sound.proofs.Sound.{AllArrays}
+use Rattle.sim_sound.proofs.Values.{AllArrays}
 
 -- ---- how instances stand
 
@@ -125,23 +125,31 @@ headed_on m n chain chain' same heads still h = record {
 }
 
 -- it does not hang on the work of what operates and its values in hand
-pub headed_as : (m : Instances) (i : ℕ) (w : List Item) (vals : List Val) (rest : List Activation) → Headed m (record { instance = i; work = []; values = [] } ∷ rest) → Headed m (record { instance = i; work = w; values = vals } ∷ rest)
-headed_as m i w vals rest h = headed_on m m _ _ refl (λ x e. refl) (λ x y e. le_same (times_above owner x y (record { instance = i; work = w; values = vals } ∷ rest))) h
-
-pub headed_first : (m : Instances) (a : Activation) (rest : List Activation) → Headed m (a ∷ rest) → Headed m (record { instance = a.instance; work = []; values = [] } ∷ rest)
-headed_first m a rest h = headed_on m m _ _ refl (λ x e. refl) (λ x y e. le_same (times_above owner x y (a ∷ rest))) h
+pub headed_as : (m : Instances) (a b : Activation) (rest : List Activation) → owner b ≡ owner a → Headed m (a ∷ rest) → Headed m (b ∷ rest)
+headed_as m a b rest same h =
+    headed_on m m (a ∷ rest) (b ∷ rest) refl (λ x e. refl)
+    (λ x y e. subst (λ u. once_if (is_instance x (owner a) && is_first owner y rest) + times_above owner x y rest ≤ once_if (is_instance x u && is_first owner y rest) + times_above owner x y rest) (sym same) (le_same (times_above owner x y (a ∷ rest)))) h
 
 -- what is no resumed object goes from the top
-pub headed_left : (m n : Instances) (i : ℕ) (rest : List Activation) → n.standings ≡ m.standings → ((j : ℕ) → encloser_of n j ≡ encloser_of m j) → (main : Option (List Activation)) → slice_get m.standings i ≡ Some (NoObject main) → Headed m (record { instance = i; work = []; values = [] } ∷ rest) → Headed n rest
-headed_left m n i rest same enclosers main is h =
-    headed_on m n (record { instance = i; work = []; values = [] } ∷ rest) rest same (λ x e. heads_kept m n enclosers (λ j. ap (λ z. is_object (slice_index_or z j (NoObject None))) same) x)
+pub headed_left : (m n : Instances) (i : ℕ) (a : Activation) (rest : List Activation) → owner a ≡ Some i → n.standings ≡ m.standings → ((j : ℕ) → encloser_of n j ≡ encloser_of m j) → (main : Option (List Activation)) → slice_get m.standings i ≡ Some (NoObject main) → Headed m (a ∷ rest) → Headed n rest
+headed_left m n i a rest own same enclosers main is h =
+    headed_on m n (a ∷ rest) rest same (λ x e. heads_kept m n enclosers (λ j. ap (λ z. is_object (slice_index_or z j (NoObject None))) same) x)
     (λ x y e. let none = apart x y (other x e) in omega (arith, none)) h
   where
     other : (x : ℕ) → slice_index_or m.standings x (NoObject None) ≡ ResumedObject → i ≢ x
     other x e here = let it = at_is m.standings i (NoObject main) (NoObject None) is in let as_it = ap (λ z. slice_index_or m.standings z (NoObject None)) here in cc
 
-    apart : (x y : ℕ) → i ≢ x → once_if ((i == x) && is_first owner y rest) ≡ 0
-    apart x y differ = ap (λ b. once_if (b && is_first owner y rest)) (other_numbers i x differ)
+    apart : (x y : ℕ) → i ≢ x → once_if (is_instance x (owner a) && is_first owner y rest) ≡ 0
+    apart x y differ = ap (λ u. once_if (is_instance x u && is_first owner y rest)) own ∙ ap (λ b. once_if (b && is_first owner y rest)) (other_numbers i x differ)
+
+-- and so does an evaluation, or comes there
+pub headed_without : (m : Instances) (a : Activation) (rest : List Activation) → owner a ≡ None → Headed m (a ∷ rest) → Headed m rest
+headed_without m a rest own h =
+    headed_on m m (a ∷ rest) rest refl (λ x e. refl)
+    (λ x y e. let none : once_if (is_instance x (owner a) && is_first owner y rest) ≡ 0 = ap (λ u. once_if (is_instance x u && is_first owner y rest)) own in omega (arith, none)) h
+
+pub headed_with : (m : Instances) (a : Activation) (rest : List Activation) → Headed m rest → Headed m (a ∷ rest)
+headed_with m a rest h = headed_on m m rest (a ∷ rest) refl (λ x e. refl) (λ x y e. omega arith) h
 
 -- what is given back keeps its encloser
 pub given_encloser : (m : Instances) (i : ℕ) (y : Option (Instance (List Held))) → slice_get m.instances i ≡ y → (j : ℕ) → encloser_of (given_in m i y) j ≡ encloser_of m j

@@ -4,19 +4,19 @@ use Rattle.std.proofs.lemmas.Bool.{cases_eq}
 use Rattle.std.specs.Prelude.{◌&&◌, not, if◌then◌else◌, slice_get}
 use Rattle.std.specs.List.{list_any}
 use Rattle.sim_scope.specs.Source.{Source}
-use Rattle.sim_code.specs.Instances.{Instance, encloser_in, ends_in, is_given_at_end, kept_further, kept_on, live, with_instance}
+use Rattle.sim_code.specs.Instances.{Instance, encloser_in, ends_in, is_given_at_end, kept_at, kept_further, kept_on, live, with_instance}
 use Rattle.sim_code.specs.Instances as instances
 use Rattle.sim_meaning.specs.Entries.{formals_of, instances_kept, is_held}
 use Rattle.sim_meaning.specs.Pending.{Activation, Held, Instances, owner}
 use Rattle.sim_meaning.specs.Texts.{is_class_free}
 use Rattle.sim_sound.proofs.Chains.{ends_with}
-use Rattle.sim_sound.proofs.Later.{All, Later, StillThere, instance_later, kept_all, kept_stays, lasts_later, later_none, object_later, plain_later}
+use Rattle.sim_sound.proofs.Later.{All, Later, StillThere, owner_is, instance_later, kept_all, kept_stays, lasts_later, later_none, object_later, plain_later}
 use Rattle.sim_sound.proofs.Lists.{if_false, same_some, set_len, set_other, set_same}
 use Rattle.sim_sound.proofs.Members.{StillAll, members_later}
 use Rattle.sim_sound.proofs.Moves.{SameOnes, instance_there, later_nears, near_stays, same_ones}
-use Rattle.sim_sound.proofs.Running.{ChainFine, StandsOn, StoreFine, first_of}
+use Rattle.sim_sound.proofs.Running.{ChainFine, StandsOn, StoreFine, first_of, or_below}
 use Rattle.sim_sound.proofs.Simulating.{simulations_later}
-use Rattle.sim_sound.proofs.Sound.{AllArrays, Beneath, InstanceFine, Near, Stays, Waits, at_itself, elements_of, near_below, near_staying, one_lower}
+use Rattle.sim_sound.proofs.Values.{AllArrays, Beneath, InstanceFine, Near, Stays, Waits, at_itself, at_seat, elements_of, near_below, near_staying, one_lower}
 
 -- ---- what is as before, but for what is kept
 
@@ -64,15 +64,19 @@ one_kept m j x is = record {
 pub all_kept : (chain : List Activation) (m : Instances) → AsBefore m (kept_on owner chain m)
 unfolding kept_on
 all_kept [] m = as_before m
-all_kept (a ∷ chain) m = by_there (slice_get m.instances a.instance) refl (λ n. all_kept chain n)
+all_kept (a ∷ chain) m = by_owner (owner a) (λ n. all_kept chain n)
   where
-    by_there : (x : Option (Instance (List Held))) → slice_get m.instances a.instance ≡ x → ((n : Instances) → AsBefore n (kept_on owner chain n)) → AsBefore m (kept_further (kept_on owner chain) m a.instance x)
-    by_there None e go = as_before m
-    by_there (Some x) e go = by_flag x.passing
+    by_there : (j : ℕ) (x : Option (Instance (List Held))) → slice_get m.instances j ≡ x → ((n : Instances) → AsBefore n (kept_on owner chain n)) → AsBefore m (kept_further (kept_on owner chain) m j x)
+    by_there j None e go = as_before m
+    by_there j (Some x) e go = by_flag x.passing
       where
-        by_flag : (b : Bool) → AsBefore m (if b then kept_on owner chain (with_kept m a.instance x) else m)
-        by_flag true = before_then m (with_kept m a.instance x) (kept_on owner chain (with_kept m a.instance x)) (one_kept m a.instance x e) (go (with_kept m a.instance x))
+        by_flag : (b : Bool) → AsBefore m (if b then kept_on owner chain (with_kept m j x) else m)
+        by_flag true = before_then m (with_kept m j x) (kept_on owner chain (with_kept m j x)) (one_kept m j x e) (go (with_kept m j x))
         by_flag false = as_before m
+
+    by_owner : (u : Option ℕ) → ((n : Instances) → AsBefore n (kept_on owner chain n)) → AsBefore m (kept_at (kept_on owner chain) m u)
+    by_owner None go = go m
+    by_owner (Some j) go = by_there j (slice_get m.instances j) refl go
 
 -- ---- what lives, and what is given back at its end
 
@@ -145,19 +149,29 @@ module _ (m n : Instances) (a : AsBefore m n) where
 
 -- ---- what is below what is kept stays
 
--- each instance on a chain lives, and stands on the next one if it is given back at its end
+-- an instance lives, and stands on the next one if it is given back at its end
+record OneStandsOn (o : AllArrays) (m : Instances) (j : ℕ) (under : Option ℕ) : Type 0 where
+  on : StandsOn o.beneath m j under
+  it : Instance (List Held)
+  lives : live m j ≡ Some it
+
+abbrev OwnerStandsOn : AllArrays → Instances → Option ℕ → (under : Option ℕ) → Type 0
+OwnerStandsOn o m None under = Unit {0}
+OwnerStandsOn o m (Some j) under = OneStandsOn o m j under
+
+-- so does each on a chain; evaluations are passed over
 abbrev AllStandOn : AllArrays → Instances → List Activation → Type 0
 AllStandOn o m [] = Unit {0}
-AllStandOn o m (a ∷ rest) = StandsOn o.beneath m a.instance (first_of rest) × ((x : Instance (List Held)) × (live m a.instance ≡ Some x)) × AllStandOn o m rest
+AllStandOn o m (a ∷ rest) = OwnerStandsOn o m (owner a) (first_of rest) × AllStandOn o m rest
 
 chain_stands : (s : Source) (o : AllArrays) (m : Instances) (chain : List Activation) (w : Waits) → ChainFine s o m chain w → AllStandOn o m chain
 chain_stands s o m [] w c = tt
 chain_stands s o m (a ∷ rest) w c =
-    (c.on, ((c.here).now, (c.here).lives), ⊎_elim (λ b. chain_stands s o m rest b.0 b.1) (λ e. subst (AllStandOn o m) (sym e) tt) (ends_with s o m (λ v. ChainFine s o m rest v) (rest ≡ []) a.instance c.of_text a.work c.todo c.expected c.goes))
-
-first_there : (chain : List Activation) (k : ℕ) → first_of chain ≡ Some k → (a : Activation) × (rest : List Activation) × (chain ≡ a ∷ rest) × (a.instance ≡ k)
-first_there [] k e = absurd (cc)
-first_there (a ∷ rest) k e = (a, rest, refl, cc)
+    (owned (owner a) refl, ⊎_elim (λ b. chain_stands s o m rest b.0 b.1) (λ e. subst (AllStandOn o m) (sym e) tt) (ends_with s (at_seat o c.seat) m (λ v. ChainFine s o m rest v) (rest ≡ []) a.instance c.of_text a.work c.todo c.expected c.goes))
+  where
+    owned : (u : Option ℕ) → owner a ≡ u → OwnerStandsOn o m u (first_of rest)
+    owned None e = tt
+    owned (Some j) e = record { on = c.stands_on j e; it = (c.here).now; lives = ap (live m) (sym (owner_is a j e)) ∙ (c.here).lives }
 
 module _ (o : AllArrays) (m : Instances) where
   -- of the instances n some are kept already
@@ -167,56 +181,60 @@ module _ (o : AllArrays) (m : Instances) where
   first_lasts : (chain : List Activation) (n : Instances) → Lasting chain n
   unfolding kept_on
   first_lasts [] n same stand j e is way = absurd (cc)
-  first_lasts (a ∷ rest) n same stand j e is way = by_there (slice_get n.instances a.instance) refl (λ p. first_lasts rest p)
+  first_lasts (a ∷ rest) n same stand j e is way = by_owner (owner a) stand.0 is (λ p. first_lasts rest p)
     where
-      here : a.instance ≡ j
-      here = cc
-
-      it : Instance (List Held)
-      it = (stand.1).0
-
-      lives_now : (kept : Bool) × (live n a.instance ≡ Some (record it { kept = kept })) × (it.kept ≡ true → kept ≡ true)
-      lives_now = lives_still m n same (slice_get m.instances a.instance) (slice_get n.instances a.instance) (same.each a.instance) it (stand.1).1
-
-      -- an instance that is no class-free sub-block or procedure stays
-      by_itself : it.passing ≡ false → Stays n e
-      by_itself flag = stays_still m n same e (near_stays o m j e (subst (Stays m) here (record { now = it; lives = (stand.1).1; stays = ap (λ z. z && not it.kept) flag })) (near_below way))
-
-      by_there : (x : Option (Instance (List Held))) → slice_get n.instances a.instance ≡ x → ((p : Instances) → Lasting rest p) → Stays (kept_further (kept_on owner rest) n a.instance x) e
-      by_there None f go = absurd (let there = (instance_there (slice_get n.instances a.instance) (record it { kept = lives_now.0 }) lives_now.1).0 in cc)
-      by_there (Some x) f go = by_flag x.passing refl
+      by_owner : (u : Option ℕ) → OwnerStandsOn o m u (first_of rest) → or_below u (first_of rest) ≡ Some j → ((p : Instances) → Lasting rest p) → Stays (kept_at (kept_on owner rest) n u) e
+      by_owner None one is go = go n same stand.1 j e is way
+      by_owner (Some i) one is go = by_there (slice_get n.instances i) refl
         where
-          there : (slice_get n.instances a.instance ≡ Some (record it { kept = lives_now.0 })) × (it.given_back ≡ false)
-          there = instance_there (slice_get n.instances a.instance) (record it { kept = lives_now.0 }) lives_now.1
+          here : i ≡ j
+          here = cc
 
-          is_x : record it { kept = lives_now.0 } ≡ x
-          is_x = same_some (slice_get n.instances a.instance) (record it { kept = lives_now.0 }) x there.0 f
+          it : Instance (List Held)
+          it = one.it
 
-          next : Instances
-          next = with_kept n a.instance x
+          lives_now : (kept : Bool) × (live n i ≡ Some (record it { kept = kept })) × (it.kept ≡ true → kept ≡ true)
+          lives_now = lives_still m n same (slice_get m.instances i) (slice_get n.instances i) (same.each i) it one.lives
 
-          kept_here : Stays next a.instance
-          kept_here = record {
-            now = record x { kept = true };
-            lives = ap instances.unless_given (set_same n.instances a.instance x (record x { kept = true }) f) ∙ if_false x.given_back None (Some (record x { kept = true })) (ap (λ z. z.given_back) (sym is_x) ∙ there.1);
-            stays = never x.passing;
-          }
+          -- an instance that is no class-free sub-block or procedure stays
+          by_itself : it.passing ≡ false → Stays n e
+          by_itself flag = stays_still m n same e (near_stays o m j e (subst (Stays m) here (record { now = it; lives = one.lives; stays = ap (λ z. z && not it.kept) flag })) (near_below way))
+
+          by_there : (x : Option (Instance (List Held))) → slice_get n.instances i ≡ x → Stays (kept_further (kept_on owner rest) n i x) e
+          by_there None f = absurd (let there = (instance_there (slice_get n.instances i) (record it { kept = lives_now.0 }) lives_now.1).0 in cc)
+          by_there (Some x) f = by_flag x.passing refl
             where
-              never : (b : Bool) → (b && false) ≡ false
-              never true = refl
-              never false = refl
+              there : (slice_get n.instances i ≡ Some (record it { kept = lives_now.0 })) × (it.given_back ≡ false)
+              there = instance_there (slice_get n.instances i) (record it { kept = lives_now.0 }) lives_now.1
 
-          further : (k : ℕ) → Beneath o m k e → first_of rest ≡ Some k → Stays (kept_on owner rest next) e
-          further k way on = go next (before_then m n next same (one_kept n a.instance x f)) (stand.2) k e on way
+              is_x : record it { kept = lives_now.0 } ≡ x
+              is_x = same_some (slice_get n.instances i) (record it { kept = lives_now.0 }) x there.0 f
 
-          by_way : (i : ℕ) → a.instance ≡ i → Beneath o m i e → Stays (kept_on owner rest next) e
-          by_way i same at_itself = stays_still next (kept_on owner rest next) (all_kept rest next) i (subst (Stays next) same kept_here)
-          by_way i same (one_lower {k = k} ends on p) =
-              further k p (same_some (slice_get o.beneath i) (first_of rest) (Some k) (subst (λ z. slice_get o.beneath z ≡ Some (first_of rest)) same (stand.0 (ap (is_given_at_end m) same ∙ ends))) on)
+              next : Instances
+              next = with_kept n i x
 
-          by_flag : (b : Bool) → x.passing ≡ b → Stays (if b then kept_on owner rest next else n) e
-          by_flag true flag = by_way j here way
-          by_flag false flag = by_itself (ap (λ z. z.passing) is_x ∙ flag)
+              kept_here : Stays next i
+              kept_here = record {
+                now = record x { kept = true };
+                lives = ap instances.unless_given (set_same n.instances i x (record x { kept = true }) f) ∙ if_false x.given_back None (Some (record x { kept = true })) (ap (λ z. z.given_back) (sym is_x) ∙ there.1);
+                stays = never x.passing;
+              }
+                where
+                  never : (b : Bool) → (b && false) ≡ false
+                  never true = refl
+                  never false = refl
+
+              further : (k : ℕ) → Beneath o m k e → first_of rest ≡ Some k → Stays (kept_on owner rest next) e
+              further k way on = go next (before_then m n next same (one_kept n i x f)) stand.1 k e on way
+
+              by_way : (k : ℕ) → i ≡ k → Beneath o m k e → Stays (kept_on owner rest next) e
+              by_way k same at_itself = stays_still next (kept_on owner rest next) (all_kept rest next) k (subst (Stays next) same kept_here)
+              by_way k same (one_lower {k = l} ends on p) =
+                  further l p (same_some (slice_get o.beneath k) (first_of rest) (Some l) (subst (λ z. slice_get o.beneath z ≡ Some (first_of rest)) same (one.on (ap (is_given_at_end m) same ∙ ends))) on)
+
+              by_flag : (b : Bool) → x.passing ≡ b → Stays (if b then kept_on owner rest next else n) e
+              by_flag true flag = by_way j here way
+              by_flag false flag = by_itself (ap (λ z. z.passing) is_x ∙ flag)
 
   -- so what is below one that is kept only now stays
   abbrev LastingNow : List Activation → Instances → Type 0
@@ -225,21 +243,27 @@ module _ (o : AllArrays) (m : Instances) where
   kept_lasts : (chain : List Activation) (n : Instances) → LastingNow chain n
   unfolding kept_on
   kept_lasts [] n same stand j e ends stops way = absurd (cc)
-  kept_lasts (a ∷ rest) n same stand j e ends stops way = ⊎_elim (λ here. first_lasts (a ∷ rest) n same stand j e (ap Some here) way) (λ differ. by_there differ (slice_get n.instances a.instance) refl (λ p. kept_lasts rest p) stops) (cases_eq a.instance j)
+  kept_lasts (a ∷ rest) n same stand j e ends stops way = by_owner (owner a) refl (λ p. kept_lasts rest p) stops
     where
-      by_there : a.instance ≢ j → (x : Option (Instance (List Held))) → slice_get n.instances a.instance ≡ x → ((p : Instances) → LastingNow rest p) → is_given_at_end (kept_further (kept_on owner rest) n a.instance x) j ≡ false → Stays (kept_further (kept_on owner rest) n a.instance x) e
-      by_there differ None f go stops = absurd (cc)
-      by_there differ (Some x) f go stops = by_flag x.passing stops
+      by_owner : (u : Option ℕ) → owner a ≡ u → ((p : Instances) → LastingNow rest p) → is_given_at_end (kept_at (kept_on owner rest) n u) j ≡ false → Stays (kept_at (kept_on owner rest) n u) e
+      by_owner None own go stops = go n same stand.1 j e ends stops way
+      by_owner (Some i) own go stops =
+          ⊎_elim (λ here. subst (λ u. Stays (kept_at (kept_on owner rest) n u) e) own (first_lasts (a ∷ rest) n same stand j e (ap (λ u. or_below u (first_of rest)) own ∙ ap Some here) way))
+          (λ differ. by_there differ (slice_get n.instances i) refl stops) (cases_eq i j)
         where
-          next : Instances
-          next = with_kept n a.instance x
+          by_there : i ≢ j → (x : Option (Instance (List Held))) → slice_get n.instances i ≡ x → is_given_at_end (kept_further (kept_on owner rest) n i x) j ≡ false → Stays (kept_further (kept_on owner rest) n i x) e
+          by_there differ None f stops = absurd (cc)
+          by_there differ (Some x) f stops = by_flag x.passing stops
+            where
+              next : Instances
+              next = with_kept n i x
 
-          ends_still : is_given_at_end next j ≡ true
-          ends_still = ap (λ z. ends_in (instances.unless_given z)) (set_other n.instances a.instance j (record x { kept = true }) (λ q. differ (sym q))) ∙ ends
+              ends_still : is_given_at_end next j ≡ true
+              ends_still = ap (λ z. ends_in (instances.unless_given z)) (set_other n.instances i j (record x { kept = true }) (λ q. differ (sym q))) ∙ ends
 
-          by_flag : (b : Bool) → is_given_at_end (if b then kept_on owner rest next else n) j ≡ false → Stays (if b then kept_on owner rest next else n) e
-          by_flag true stops = go next (before_then m n next same (one_kept n a.instance x f)) (stand.2) j e ends_still stops way
-          by_flag false stops = absurd (cc)
+              by_flag : (b : Bool) → is_given_at_end (if b then kept_on owner rest next else n) j ≡ false → Stays (if b then kept_on owner rest next else n) e
+              by_flag true stops = go next (before_then m n next same (one_kept n i x f)) stand.1 j e ends_still stops way
+              by_flag false stops = absurd (cc)
 
 -- ---- the instances on top of the operating chain are kept
 
@@ -277,7 +301,7 @@ module _ (s : Source) (o : AllArrays) (m : Instances) (chain : List Activation) 
   store_kept store = record {
     instances = λ j x e. (let y = was m kept_now kept_same j x e in subst (InstanceFine s o kept_now j) y.is (only_flag j y.it y.kept (instance_later s o m o kept_now All later_kept j y.it tt (store.instances j y.it y.lives))));
     elements = λ a i it x p l k at. plain_later s o m o kept_now All later_kept (elements_of x) p (store.elements a i it x p l k at);
-    kept = kept_all s o m o kept_now later_kept kept_same.standings refl (λ j d e h a less f. f) store.kept;
+    kept = kept_all s o m o kept_now later_kept kept_same.standings refl (λ q j d e h a less f. f) store.kept;
     noted = store.noted ∙ sym kept_same.count;
     members = members_later s o.members m kept_now all_still store.members;
     simulations = simulations_later s o.simulations m kept_now all_still store.simulations;

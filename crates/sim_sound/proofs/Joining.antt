@@ -30,7 +30,8 @@ use Rattle.sim_sound.proofs.Running.{StoreFine}
 use Rattle.sim_sound.proofs.Simulated.{SimulationsFine}
 use Rattle.sim_sound.proofs.Simulating.{one_process, simulations_begun, simulations_joined, simulations_more}
 use Rattle.sim_sound.proofs.SimulationWork.{block_whole}
-use Rattle.sim_sound.proofs.Sound.{Marks, PrefixedAt, Whole, see}
+use Rattle.sim_sound.proofs.Sound.{PrefixedAt}
+use Rattle.sim_sound.proofs.Values.{Marks, Whole, see}
 
 -- ---- the world then
 

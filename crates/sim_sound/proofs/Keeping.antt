@@ -1,17 +1,17 @@
 -- Each configuration with a rule is sane: the instance that operates lives with its enclosers, and stands at one place of the chains; and the
 -- components are well formed.
-use Rattle.std.proofs.Common.{◌≡◌, ◌<◌, ℕ, zero, suc, List, [], ◌∷◌, length, None, arith}
+use Rattle.std.proofs.Common.{◌≡◌, ◌<◌, ℕ, zero, suc, List, [], ◌∷◌, length, Option, Some, None, refl, arith}
 use Rattle.sim_base.specs.declared.numbering.DeclNo.{DeclNo}
 use Rattle.sim_scope.specs.Source.{Source}
-use Rattle.sim_meaning.specs.Pending.{Activation, Configuration, Instances}
-use Rattle.sim_meaning.specs.Sane.{Lives, Sane, SaneOn, lives_alone, lives_inside}
+use Rattle.sim_chains.specs.Chains.{times_on}
+use Rattle.sim_meaning.specs.Pending.{Activation, Configuration, Instances, owner}
+use Rattle.sim_meaning.specs.Sane.{Lives, Other, OwnerOf, OwnersKept, OwnersOf, Sane, SaneOn, lives_alone, lives_inside}
 use Rattle.sim_sound.proofs.Cells.{fine_at}
-use Rattle.sim_sound.proofs.Chains.{others_kept, others_on}
+use Rattle.sim_sound.proofs.Chains.{kept_counted, none_there, none_there_kept, own_once}
 use Rattle.sim_sound.proofs.Heads.{well_formed}
 use Rattle.sim_sound.proofs.Later.{live_less}
-use Rattle.sim_sound.proofs.Moves.{operates_first}
 use Rattle.sim_sound.proofs.Running.{ChainFine, Fine, Headed, Placed, StoreFine, opens, runs}
-use Rattle.sim_sound.proofs.Sound.{AllArrays, Enclosed, Present, Takes, Whole, alone, within}
+use Rattle.sim_sound.proofs.Values.{AllArrays, Enclosed, Present, Takes, Whole, alone, within}
 
 -- each encloser is older
 lives_with : (s : Source) (o : AllArrays) (m : Instances) → StoreFine s o m → (n j t : ℕ) (todo : List DeclNo) → j < n → Present s m j t todo → Lives m j
@@ -34,5 +34,12 @@ fine_sane s o c (runs store placed headed a) = by_chain c.chain placed headed a
     by_chain [] placed headed a = absurd a
     by_chain (x ∷ rest) placed headed a =
         let before : x.instance < length (c.memory).instances = live_less c.memory x.instance (a.here).now (a.here).lives in
-        let top = operates_first o.beneath c.memory x rest before a.on placed headed in
-        (lives_with s o c.memory store (length (c.memory).instances) x.instance a.of_text a.todo before a.here, others_on o.beneath c.memory x.instance rest top, others_kept o.beneath c.memory x.instance rest top, well_formed s o c.memory (x ∷ rest) store placed headed)
+        (lives_with s o c.memory store (length (c.memory).instances) x.instance a.of_text a.todo before a.here, stands_alone x rest placed (owner x) refl, well_formed s o c.memory (x ∷ rest) store placed headed)
+      where
+        -- an instance that operates stands nowhere else
+        stands_alone : (x : Activation) (rest : List Activation) → Placed c.memory (x ∷ rest) → (u : Option ℕ) → owner x ≡ u → OwnerOf (λ j. OwnersOf (Other j) rest × OwnersKept (Other j) c.memory) u
+        stands_alone x rest placed None is = tt
+        stands_alone x rest placed (Some j) is =
+            let once = placed.once j in
+            let one = own_once j (owner x) is in
+            (none_there j rest (omega (arith, once, one)), λ n y e. none_there_kept j y (let less = kept_counted (times_on owner j) (c.memory).standings n y e in omega (arith, once, one, less)))

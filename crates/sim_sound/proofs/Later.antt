@@ -1,6 +1,6 @@
 -- What is fine stays so in later stores.
-use Rattle.std.proofs.Common.{◌≡◌, ◌<◌, ℕ, suc, Bool, true, false, List, [], ◌∷◌, length, map, Option, Some, None, refl, sym, ap, ◌∙◌, subst, arith}
-use Rattle.std.specs.Prelude.{slice_get, ◌&&◌, not}
+use Rattle.std.proofs.Common.{◌≡◌, ◌<◌, ℕ, suc, Bool, true, false, List, [], ◌∷◌, length, map, Option, Some, None, inl, inr, ⊎_elim, refl, sym, ap, ◌∙◌, subst, arith}
+use Rattle.std.specs.Prelude.{slice_get, ◌&&◌, not, if◌then◌else◌}
 use Rattle.sim_base.specs.declared.numbering.DeclNo.{DeclNo}
 use Rattle.sim_chains.specs.Components.{AttachedObject, DetachedObject, NoObject, ResumedObject, Standing, TerminatedObject}
 use Rattle.sim_scope.specs.Levels.{has_level}
@@ -8,16 +8,18 @@ use Rattle.sim_scope.specs.Source.{Source}
 use Rattle.sim_values.specs.declared.kind.Kind.{Kind}
 use Rattle.sim_values.specs.Plain.{Character, Integer, MainOf, Nothing, Object, Plain, Text, Truth}
 use Rattle.sim_code.specs.Instances.{CellPlace, ElementPlace, ImagePlace, Instance, ends_in, live, unless_given}
-use Rattle.sim_meaning.specs.Pending.{SetOf, Activation, Address, ArrayValue, AttributeOf, BackOp, BlockOp, BranchOp, CallOf, Cell, ChooseOp, ConnectOp, CopyOf, Declared, Do, Either, ElementOf, ElementsOp, EndBlock, EndLevel, EndObject, EndPrefixed, EndProcedure, EndProgram, EnterOp, Eval, Exec, Execs, FitsOf, Further, Given, GiveOp, Held, IfOp, ImageOf, InnerOp, Instances, Item, Joined, KeptOf, Key, Level, Link, MemberOf, NewOf, NoTerm, NotNoneOf, Of, One, Op, PlaceOf, PrefixedOp, ProcedureValue, ProcessOf, QuaOf, QualifiedElementOf, QualifiedPlaceOf, RaiseOp, RemoteCallOf, ShareOp, SimulationOf, StandardOf, StepTestOp, StoreOp, Target, Term, Terms, TestOp, ToAddress, ToCell, ToPlace, ToReference, ToReferenceAt, ToText, ToTextAt, ToTextOf, TransferOf, Tree, Two, Unbuilt, Val, ValueAt, WhenOp, WhileElementOp, held, VirtualOf}
+use Rattle.sim_code.specs.Instances as instances
+use Rattle.sim_tree.specs.Syntax.{Expression}
+use Rattle.sim_meaning.specs.Pending.{Actual, ActualOf, CloseOp, EndEvaluation, NamedOf, NamedOp, ToNamed, evaluates, owner, SetOf, Activation, Address, ArrayValue, AttributeOf, BackOp, BlockOp, BranchOp, CallOf, Cell, ChooseOp, ConnectOp, CopyOf, Declared, Do, Either, ElementOf, ElementsOp, EndBlock, EndLevel, EndObject, EndPrefixed, EndProcedure, EndProgram, EnterOp, Eval, Exec, Execs, FitsOf, Further, Given, GiveOp, Held, IfOp, ImageOf, InnerOp, Instances, Item, Joined, KeptOf, Key, Level, Link, MemberOf, NewOf, NoTerm, NotNoneOf, Of, One, Op, PlaceOf, PrefixedOp, ProcedureValue, ProcessOf, QuaOf, QualifiedElementOf, QualifiedPlaceOf, RaiseOp, RemoteCallOf, ShareOp, SimulationOf, StandardOf, StepTestOp, StoreOp, Target, Term, Terms, TestOp, ToAddress, ToCell, ToPlace, ToReference, ToReferenceAt, ToText, ToTextAt, ToTextOf, TransferOf, Two, Unbuilt, Val, ValueAt, WhenOp, WhileElementOp, held, VirtualOf}
 use Rattle.sim_meaning.specs.Attributes.{is_connection}
 use Rattle.sim_meaning.specs.Levels.{has_levels}
-use Rattle.sim_meaning.specs.Sane.{AllKept, AllOf, KeptOf as OnKept}
 use Rattle.sim_meaning.specs.Texts.{text}
-use Rattle.sim_sound.specs.Held.{ArrayOf, Holds, Refers, Simply, key_holds}
-use Rattle.sim_sound.proofs.Lists.{there_is}
+use Rattle.sim_sound.specs.Held.{ArrayOf, ByName, Holds, Place, Refers, Simply, key_holds}
+use Rattle.sim_sound.proofs.Lists.{same_some, there_is}
 use Rattle.sim_sound.proofs.Prefixes.{LevelOf}
-use Rattle.sim_sound.proofs.Running.{ActFine, ChainFine, ChainOn, Expected, IsRelease, NoObjectStands, ObjectStands, Shown, StandsFine, StandsOn, WorkFine, awaited, first_over, is_resumed, resumes}
-use Rattle.sim_sound.proofs.Sound.{ObjectIn, AddressOf, AllArrays, ArrayFine, BlockIn, CellFine, CellIs, CellTarget, CellsFine, Component, Copied, CopyFine, DeepFine, ElementFine, Enclosed, Generated, HandFine, HandsFine, ImageAddress, InstanceFine, IntegersFine, KeptFine, KeyAmong, Kinds, Knows, Lasting, Lasts, LevelsFine, LinkTo, MainIn, NamesObject, Near, ObjectOf, OpFine, OperandsFine, Outward, PlainFine, Present, ReferenceAddress, ReferenceFine, Simulates, Site, Sited, StandsFor, Stays, StoreOpFine, Suspended, Takes, TargetFine, TargetsFine, TermFine, TermsFine, ValFine, Value, VariableFine, Waits, alone, array_stored, connected, in_connection, in_instance, key_of, no_further, one_out, outward, own_made, own_text, staying, value_stored, within, MatchFor}
+use Rattle.sim_sound.proofs.Running.{Last, ActFine, AllKeptSeats, AllSeats, ChainFine, ChainOn, Expected, Footing, IsRelease, KeptSeats, NoObjectStands, ObjectStands, SeatOf, SeatedFor, Shown, StandsFine, StandsOn, WorkFine, awaited, evaluation_seat, footing, is_resumed, own_seat, resumes, seat_on}
+use Rattle.sim_sound.proofs.Sound.{BlockIn, CellIs, IntegersFine, LevelsFine, OpFine, OperandsFine, Site, Sited, StoreOpFine, TargetFine, TargetsFine, TermFine, TermsFine, VariableFine, array_stored, in_connection, in_instance, own_made, value_stored}
+use Rattle.sim_sound.proofs.Values.{ActualFine, Beneath, CellLies, PlaceFine, Seat, Stands, Whichever, at_itself, at_seat, in_bound, in_text, near_below, near_staying, one_lower, ObjectIn, AddressOf, AllArrays, ArrayFine, CellFine, CellTarget, CellsFine, Component, Copied, CopyFine, DeepFine, ElementFine, Enclosed, Generated, HandFine, HandsFine, ImageAddress, InstanceFine, KeptFine, KeyAmong, Kinds, Knows, Lasting, Lasts, LinkTo, MainIn, NamesObject, Near, ObjectOf, Outward, PlainFine, Present, ReferenceAddress, ReferenceFine, Simulates, StandsFor, Stays, Suspended, Takes, ValFine, Value, Waits, alone, connected, key_of, no_further, one_out, outward, own_text, staying, within, MatchFor}
 
 -- an instance that is as it was, but for values of cells, and cells of connections that are new; and it may be kept now
 pub record Grown (x y : Instance (List Held)) : Type 0 where
@@ -55,14 +57,93 @@ pub record Later (s : Source) (o : AllArrays) (m : Instances) (o' : AllArrays) (
 abbrev pub Copies : AllArrays → AllArrays → (j d : ℕ) → Type 0
 Copies o o' j d = (e : ℕ) (h : Holds) (a : ℕ) → e < d → CopyFine o j e h a → CopyFine o' j e h a
 
+-- those of all seats
+abbrev pub AllCopies : AllArrays → AllArrays → Type 0
+AllCopies o o' = (q : Seat) (j d : ℕ) → Copies (at_seat o q) (at_seat o' q) j d
+
 -- it waits for the same as a system head, and is a resumed object if it was one
 abbrev pub Steady : AllArrays → Instances → AllArrays → Instances → ℕ → Type 0
 Steady o m o' m' j = (o'.waiting j ≡ o.waiting j) × (resumes m' j ≡ resumes m j)
 
-pub awaited_same : (f g : ℕ → Waits) (j : ℕ) (v : Waits) → g j ≡ f j → awaited g j v ≡ awaited f j v
-awaited_same f g j (Takes x) e = refl
-awaited_same f g j (Generated i u) e = refl
-awaited_same f g j Suspended e = e
+pub awaited_same : (f g : ℕ → Waits) (u : Option ℕ) (v : Waits) → ((j : ℕ) → u ≡ Some j → g j ≡ f j) → awaited g u v ≡ awaited f u v
+awaited_same f g u (Takes x) e = refl
+awaited_same f g u (Generated i k) e = refl
+awaited_same f g None Suspended e = refl
+awaited_same f g (Some j) Suspended e = e j refl
+
+-- ---- seats
+
+-- what is looked at from another seat
+pub near_seat : (o : AllArrays) (q : Seat) (m : Instances) (j e : ℕ) → Near o m j e → Near (at_seat o q) m j e
+near_seat o q m j e (near_staying a) = near_staying a
+near_seat o q m j e (near_below a) = near_below (further j a)
+  where
+    further : (j : ℕ) → Beneath o m j e → Beneath (at_seat o q) m j e
+    further _ at_itself = at_itself
+    further j (one_lower {k = k} ends is a) = one_lower ends is (further k a)
+
+pub near_unseat : (o : AllArrays) (q : Seat) (m : Instances) (j e : ℕ) → Near (at_seat o q) m j e → Near o m j e
+near_unseat o q m j e (near_staying a) = near_staying a
+near_unseat o q m j e (near_below a) = near_below (further j a)
+  where
+    further : (j : ℕ) → Beneath (at_seat o q) m j e → Beneath o m j e
+    further _ at_itself = at_itself
+    further j (one_lower {k = k} ends is a) = one_lower ends is (further k a)
+
+pub array_seat : (o : AllArrays) (q : Seat) (m : Instances) (j : ℕ) (h : Holds) (a : ℕ) → ArrayFine o m j h a → ArrayFine (at_seat o q) m j h a
+array_seat o q m j h a f = record { it = f.it; lives = f.lives; known = f.known; owned = ⊎_elim (λ k. inl k) (λ n. inr (near_seat o q m j (f.it).owner n)) f.owned; count = f.count }
+
+array_unseat : (o : AllArrays) (q : Seat) (m : Instances) (j : ℕ) (h : Holds) (a : ℕ) → ArrayFine (at_seat o q) m j h a → ArrayFine o m j h a
+array_unseat o q m j h a f = record { it = f.it; lives = f.lives; known = f.known; owned = ⊎_elim (λ k. inl k) (λ n. inr (near_unseat o q m j (f.it).owner n)) f.owned; count = f.count }
+
+element_seat : (o : AllArrays) (q : Seat) (m : Instances) (j : ℕ) (h : Holds) (a n : ℕ) → ElementFine o m j h a n → ElementFine (at_seat o q) m j h a n
+unfolding array_seat
+element_seat o q m j h a n f = record { array = array_seat o q m j h a f.array; there = f.there }
+
+element_unseat : (o : AllArrays) (q : Seat) (m : Instances) (j : ℕ) (h : Holds) (a n : ℕ) → ElementFine (at_seat o q) m j h a n → ElementFine o m j h a n
+unfolding array_unseat
+element_unseat o q m j h a n f = record { array = array_unseat o q m j h a f.array; there = f.there }
+
+kept_seat : (o : AllArrays) (q : Seat) (h : Holds) (a : ℕ) → KeptFine o h a → KeptFine (at_seat o q) h a
+kept_seat o q h a f = record { it = f.it; lives = f.lives; known = f.known; keeps = f.keeps; count = f.count }
+
+kept_unseat : (o : AllArrays) (q : Seat) (h : Holds) (a : ℕ) → KeptFine (at_seat o q) h a → KeptFine o h a
+kept_unseat o q h a f = record { it = f.it; lives = f.lives; known = f.known; keeps = f.keeps; count = f.count }
+
+pub later_seat : (s : Source) (o : AllArrays) (m : Instances) (o' : AllArrays) (m' : Instances) (Apart : ℕ → Type 0) → Later s o m o' m' Apart → (q : Seat) → Later s (at_seat o q) m (at_seat o' q) m' Apart
+later_seat s o m o' m' Apart e q = record {
+  arrays = λ j h a ok x. array_seat o' q m' j h a (e.arrays j h a ok (array_unseat o q m j h a x));
+  elements = λ j h a n ok x. element_seat o' q m' j h a n (e.elements j h a n ok (element_unseat o q m j h a n x));
+  kept = λ h a x. kept_seat o' q h a (e.kept h a (kept_unseat o q h a x));
+  there = e.there;
+  stays = e.stays;
+  apart = e.apart;
+  near = λ j k ok a. e.near j k ok (near_unseat o q m j k a);
+  nears = λ j k ok a. near_seat o' q m' j k (e.nears j k ok (near_unseat o q m j k a));
+  beneath = e.beneath;
+  objects = e.objects;
+  nobody = e.nobody;
+}
+
+-- a seat of an instance's own
+pub seat_owner : (u : Option ℕ) (f : Footing) (q : Seat) → seat_on u f ≡ Some q → q.evaluations ≡ 0 → u ≡ Some q.owner
+seat_owner (Some j) f q e none = ap (λ z. Some z.owner) (same_some (Some (own_seat j)) (own_seat j) q refl e)
+seat_owner None f q e none = absurd (by_parts f.seat f.next e)
+  where
+    by_parts : (x : Option Seat) (y : Option ℕ) → evaluation_seat x y ≡ Some q → ⊥
+    by_parts None y e = cc
+    by_parts (Some p) None e = cc
+    by_parts (Some p) (Some j) e = let is : suc p.evaluations ≡ q.evaluations = ap (λ z. z.evaluations) (same_some (evaluation_seat (Some p) (Some j)) _ q refl e) in omega (arith, is, none)
+
+pub owner_is : (a : Activation) (j : ℕ) → owner a ≡ Some j → a.instance ≡ j
+owner_is a j e = by_flag (evaluates a.work) e
+  where
+    by_flag : (b : Bool) → (if b then None else Some a.instance) ≡ Some j → a.instance ≡ j
+    by_flag true e = absurd (cc)
+    by_flag false e = cc
+
+pub seat_is : (Is : Seat → Type 0) (x : Option Seat) (q : Seat) → x ≡ Some q → SeatOf Is x → Is q
+seat_is Is x q e a = subst (SeatOf Is) e a
 
 -- ---- instances
 
@@ -164,19 +245,30 @@ module _ (s : Source) (o : AllArrays) (m : Instances) (o' : AllArrays) (m' : Ins
   plain_later (Simply k) p a = (a.0, names_later p a.1)
   plain_later (Refers c) p a = reference_later c p a
   plain_later (ArrayOf h) p a = absurd a
+  plain_later (ByName h) p a = absurd a
+
+  stands_later : (j : ℕ) (from : Place) → Apart j → Stands s m j from → Stands s m' j from
+  stands_later j _ ok (in_text {u = u} whole) = in_text (present_later j u [] ok whole)
+  stands_later j _ ok (in_bound {t = t} {todo = todo} p own at ready solid) = in_bound (present_later j t todo ok p) (own_later j t todo ok p ∙ own) at ready solid
+
+  pub actual_later : (j : ℕ) → Apart j → (k : Kind) (home : ℕ) (x : Expression) → ActualFine s o m j k home x → ActualFine s o' m' j k home x
+  actual_later j ok k home x a = record { near = e.nears j home ok a.near; from = a.from; stands = stands_later home a.from (e.near j home ok a.near) a.stands; typed = a.typed }
 
   pub val_later : (j : ℕ) → Apart j → (h : Holds) (v : Val) → ValFine s o m j h v → ValFine s o' m' j h v
   val_later j ok (Simply k) (Of p) a = (a.0, names_later p a.1)
   val_later j ok (Refers c) (Of p) a = reference_later c p a
   val_later j ok (ArrayOf h) (ArrayValue n) a = e.arrays j h n ok a
+  val_later j ok (ByName k) (Actual home x) a = actual_later j ok k home x a
   val_later j ok (Simply k) _ a = absurd a
   val_later j ok (Refers c) _ a = absurd a
   val_later j ok (ArrayOf h) _ a = absurd a
+  val_later j ok (ByName h) _ a = absurd a
 
   cell_later : (j : ℕ) → Apart j → (h : Option Holds) (v : Option Val) → CellFine s o m j h v → CellFine s o' m' j h v
   cell_later j ok None v a = a
   cell_later j ok (Some (Simply k)) None a = a
   cell_later j ok (Some (Refers c)) None a = a
+  cell_later j ok (Some (ByName k)) None a = a
   cell_later j ok (Some (ArrayOf k)) None a = a
   cell_later j ok (Some h) (Some v) a = val_later j ok h v a
 
@@ -198,16 +290,26 @@ module _ (s : Source) (o : AllArrays) (m : Instances) (o' : AllArrays) (m' : Ins
   pub cell_target_later : (j : ℕ) → Apart j → (n : ℕ) (key : Key) (h : Holds) → CellTarget s m j n key h → CellTarget s m' j n key h
   cell_target_later j ok n key h a = record { around = a.around; todo = a.todo; near = knows_later j n ok a.near; here = present_later n a.around a.todo (e.apart j n ok a.near) a.here; ready = a.ready; holds = a.holds; there = a.there }
 
+  lies_later : (j : ℕ) → Apart j → (n : ℕ) (key : Key) (h : Holds) → CellLies s o m j n key h → CellLies s o' m' j n key h
+  lies_later j ok n key h a = record { around = a.around; todo = a.todo; near = e.nears j n ok a.near; here = present_later n a.around a.todo (e.near j n ok a.near) a.here; ready = a.ready; holds = a.holds; there = a.there }
+
+  place_later : (j : ℕ) → Apart j → (k : Kind) (p : instances.Place Key (Option ℕ)) → PlaceFine s o m j k p → PlaceFine s o' m' j k p
+  place_later j ok k (ElementPlace n i None) a = (a.0, e.elements j (Simply k) n i ok a.1)
+  place_later j ok k (ElementPlace n i (Some c)) a = (a.0, e.elements j (Refers c) n i ok a.1)
+  place_later j ok k (CellPlace n key None) a = (a.0, lies_later j ok n key (Simply k) a.1)
+  place_later j ok k (CellPlace n key (Some c)) a = (a.0, lies_later j ok n key (Refers c) a.1)
+  place_later j ok k (ImagePlace n) a = a
+
   pub hand_later : (j : ℕ) → Apart j → (k : Kinds) (v : Val) → HandFine s o m j k v → HandFine s o' m' j k v
   hand_later j ok (Value h) v a = val_later j ok h v a
   hand_later j ok (AddressOf h) (Address (ElementPlace n i None)) a = e.elements j h n i ok a
-  hand_later j ok (AddressOf h) (Address (CellPlace n key None)) a = cell_target_later j ok n key h a
+  hand_later j ok (AddressOf h) (Address (CellPlace n key None)) a = lies_later j ok n key h a
   hand_later j ok (AddressOf h) (Address (ElementPlace n i (Some c))) a = absurd a
   hand_later j ok (AddressOf h) (Address (CellPlace n key (Some c))) a = absurd a
   hand_later j ok (AddressOf h) (Address (ImagePlace n)) a = absurd a
   hand_later j ok (AddressOf h) _ a = absurd a
   hand_later j ok (ReferenceAddress c) (Address (ElementPlace n i (Some k))) a = (a.0, e.elements j (Refers c) n i ok a.1)
-  hand_later j ok (ReferenceAddress c) (Address (CellPlace n key (Some k))) a = (a.0, cell_target_later j ok n key (Refers c) a.1)
+  hand_later j ok (ReferenceAddress c) (Address (CellPlace n key (Some k))) a = (a.0, lies_later j ok n key (Refers c) a.1)
   hand_later j ok (ReferenceAddress c) (Address (ElementPlace n i None)) a = absurd a
   hand_later j ok (ReferenceAddress c) (Address (CellPlace n key None)) a = absurd a
   hand_later j ok (ReferenceAddress c) (Address (ImagePlace n)) a = absurd a
@@ -240,6 +342,11 @@ module _ (s : Source) (o : AllArrays) (m : Instances) (o' : AllArrays) (m' : Ins
   hand_later j ok (MatchFor h) (ProcedureValue k n) a =
       record { around = a.around; near = knows_later j n ok a.near; whole = present_later n a.around [] (e.apart j n ok a.near) a.whole; procedure = a.procedure; alone = a.alone; fits = a.fits }
   hand_later j ok (MatchFor h) _ a = absurd a
+  hand_later j ok (Whichever b k) (Address p) a = place_later j ok k p a
+  hand_later j ok (Whichever true k) (Of p) a = (a.0, names_later p a.1)
+  hand_later j ok (Whichever false k) (Of p) a = absurd a
+  hand_later j ok (Whichever true k) _ a = absurd a
+  hand_later j ok (Whichever false k) _ a = absurd a
 
   pub deep_later : (j : ℕ) → Apart j → (d : ℕ) → Copies o o' j (suc d) → (k : Kinds) (v : Val) → DeepFine s o m j d k v → DeepFine s o' m' j d k v
   deep_later j ok d c (Copied k) (ArrayValue a) f = c d k a (omega arith) f
@@ -247,7 +354,7 @@ module _ (s : Source) (o : AllArrays) (m : Instances) (o' : AllArrays) (m' : Ins
   deep_later j ok d c (Copied k) (Link z) f = absurd f
   deep_later j ok d c (Copied k) (Address z) f = absurd f
   deep_later j ok d c (Copied k) (ProcedureValue z y) f = absurd f
-  deep_later j ok d c (Copied k) (Tree z) f = absurd f
+  deep_later j ok d c (Copied k) (Actual z y) f = absurd f
   deep_later j ok d c (Value h) v f = val_later j ok h v f
   deep_later j ok d c (AddressOf k) v f = hand_later j ok (AddressOf k) v f
   deep_later j ok d c (ReferenceAddress k) v f = hand_later j ok (ReferenceAddress k) v f
@@ -257,6 +364,7 @@ module _ (s : Source) (o : AllArrays) (m : Instances) (o' : AllArrays) (m' : Ins
   deep_later j ok d c Component v f = hand_later j ok Component v f
   deep_later j ok d c (ObjectIn k) v f = hand_later j ok (ObjectIn k) v f
   deep_later j ok d c (MatchFor h) v f = hand_later j ok (MatchFor h) v f
+  deep_later j ok d c (Whichever b k) v f = hand_later j ok (Whichever b k) v f
 
   pub hands_later : (j : ℕ) → Apart j → (ks : List Kinds) (vs : List Val) → Copies o o' j (length vs) → HandsFine s o m j ks vs → HandsFine s o' m' j ks vs
   hands_later j ok [] [] c a = a
@@ -319,6 +427,8 @@ module _ (s : Source) (o : AllArrays) (m : Instances) (o' : AllArrays) (m' : Ins
       term_later todo (SimulationOf n name ts line) g a = (a.0, a.1, a.2, a.3, block_later n _ a.4, terms_later todo ts _ a.5)
       term_later todo (VirtualOf x v n line) g a = (a.0, a.1, a.2, a.3, term_later todo x _ a.4)
       term_later todo (TransferOf z line x) g a = (a.0, term_later todo x _ a.1)
+      term_later todo (ActualOf n x) g a = (a.0, a.1, a.2, a.3, stands_later j a.1 ok a.4, a.5)
+      term_later todo (NamedOf n key wanted) g a = (a.0, a.1, a.2, a.3, read_later todo n key (ByName a.0) a.4)
       term_later todo Unbuilt g a = absurd a
 
       pub integers_later : (todo : List DeclNo) (ts : Terms) → IntegersFine s m j t todo ts → IntegersFine s m' j t todo ts
@@ -339,7 +449,8 @@ module _ (s : Source) (o : AllArrays) (m : Instances) (o' : AllArrays) (m' : Ins
     target_later (ToText line) k before behind a = a
     target_later (ToTextOf n key line) k before behind a = a
     target_later (ToReference line) k before behind a = a
-    target_later (ToPlace x) k before behind a = (term_later [] x _ a.0, a.1)
+    target_later (ToNamed c line) k before behind a = a
+    target_later (ToPlace x) k before behind a = (a.0, a.1, term_later [] x _ a.2, a.3)
     target_later (ToTextAt x line) k before behind a = a
     target_later (ToReferenceAt x line) k before behind a = (a.0, a.1, a.2, term_later [] x _ a.3)
 
@@ -353,7 +464,8 @@ module _ (s : Source) (o : AllArrays) (m : Instances) (o' : AllArrays) (m' : Ins
     variable_later (ToText line) k a = a
     variable_later (ToTextOf n key line) k a = (cell_target_later j ok n key (Simply k) a.0, a.1)
     variable_later (ToReference line) k a = a
-    variable_later (ToPlace x) k a = term_later [] x _ a
+    variable_later (ToNamed c line) k a = a
+    variable_later (ToPlace x) k a = (a.0, a.1, term_later [] x _ a.2)
     variable_later (ToTextAt x line) k a = (term_later [] x _ a.0, a.1)
     variable_later (ToReferenceAt x line) k a = (a.0, a.1, term_later [] x _ a.2)
 
@@ -383,6 +495,8 @@ module _ (s : Source) (o : AllArrays) (m : Instances) (o' : AllArrays) (m' : Ins
     op_later (WhileElementOp x f c y) todo todo' before behind a = (a.0, a.1, a.2, sited_later _ _ (λ u r. (r.0, variable_later x r.0 r.1, r.2, r.3, r.4)) a.3)
     op_later (StepTestOp x line f c y) todo todo' before behind a = (a.0, a.1, a.2, sited_later _ _ (λ u r. (variable_later x _ r.0, r.1, r.2, r.3)) a.3)
     op_later (RaiseOp x line f c y) todo todo' before behind a = (a.0, a.1, a.2, sited_later _ _ (λ u r. (variable_later x _ r.0, r.1, r.2, r.3)) a.3)
+    op_later (NamedOp n key wanted) todo todo' before behind a = (a.0, a.1, a.2, read_later todo n key (ByName a.0) a.3, a.4, a.5)
+    op_later (CloseOp x) todo todo' before behind a = (a.0, a.1, stands_later j a.1 ok a.2, a.3, a.4, a.5)
     op_later (Exec x) todo todo' before behind a = (a.0, a.1, a.2, sited_later _ _ (λ u z. z) a.3)
     op_later (Execs x) todo todo' before behind a = (a.0, a.1, a.2, sited_later _ _ (λ u z. z) a.3)
     op_later (EnterOp k line) todo todo' before behind a = (a.0, a.1, a.2, sited_later _ _ (λ u z. z) a.3)
@@ -395,114 +509,151 @@ module _ (s : Source) (o : AllArrays) (m : Instances) (o' : AllArrays) (m' : Ins
     op_later (PrefixedOp k n line) todo todo' before behind a = let p = a.2 in (a.0, a.1, record { around = p.around; site = site_later p.around p.site; stands_in = p.stands_in; block = p.block; «in» = p.«in»; count = p.count })
     op_later _ todo todo' before behind a = a
 
-    pub work_later : resumes m' j ≡ resumes m j → (Outermost Outermost' : Type 0) → (Outermost → Outermost') → (Below Below' : Waits → Type 0) → ((v : Waits) → Below v → Below' v) → (w : List Item) (todo : List DeclNo) (before : List Kinds) → WorkFine s o m Below Outermost j t w todo before → WorkFine s o' m' Below' Outermost' j t w todo before
-    work_later same Outermost Outermost' h Below Below' f [] todo before a = a
-    work_later same Outermost Outermost' h Below Below' f (Do op ∷ w) todo before a = (a.0, a.1, op_later op todo a.0 before a.1 a.2, work_later same Outermost Outermost' h Below Below' f w a.0 a.1 a.3)
-    work_later same Outermost Outermost' h Below Below' f (EndBlock ∷ w) todo before a = (e.nobody j a.0, f _ a.1)
-    work_later same Outermost Outermost' h Below Below' f (EndProcedure leaves ∷ w) todo before a = (a.0, a.1, a.2, a.3, a.4, a.5, a.6, e.nobody j a.7, f _ a.8)
-    work_later same Outermost Outermost' h Below Below' f (EndLevel k ∷ w) todo before a = work_later same Outermost Outermost' h Below Below' f w todo before a
-    work_later same Outermost Outermost' h Below Below' f (EndObject ∷ w) todo before a = (a.0, a.1, a.2, e.objects j a.3, a.4, subst (λ b. IsRelease b j t a.4) (sym same) a.5, f a.4 a.6)
-    work_later same Outermost Outermost' h Below Below' f (EndPrefixed ∷ w) todo before a = (e.nobody j a.0, f _ a.1)
-    work_later same Outermost Outermost' h Below Below' f (EndProgram ∷ w) todo before a = (e.nobody j a.0, h a.1)
+    module _ (seats : o'.seat ≡ o.seat) where
+      last_later : (w : List Item) → Last o w → Last o' w
+      last_later w a = (a.0, ap (λ q. q.evaluations) seats ∙ a.1)
+
+      pub work_later : ((o.seat).evaluations ≡ 0 → resumes m' j ≡ resumes m j) → (Outermost Outermost' : Type 0) → (Outermost → Outermost') → (Below Below' : Waits → Type 0) → ((v : Waits) → Below v → Below' v) → (w : List Item) (todo : List DeclNo) (before : List Kinds) → WorkFine s o m Below Outermost j t w todo before → WorkFine s o' m' Below' Outermost' j t w todo before
+      work_later same Outermost Outermost' h Below Below' f [] todo before a = a
+      work_later same Outermost Outermost' h Below Below' f (Do op ∷ w) todo before a = (a.0, a.1, op_later op todo a.0 before a.1 a.2, work_later same Outermost Outermost' h Below Below' f w a.0 a.1 a.3)
+      work_later same Outermost Outermost' h Below Below' f (EndBlock ∷ w) todo before a = (e.nobody j a.0, f _ a.1, last_later w a.2)
+      work_later same Outermost Outermost' h Below Below' f (EndProcedure leaves ∷ w) todo before a = (a.0, a.1, a.2, a.3, a.4, a.5, a.6, e.nobody j a.7, f _ a.8, last_later w a.9)
+      work_later same Outermost Outermost' h Below Below' f (EndLevel k ∷ w) todo before a = work_later same Outermost Outermost' h Below Below' f w todo before a
+      work_later same Outermost Outermost' h Below Below' f (EndObject ∷ w) todo before a = (a.0, a.1, a.2, e.objects j a.3, a.4, subst (λ b. IsRelease b j t a.4) (sym (same (a.7).1)) a.5, f a.4 a.6, last_later w a.7)
+      work_later same Outermost Outermost' h Below Below' f (EndPrefixed ∷ w) todo before a = (e.nobody j a.0, f _ a.1, last_later w a.2)
+      work_later same Outermost Outermost' h Below Below' f (EndProgram ∷ w) todo before a = (e.nobody j a.0, h a.1, last_later w a.2)
+      work_later same Outermost Outermost' h Below Below' f (EndEvaluation wanted ∷ w) todo before a = (a.0, subst (λ q. 0 < q.evaluations) (sym seats) a.1, a.2, a.3, a.4, a.5, a.6, a.7, f _ a.8)
+
+  pub seated_later : (q : Seat) (j : ℕ) → Apart q.owner → SeatedFor o m q j → SeatedFor o' m' q j
+  seated_later q j ok a = record { near = e.nears q.owner j ok a.near; through = e.nears q.owner q.lower ok a.through; lower = e.nears q.lower j (e.near q.owner q.lower ok a.through) a.lower }
 
 -- an activation, which waits for the same, on what is below it then
 module _ (s : Source) (o : AllArrays) (m : Instances) (o' : AllArrays) (m' : Instances) (Apart : ℕ → Type 0) (e : Later s o m o' m' Apart) where
-  pub act_later : (a : Activation) → Apart a.instance → resumes m' a.instance ≡ resumes m a.instance → ((d : ℕ) → Copies o o' a.instance d) → (v v' : Waits) → v ≡ v' → (under under' : Option ℕ) → under ≡ under' → (Outermost Outermost' : Type 0) → (Outermost → Outermost') → (Below Below' : Waits → Type 0) → ((v : Waits) → Below v → Below' v) → ActFine s o m a under v Below Outermost → ActFine s o' m' a under' v' Below' Outermost'
+  pub act_later : (a : Activation) (on on' : Footing) → on ≡ on' → SeatOf (λ q. Apart q.owner) (seat_on (owner a) on) → ((j : ℕ) → owner a ≡ Some j → resumes m' j ≡ resumes m j) → SeatOf (λ q. Apart a.instance → (d : ℕ) → Copies (at_seat o q) (at_seat o' q) a.instance d) (seat_on (owner a) on) → (v v' : Waits) → v ≡ v' → (Outermost Outermost' : Type 0) → (Outermost → Outermost') → (Below Below' : Waits → Type 0) → ((v : Waits) → Below v → Below' v) → ActFine s o m a on v Below Outermost → ActFine s o' m' a on' v' Below' Outermost'
   unfolding present_later
-  act_later a ok steady copies v v' same under under' on Outermost Outermost' h Below Below' f c =
+  act_later a on on' foot apart steady copies v v' same Outermost Outermost' h Below Below' f c =
+      let q = c.seat in
+      let owned : Apart q.owner = seat_is (λ q. Apart q.owner) (seat_on (owner a) on) q c.seated apart in
+      let ok : Apart a.instance = e.near q.owner a.instance owned (c.works).near in
       let y = e.there a.instance (c.here).now ok (c.here).lives in
+      let up = later_seat s o m o' m' Apart e q in
       record {
         of_text = c.of_text;
         todo = c.todo;
         here = present_later s o m o' m' Apart e a.instance c.of_text c.todo ok c.here;
         own = (y.grown).text ∙ c.own;
-        on = subst (StandsOn o'.beneath m' a.instance) on (stands_on_later s o m o' m' Apart e a.instance (c.here).now under ok (c.here).lives c.on);
+        stands_on = λ j is.
+            (let here = owner_is a j is in
+            subst (λ z. StandsOn o'.beneath m' j z.under) foot (stands_on_later s o m o' m' Apart e j (c.here).now on.under (subst Apart here ok) (ap (live m) (sym here) ∙ (c.here).lives) (c.stands_on j is)));
+        seat = q;
+        seated = ap (seat_on (owner a)) (sym foot) ∙ c.seated;
+        works = seated_later s o m o' m' Apart e q a.instance owned c.works;
         vals = c.vals;
         shown = subst (λ z. Shown z a.values c.vals) same c.shown;
         kinds = c.kinds;
-        hands = hands_later s o m o' m' Apart e a.instance ok c.kinds c.vals (copies (length c.vals)) c.hands;
+        hands = hands_later s (at_seat o q) m (at_seat o' q) m' Apart up a.instance ok c.kinds c.vals (seat_is (λ q. Apart a.instance → (d : ℕ) → Copies (at_seat o q) (at_seat o' q) a.instance d) (seat_on (owner a) on) q c.seated copies ok (length c.vals)) c.hands;
         expected = c.expected;
         expects = subst (λ z. Expected s z c.kinds c.expected) same c.expects;
-        goes = work_later s o m o' m' Apart e a.instance c.of_text ok steady Outermost Outermost' h Below Below' f a.work c.todo c.expected c.goes;
+        goes = work_later s (at_seat o q) m (at_seat o' q) m' Apart up a.instance c.of_text ok refl (λ none. let own = seat_owner (owner a) on q c.seated none in let here = owner_is a q.owner own in ap (resumes m') here ∙ steady q.owner own ∙ ap (resumes m) (sym here)) Outermost Outermost' h Below Below' f a.work c.todo c.expected c.goes;
       }
-
--- the instances on a chain are others than the one that is given back, and keep the copies that they have in hand
-pub chain_later : (s : Source) (o : AllArrays) (m : Instances) (o' : AllArrays) (m' : Instances) (Apart : ℕ → Type 0) → Later s o m o' m' Apart → (Keeps : ℕ → Type 0) → ((j d : ℕ) → Keeps j → Copies o o' j d) → ((j : ℕ) → Keeps j → Steady o m o' m' j) → (floor : Option ℕ) (Ground Ground' : Waits → Type 0) → ((v : Waits) → Ground v → Ground' v) → (Outermost : List Activation → Type 0) (chain : List Activation) → AllOf Apart chain → AllOf Keeps chain → (v : Waits) → ChainOn s o m floor Ground Outermost chain v → ChainOn s o' m' floor Ground' Outermost chain v
-chain_later s o m o' m' Apart e Keeps all steady floor Ground Ground' grounds Outermost [] apart keeps v c = grounds v c
-chain_later s o m o' m' Apart e Keeps all steady floor Ground Ground' grounds Outermost (a ∷ rest) apart keeps v c =
-    let z = steady a.instance keeps.0 in
-    act_later s o m o' m' Apart e a apart.0 z.1 (λ d. all a.instance d keeps.0) (awaited o.waiting a.instance v) (awaited o'.waiting a.instance v) (sym (awaited_same o.waiting o'.waiting a.instance v z.0)) (first_over floor rest) (first_over floor rest) refl (Outermost rest) (Outermost rest) (λ q. q) (λ w. ChainOn s o m floor Ground Outermost rest w) (λ w. ChainOn s o' m' floor Ground' Outermost rest w)
-    (λ w b. chain_later s o m o' m' Apart e Keeps all steady floor Ground Ground' grounds Outermost rest apart.1 keeps.1 w b) c
-
--- the operating chain
-pub fine_later : (s : Source) (o : AllArrays) (m : Instances) (o' : AllArrays) (m' : Instances) (Apart : ℕ → Type 0) → Later s o m o' m' Apart → (Keeps : ℕ → Type 0) → ((j d : ℕ) → Keeps j → Copies o o' j d) → ((j : ℕ) → Keeps j → Steady o m o' m' j) → (chain : List Activation) → AllOf Apart chain → AllOf Keeps chain → (v : Waits) → ChainFine s o m chain v → ChainFine s o' m' chain v
-fine_later s o m o' m' Apart e Keeps all steady chain apart keeps v c = chain_later s o m o' m' Apart e Keeps all steady None (λ v. ⊥) (λ v. ⊥) (λ v a. a) (λ rest. rest ≡ []) chain apart keeps v c
 
 -- how each instance stands
 abbrev pub AllStand : Source → AllArrays → Instances → Type 0
 AllStand s o m = (j : ℕ) (x : Standing Activation) → slice_get m.standings j ≡ Some x → StandsFine s o m j x
 
-module _ (s : Source) (o : AllArrays) (m : Instances) (o' : AllArrays) (m' : Instances) (Apart : ℕ → Type 0) (e : Later s o m o' m' Apart) (Keeps : ℕ → Type 0) (all : (j d : ℕ) → Keeps j → Copies o o' j d) (steady : (j : ℕ) → Keeps j → Steady o m o' m' j) where
+-- The instances on a chain are others than the one that is given back. What has a seat keeps the copies that it has in hand; and an instance's own
+-- waits for the same as a system head, and is a resumed object if it was one.
+module _ (s : Source) (o : AllArrays) (m : Instances) (o' : AllArrays) (m' : Instances) (Apart : ℕ → Type 0) (e : Later s o m o' m' Apart) (Keeps : Seat → Type 0) (all : (q : Seat) (j d : ℕ) → Keeps q → Apart j → Copies (at_seat o q) (at_seat o' q) j d) (steady : (j : ℕ) → Keeps (own_seat j) → Steady o m o' m' j) where
+  steady_on : (u : Option ℕ) (f : Footing) → SeatOf Keeps (seat_on u f) → (j : ℕ) → u ≡ Some j → Steady o m o' m' j
+  steady_on None f k j is = absurd (cc)
+  steady_on (Some i) f k j is = subst (Steady o m o' m') (same_some (Some i) i j refl is) (steady i k)
+
+  copies_on : (i : ℕ) (x : Option Seat) → SeatOf Keeps x → SeatOf (λ q. Apart i → (d : ℕ) → Copies (at_seat o q) (at_seat o' q) i d) x
+  copies_on i None k = k
+  copies_on i (Some q) k = λ ok d. all q i d k ok
+
+  pub chain_later : (floor : Option ℕ) (Ground Ground' : Waits → Type 0) → ((v : Waits) → Ground v → Ground' v) → (Outermost : List Activation → Type 0) (chain : List Activation) → AllSeats (λ q. Apart q.owner) floor chain → AllSeats Keeps floor chain → (v : Waits) → ChainOn s o m floor Ground Outermost chain v → ChainOn s o' m' floor Ground' Outermost chain v
+  chain_later floor Ground Ground' grounds Outermost [] apart keeps v c = grounds v c
+  chain_later floor Ground Ground' grounds Outermost (a ∷ rest) apart keeps v c =
+      let on = footing floor rest in
+      let z = steady_on (owner a) on keeps.0 in
+      act_later s o m o' m' Apart e a on on refl apart.0 (λ j is. (z j is).1) (copies_on a.instance (seat_on (owner a) on) keeps.0) (awaited o.waiting (owner a) v) (awaited o'.waiting (owner a) v) (sym (awaited_same o.waiting o'.waiting (owner a) v (λ j is. (z j is).0))) (Outermost rest) (Outermost rest) (λ q. q) (λ w. ChainOn s o m floor Ground Outermost rest w) (λ w. ChainOn s o' m' floor Ground' Outermost rest w)
+      (λ w b. chain_later floor Ground Ground' grounds Outermost rest apart.1 keeps.1 w b) c
+
+  -- the operating chain
+  pub fine_later : (chain : List Activation) → AllSeats (λ q. Apart q.owner) None chain → AllSeats Keeps None chain → (v : Waits) → ChainFine s o m chain v → ChainFine s o' m' chain v
+  fine_later chain apart keeps v c = chain_later None (λ v. ⊥) (λ v. ⊥) (λ v a. a) (λ rest. rest ≡ []) chain apart keeps v c
+
   -- what a system head waits for is noted as before
-  pub standing_later : (j : ℕ) (x : Standing Activation) → o'.waiting j ≡ o.waiting j → OnKept Apart x → OnKept Keeps x → StandsFine s o m j x → StandsFine s o' m' j x
+  pub standing_later : (j : ℕ) (x : Standing Activation) → o'.waiting j ≡ o.waiting j → KeptSeats (λ q. Apart q.owner) j x → KeptSeats Keeps j x → StandsFine s o m j x → StandsFine s o' m' j x
   standing_later j (NoObject None) same apart keeps a = tt
   standing_later j (NoObject (Some chain)) same apart keeps a =
-      chain_later s o m o' m' Apart e Keeps all steady (Some j) (λ v. awaited o.waiting j v ≡ o.waiting j) (λ v. awaited o'.waiting j v ≡ o'.waiting j) (λ v is. awaited_same o.waiting o'.waiting j v same ∙ is ∙ sym same) (λ rest. ⊥) chain apart keeps (Takes None) a
+      chain_later (Some j) (λ v. awaited o.waiting (Some j) v ≡ o.waiting j) (λ v. awaited o'.waiting (Some j) v ≡ o'.waiting j) (λ v is. awaited_same o.waiting o'.waiting (Some j) v (λ i at. subst (λ z. o'.waiting z ≡ o.waiting z) (same_some (Some j) j i refl at) same) ∙ is ∙ sym same) (λ rest. ⊥) chain apart keeps (Takes None) a
   standing_later j AttachedObject same apart keeps a = tt
   standing_later j (DetachedObject chain) same apart keeps a = record {
     stays = stays_later s o m o' m' Apart e j a.stays;
     last = a.last;
-    fine = chain_later s o m o' m' Apart e Keeps all steady None (λ v. v ≡ Takes None) (λ v. v ≡ Takes None) (λ v is. is) (λ rest. ⊥) chain apart keeps (Takes None) a.fine;
+    fine = chain_later None (λ v. v ≡ Takes None) (λ v. v ≡ Takes None) (λ v is. is) (λ rest. ⊥) chain apart keeps (Takes None) a.fine;
   }
   standing_later j ResumedObject same apart keeps a = stays_later s o m o' m' Apart e j a
   standing_later j TerminatedObject same apart keeps a = tt
 
-  pub kept_later : m'.standings ≡ m.standings → o'.waiting ≡ o.waiting → AllKept Apart m → AllKept Keeps m → AllStand s o m → AllStand s o' m'
+  pub kept_later : m'.standings ≡ m.standings → o'.waiting ≡ o.waiting → AllKeptSeats (λ q. Apart q.owner) m → AllKeptSeats Keeps m → AllStand s o m → AllStand s o' m'
   kept_later same waits apart keeps f j x is =
       let was : slice_get m.standings j ≡ Some x = ap (λ z. slice_get z j) (sym same) ∙ is in
       standing_later j x (ap (λ z. z j) waits) (apart j x was) (keeps j x was) (f j x was)
 
 -- ---- a step that gives nothing back
 
-pub all_of : (P : ℕ → Type 0) → ((j : ℕ) → P j) → (chain : List Activation) → AllOf P chain
-all_of P f [] = tt
-all_of P f (a ∷ rest) = (f a.instance, all_of P f rest)
+pub seats_map : (P Q : Seat → Type 0) → ((q : Seat) → P q → Q q) → (floor : Option ℕ) (chain : List Activation) → AllSeats P floor chain → AllSeats Q floor chain
+seats_map P Q f floor [] a = tt
+seats_map P Q f floor (x ∷ rest) a = (by_seat (seat_on (owner x) (footing floor rest)) a.0, seats_map P Q f floor rest a.1)
+  where
+    by_seat : (u : Option Seat) → SeatOf P u → SeatOf Q u
+    by_seat None a = a
+    by_seat (Some q) a = f q a
 
-pub all_map : (P Q : ℕ → Type 0) → ((j : ℕ) → P j → Q j) → (chain : List Activation) → AllOf P chain → AllOf Q chain
-all_map P Q f [] a = tt
-all_map P Q f (x ∷ rest) a = (f x.instance a.0, all_map P Q f rest a.1)
+pub all_seats : (P : Seat → Type 0) → ((q : Seat) → P q) → (floor : Option ℕ) (chain : List Activation) → AllSeats P floor chain
+all_seats P f floor [] = tt
+all_seats P f floor (a ∷ rest) = (by_seat (seat_on (owner a) (footing floor rest)), all_seats P f floor rest)
+  where
+    by_seat : (u : Option Seat) → SeatOf P u
+    by_seat None = tt
+    by_seat (Some q) = f q
 
-pub kept_map : (P Q : ℕ → Type 0) → ((j : ℕ) → P j → Q j) → (x : Standing Activation) → OnKept P x → OnKept Q x
-kept_map P Q f (NoObject None) a = tt
-kept_map P Q f (NoObject (Some chain)) a = all_map P Q f chain a
-kept_map P Q f AttachedObject a = tt
-kept_map P Q f (DetachedObject chain) a = all_map P Q f chain a
-kept_map P Q f ResumedObject a = tt
-kept_map P Q f TerminatedObject a = tt
+pub kept_seats_map : (P Q : Seat → Type 0) → ((q : Seat) → P q → Q q) → (j : ℕ) (x : Standing Activation) → KeptSeats P j x → KeptSeats Q j x
+kept_seats_map P Q f j (NoObject None) a = tt
+kept_seats_map P Q f j (NoObject (Some chain)) a = seats_map P Q f (Some j) chain a
+kept_seats_map P Q f j AttachedObject a = tt
+kept_seats_map P Q f j (DetachedObject chain) a = seats_map P Q f None chain a
+kept_seats_map P Q f j ResumedObject a = tt
+kept_seats_map P Q f j TerminatedObject a = tt
 
 -- all instances are apart from none
 abbrev pub All : ℕ → Type 0
 All j = Unit {0}
 
-pub all_apart : (chain : List Activation) → AllOf All chain
-all_apart [] = tt
-all_apart (a ∷ rest) = (tt, all_apart rest)
+abbrev pub AnySeat : Seat → Type 0
+AnySeat q = Unit {0}
 
-pub standing_apart : (x : Standing Activation) → OnKept All x
-standing_apart (NoObject None) = tt
-standing_apart (NoObject (Some chain)) = all_apart chain
-standing_apart AttachedObject = tt
-standing_apart (DetachedObject chain) = all_apart chain
-standing_apart ResumedObject = tt
-standing_apart TerminatedObject = tt
+pub all_apart : (floor : Option ℕ) (chain : List Activation) → AllSeats AnySeat floor chain
+all_apart floor chain = all_seats AnySeat (λ q. tt) floor chain
+
+pub standing_apart : (j : ℕ) (x : Standing Activation) → KeptSeats AnySeat j x
+standing_apart j (NoObject None) = tt
+standing_apart j (NoObject (Some chain)) = all_apart (Some j) chain
+standing_apart j AttachedObject = tt
+standing_apart j (DetachedObject chain) = all_apart None chain
+standing_apart j ResumedObject = tt
+standing_apart j TerminatedObject = tt
 
 -- where all stands as it did
 pub steady_same : (o : AllArrays) (m : Instances) (o' : AllArrays) (m' : Instances) → m'.standings ≡ m.standings → o'.waiting ≡ o.waiting → (j : ℕ) → Steady o m o' m' j
 steady_same o m o' m' same waits j = (ap (λ z. z j) waits, ap (λ z. is_resumed (slice_get z j)) same)
 
 -- where no copy in hand is changed
-pub kept_all : (s : Source) (o : AllArrays) (m : Instances) (o' : AllArrays) (m' : Instances) → Later s o m o' m' All → m'.standings ≡ m.standings → o'.waiting ≡ o.waiting → ((j d : ℕ) → Copies o o' j d) → AllStand s o m → AllStand s o' m'
-kept_all s o m o' m' e same waits copies f = kept_later s o m o' m' All e All (λ j d k. copies j d) (λ j k. steady_same o m o' m' same waits j) same waits (λ j x is. standing_apart x) (λ j x is. standing_apart x) f
+pub kept_all : (s : Source) (o : AllArrays) (m : Instances) (o' : AllArrays) (m' : Instances) → Later s o m o' m' All → m'.standings ≡ m.standings → o'.waiting ≡ o.waiting → AllCopies o o' → AllStand s o m → AllStand s o' m'
+kept_all s o m o' m' e same waits copies f = kept_later s o m o' m' All e AnySeat (λ q j d k ok. copies q j d) (λ j k. steady_same o m o' m' same waits j) same waits (λ j x is. standing_apart j x) (λ j x is. standing_apart j x) f
 
 -- one after the other
 pub later_then : (s : Source) (o : AllArrays) (m : Instances) (o' : AllArrays) (m' : Instances) (o'' : AllArrays) (m'' : Instances) → Later s o m o' m' All → Later s o' m' o'' m'' All → Later s o m o'' m'' All

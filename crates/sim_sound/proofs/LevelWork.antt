@@ -19,7 +19,8 @@ use Rattle.sim_sound.proofs.ClassLevels.{AllLevels, LevelIn, LevelIs, LevelsAre,
 use Rattle.sim_sound.proofs.Lists.{same_some}
 use Rattle.sim_sound.proofs.Prefixes.{LevelOf}
 use Rattle.sim_sound.proofs.Running.{Begun, WorkFine}
-use Rattle.sim_sound.proofs.Sound.{AllArrays, Component, KeyAmong, Kinds, LevelsFine, Made, ProcessText, Waits, key_of, keys_in}
+use Rattle.sim_sound.proofs.Sound.{LevelsFine, ProcessText}
+use Rattle.sim_sound.proofs.Values.{AllArrays, Component, KeyAmong, Kinds, Made, Waits, key_of, keys_in}
 
 -- ---- the cells and the levels of what has levels
 

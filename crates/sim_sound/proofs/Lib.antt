@@ -1,6 +1,7 @@
 pub mod Prefixes
 pub mod Unprefixed
 pub mod Acyclic
+pub mod Values
 pub mod Sound
 pub mod Running
 pub mod Later
@@ -24,6 +25,7 @@ pub mod Attributes
 pub mod Reach
 pub mod Calls
 pub mod Formals
+pub mod Passed
 pub mod Closing
 pub mod Lefts
 pub mod Cells
@@ -46,6 +48,8 @@ pub mod ClassLevels
 pub mod LevelWork
 pub mod Joining
 pub mod Objects
+pub mod Evaluations
+pub mod EvaluationEnds
 pub mod Beginning
 pub mod SetWork
 pub mod ProcessWork
@@ -55,11 +59,14 @@ pub mod Chains
 pub mod Standings
 pub mod Keeping
 pub mod Naming
+pub mod Uses
 pub mod Virtuals
 pub mod Main
 pub mod Examples
 pub mod ClassExamples
+pub mod Places
 pub mod PrefixExamples
+pub mod NameExamples
 pub mod BlockExamples
 pub mod SetExamples
 pub mod WorkedPrograms

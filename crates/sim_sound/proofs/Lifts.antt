@@ -17,11 +17,12 @@ use Rattle.sim_values.specs.Words.{is_exhausted}
 use Rattle.sim_values.specs.Store.{Store}
 use Rattle.sim_code.specs.Outcome.{Ended, Ending, Going, NoRule, Run, RunFault, StorageExhausted, TickLimit, World}
 use Rattle.sim_code.specs.Events.{answering, applying_one, applying_two, assigning, choosing, computing, entering, having, integer_in, joining, making_text, pop_integers, pop_plain, pop_text, pop_truth, popping, stopping, taking, testing_step, text_val, ticking, truth_in, when, with_texts}
-use Rattle.sim_meaning.specs.Pending.{Address, ArrayValue, Instances, Link, Of, ProcedureValue, Tree, Val, plain}
+use Rattle.sim_meaning.specs.Pending.{Address, ArrayValue, Instances, Link, Of, ProcedureValue, Actual, Val, plain}
 use Rattle.sim_scope.specs.Source.{Source}
 use Rattle.sim_sound.specs.Held.{Simply}
 use Rattle.sim_sound.specs.Expressions.{TwoKinds}
-use Rattle.sim_sound.proofs.Sound.{AllArrays, DeepFine, HandsFine, Kinds, OneKinds, PlainFine, ValFine, Value, integers}
+use Rattle.sim_sound.proofs.Sound.{OneKinds, integers}
+use Rattle.sim_sound.proofs.Values.{AllArrays, DeepFine, HandsFine, Kinds, PlainFine, ValFine, Value}
 
 abbrev pub Goes : {S : Type 0} → (P : World → S → Type 0) → Run S → Type 0
 Goes P (Going o c) = P o c
@@ -89,7 +90,7 @@ module _ {S : Type 0} (P : World → S → Type 0) where
     simple_is k (Address i) o f h x = absurd h
     simple_is k (ArrayValue i) o f h x = absurd h
     simple_is k (ProcedureValue t i) o f h x = absurd h
-    simple_is k (Tree t) o f h x = absurd h
+    simple_is k (Actual home t) o f h x = absurd h
 
     -- a value of a kind, and the object that it names
     pub known_popped : (k : Kind) (ks : List Kinds) (vals : List Val) (o : World) (f : Plain → List Val → Run S) → HandsFine s a m j (Value (Simply k) ∷ ks) vals → ((p : Plain) (rest : List Val) → PlainFine s m (Simply k) p → HandsFine s a m j ks rest → Goes P (f p rest)) → Goes P (pop_plain plain vals o f)

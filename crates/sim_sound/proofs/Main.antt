@@ -8,7 +8,7 @@ use Rattle.sim_values.specs.declared.kind.Kind.TheVariants as kind
 use Rattle.sim_code.specs.Outcome.{Ended, Ending, Going, NoRule, Normal, Run, World, after, next}
 use Rattle.sim_meaning.specs.Meaning.{do_chain, do_item, do_op, do_work, opening, run, step, sub_block_entered}
 use Rattle.sim_meaning.specs.Sane.{NamesObjects, NamesOn, Sane, StaysSane}
-use Rattle.sim_meaning.specs.Pending.{ActivateOp, Activation, AgainOp, ArrayOp, AttributeOp, BackOp, BlockOp, BranchOp, CallOp, ChooseOp, Configuration, ConnectOp, CopyOp, DeclareOp, Do, DropOp, ElementOp, ElementsOp, EndBlock, EndLevel, EndObject, EndPrefixed, EndProcedure, EndProcessOp, EndProgram, EnterOp, Eval, Exec, Execs, FetchOp, FitsOp, GiveOp, IfOp, InnerOp, Instances, Item, JoinOp, KeepOp, LevelOp, MemberOp, NewOp, NotNoneOp, ObjectOp, OneOp, Op, PastOp, PrefixedOp, ProcessOp, QuaOp, QualifiedElementOp, RaiseOp, ReferOp, SelfOp, SetOp, SimulationOp, ShareOp, StandardOp, StepOp, StepTestOp, StoreOp, SwapOp, TestOp, TransferOp, TwoOp, Val, WhenOp, WhileElementOp, VirtualOp, CheckOp, CallValueOp}
+use Rattle.sim_meaning.specs.Pending.{CloseOp, NamedOp, ActivateOp, Activation, AgainOp, ArrayOp, AttributeOp, BackOp, BlockOp, BranchOp, CallOp, ChooseOp, Configuration, ConnectOp, CopyOp, DeclareOp, Do, DropOp, ElementOp, ElementsOp, EndBlock, EndEvaluation, EndLevel, EndObject, EndPrefixed, EndProcedure, EndProcessOp, EndProgram, EnterOp, Eval, Exec, Execs, FetchOp, FitsOp, GiveOp, IfOp, InnerOp, Instances, Item, JoinOp, KeepOp, LevelOp, MemberOp, NewOp, NotNoneOp, ObjectOp, OneOp, Op, PastOp, PrefixedOp, ProcessOp, QuaOp, QualifiedElementOp, RaiseOp, ReferOp, SelfOp, SetOp, SimulationOp, ShareOp, StandardOp, StepOp, StepTestOp, StoreOp, SwapOp, TestOp, TransferOp, TwoOp, Val, WhenOp, WhileElementOp, VirtualOp, CheckOp, CallValueOp}
 use Rattle.sim_sound.specs.Held.{Simply}
 use Rattle.sim_sound.specs.Typed.{Typed}
 use Rattle.sim_sound.proofs.Cells.{site_whole}
@@ -18,23 +18,27 @@ use Rattle.sim_sound.proofs.Beginning.{first_goes}
 use Rattle.sim_sound.proofs.Entering.{block_entered, called_goes}
 use Rattle.sim_sound.proofs.Evals.{IsFine, Work, goes_on}
 use Rattle.sim_sound.proofs.Keeping.{fine_sane}
-use Rattle.sim_sound.proofs.Later.{live_less}
+use Rattle.sim_sound.proofs.EvaluationEnds.{evaluation_ends}
+use Rattle.sim_sound.proofs.Evaluations.{named_op}
+use Rattle.sim_sound.proofs.Later.{All, AllCopies, AnySeat, all_apart, fine_later, later_none, live_less, seated_later, work_later}
 use Rattle.sim_sound.proofs.Lifts.{Goes, stops}
-use Rattle.sim_sound.proofs.Moves.{operates_first}
+use Rattle.sim_sound.proofs.Moves.{later_there, operates_first}
+use Rattle.sim_sound.proofs.Ops.{store_with}
 use Rattle.sim_sound.proofs.Naming.{fine_names}
 use Rattle.sim_sound.proofs.Objects.{declare_goes, inner_goes, level_goes, new_goes, prefixed_goes}
-use Rattle.sim_sound.proofs.Operators.{again_op, array_op, attribute_op, copy_op, drop_op, element_op, eval_op, fetch_op, fits_op, give_op, if_op, join_op, keep_op, member_op, not_none_op, object_op, one_op, past_op, qua_op, qualified_element_op, refer_op, share_op, standard_op, step_op, store_op, swap_op, two_op}
-use Rattle.sim_sound.proofs.Running.{Begun, ChainFine, Fine, Headed, Operates, Placed, StoreFine, WorkFine, opens, runs}
+use Rattle.sim_sound.proofs.Operators.{close_op, again_op, array_op, attribute_op, copy_op, drop_op, element_op, eval_op, fetch_op, fits_op, give_op, if_op, join_op, keep_op, member_op, not_none_op, object_op, one_op, past_op, qua_op, qualified_element_op, refer_op, share_op, standard_op, step_op, store_op, swap_op, two_op}
+use Rattle.sim_sound.proofs.Running.{Begun, ChainFine, Fine, Headed, Operates, Placed, StoreFine, WorkFine, opens, own_seat, runs}
 use Rattle.sim_sound.proofs.ProcessWork.{block_op, end_process_op, process_op, self_op}
 use Rattle.sim_sound.proofs.SetWork.{set_op}
 use Rattle.sim_sound.proofs.SimulationWork.{activate_op, simulation_op}
-use Rattle.sim_sound.proofs.Sound.{HandsFine, Kinds, Marks, OpFine, Takes, Value, see}
+use Rattle.sim_sound.proofs.Sound.{OpFine}
+use Rattle.sim_sound.proofs.Values.{AllArrays, HandsFine, Kinds, Marks, Seat, Takes, Value, Waits, at_seat, see}
 use Rattle.sim_sound.proofs.Transfers.{transfer_op}
 use Rattle.sim_sound.proofs.Virtuals.{call_value_op, check_op, virtual_op}
 use Rattle.sim_sound.proofs.Statements.{branch_goes, choose_goes, elements_goes, exec_goes, execs_goes, raise_goes, step_goes, test_goes, while_goes}
 
 module _ (s : Source) (ok : Typed s) (l : Limits) (o : World) (g : Marks) (long : length g.sights ≡ length o.arrays) where
-  module _ (m : Instances) (i t : ℕ) (rest : List Activation) (top : Operates g.beneath m i rest) (w : List Item) (vals : List Val) where
+  module _ (m : Instances) (i t : ℕ) (rest : List Activation) (top : Operates g.beneath g.seat m i rest) (w : List Item) (vals : List Val) where
     abbrev Wk : List Item → List DeclNo → List Kinds → Type 0
     Wk w todo ks = Work s o g long m i t rest top w todo ks
 
@@ -75,6 +79,9 @@ module _ (s : Source) (ok : Typed s) (l : Limits) (o : World) (g : Marks) (long 
     op_goes (MemberOp member c) todo todo' before behind a b h work = member_op s ok l o g long m i t rest top w vals todo todo' before behind b h work member c a
     op_goes (QuaOp c line) todo todo' before behind a b h work = qua_op s ok l o g long m i t rest top w vals todo todo' before behind b h work c line a
     op_goes (FitsOp c line) todo todo' before behind a b h work = fits_op s ok l o g long m i t rest top w vals todo todo' before behind b h work c line a
+    -- parameters by name
+    op_goes (NamedOp e key wanted) todo todo' before behind a b h work = named_op s ok l o g long m i t rest top w vals todo before b h e key wanted todo' behind a work
+    op_goes (CloseOp e) todo todo' before behind a b h work = close_op s ok l o g long m i t rest top w vals todo todo' before behind b h work e a
     op_goes KeepOp todo todo' before behind a b h work = keep_op s ok l o g long m i t rest top w vals todo todo' before behind b h work a
     op_goes (NotNoneOp line) todo todo' before behind a b h work = not_none_op s ok l o g long m i t rest top w vals todo todo' before behind b h work line a
     op_goes (SetOp name) todo todo' before behind a b h work = set_op s ok l o g long m i t rest top w vals todo todo' before behind b h work name a
@@ -158,23 +165,43 @@ module _ (s : Source) (ok : Typed s) (l : Limits) (o : World) (g : Marks) (long 
 
     item_goes : (x : Item) (todo : List DeclNo) (ks : List Kinds) → Bg todo → Hd ks → Wk (x ∷ w) todo ks → Goes (IsFine s) (do_item s l o m i w vals rest x)
     item_goes (Do op) todo ks b h a = op_goes op todo a.0 ks a.1 a.2 b h a.3
-    item_goes EndBlock todo ks b h a = leaves s ok l o g long m i t todo b b.own rest top a.0 None None tt a.1
-    item_goes (EndProcedure leaves') todo ks b h a = procedure_ends s ok l o g long m i t todo b b.own leaves' w vals rest top a.0 a.1 a.2 a.3 a.4 a.5 a.6 a.7 a.8
+    item_goes EndBlock todo ks b h a = leaves s ok l o g long m i t todo b b.own rest top (a.2).1 a.0 None None tt a.1
+    item_goes (EndProcedure leaves') todo ks b h a = procedure_ends s ok l o g long m i t todo b b.own leaves' w vals rest top (a.9).1 a.0 a.1 a.2 a.3 a.4 a.5 a.6 a.7 a.8
     item_goes (EndLevel k) todo ks b h a = goes_on s o g long m i t rest top w vals todo ks b h a
-    item_goes EndObject todo ks b h a = object_ends s ok l o g long m i t todo b b.own w vals rest top a.0 a.1 a.2 a.3 a.4 a.5 a.6
-    item_goes EndPrefixed todo ks b h a = leaves s ok l o g long m i t todo b b.own rest top a.0 None None tt a.1
+    item_goes EndObject todo ks b h a = object_ends s ok l o g long m i t todo b b.own w vals rest top (a.7).1 a.0 a.1 a.2 a.3 a.4 a.5 a.6
+    item_goes EndPrefixed todo ks b h a = leaves s ok l o g long m i t todo b b.own rest top (a.2).1 a.0 None None tt a.1
+    item_goes (EndEvaluation wanted) todo ks b h a = evaluation_ends s ok l o g long m i t rest top w vals todo ks b h wanted a
     item_goes EndProgram todo ks b h a = stops (IsFine s) Normal o (λ e. cc)
 
-  work_goes : (m : Instances) (i t : ℕ) (rest : List Activation) (top : Operates g.beneath m i rest) (vals : List Val) (work : List Item) (todo : List DeclNo) (ks : List Kinds) → Begun s (see g o) m i t todo → HandsFine s (see g o) m i ks vals → Work s o g long m i t rest top work todo ks → Goes (IsFine s) (do_work s l o m i vals rest work)
+  work_goes : (m : Instances) (i t : ℕ) (rest : List Activation) (top : Operates g.beneath g.seat m i rest) (vals : List Val) (work : List Item) (todo : List DeclNo) (ks : List Kinds) → Begun s (see g o) m i t todo → HandsFine s (see g o) m i ks vals → Work s o g long m i t rest top work todo ks → Goes (IsFine s) (do_work s l o m i vals rest work)
   work_goes m i t rest top vals [] todo ks b h a = absurd a
   work_goes m i t rest top vals (x ∷ w) todo ks b h a = item_goes m i t rest top w vals x todo ks b h a
 
+-- what is looked at from where it operates
+module _ (s : Source) (o : AllArrays) (q : Seat) (m : Instances) where
+  same_copies : AllCopies o (at_seat o q)
+  same_copies p j d e h a less f = f
+
+  store_there : StoreFine s o m → StoreFine s (at_seat o q) m
+  store_there store = store_with s o (at_seat o q) m (later_there s o q m) refl refl same_copies store.elements store.members store.simulations store
+
+  below_there : (rest : List Activation) (v : Waits) → ChainFine s o m rest v → ChainFine s (at_seat o q) m rest v
+  below_there rest v c = fine_later s o m (at_seat o q) m All (later_there s o q m) AnySeat (λ p j d k ok. same_copies p j d) (λ j k. (refl, refl)) rest (all_apart None rest) (all_apart None rest) v c
+
+  work_there : (rest : List Activation) (i t : ℕ) (w : List Item) (todo : List DeclNo) (ks : List Kinds) → WorkFine s (at_seat o q) m (λ v. ChainFine s o m rest v) (rest ≡ []) i t w todo ks → WorkFine s (at_seat o q) m (λ v. ChainFine s (at_seat o q) m rest v) (rest ≡ []) i t w todo ks
+  work_there rest i t w todo ks a = work_later s (at_seat o q) m (at_seat o q) m All (later_none s (at_seat o q) m) i t tt refl (λ own. refl) (rest ≡ []) (rest ≡ []) (λ z. z) (λ v. ChainFine s o m rest v) (λ v. ChainFine s (at_seat o q) m rest v) (below_there rest) w todo ks a
+
+module _ (s : Source) (ok : Typed s) (l : Limits) (o : World) (g : Marks) (long : length g.sights ≡ length o.arrays) where
   chain_goes : (m : Instances) (chain : List Activation) → StoreFine s (see g o) m → Placed m chain → Headed m chain → ChainFine s (see g o) m chain (Takes None) → Goes (IsFine s) (do_chain s l o m chain)
   chain_goes m [] store placed headed c = absurd c
   chain_goes m (a ∷ rest) store placed headed c =
       let before = live_less m a.instance (c.here).now (c.here).lives in
-      work_goes m a.instance c.of_text rest (operates_first g.beneath m a rest before c.on placed headed) a.values a.work c.todo c.kinds (record { store = store; here = c.here; own = c.own }) (subst (λ z. HandsFine s (see g o) m a.instance c.kinds z) (sym c.shown) c.hands)
-      (subst (λ z. WorkFine s (see g o) m (λ v. ChainFine s (see g o) m rest v) (rest ≡ []) a.instance c.of_text a.work c.todo z) (sym c.expects) c.goes)
+      let q = c.seat in
+      let there : Marks = record g { seat = q } in
+      work_goes s ok l o there long m a.instance c.of_text rest (operates_first g.beneath q m a rest before c.stands_on c.seated placed headed) a.values a.work c.todo c.kinds
+      (record { store = store_there s (see g o) q m store; here = c.here; own = c.own; works = seated_later s (see g o) m (see there o) m All (later_there s (see g o) q m) q a.instance tt c.works })
+      (subst (λ z. HandsFine s (see there o) m a.instance c.kinds z) (sym c.shown) c.hands)
+      (work_there s (see g o) q m rest a.instance c.of_text a.work c.todo c.kinds (subst (λ z. WorkFine s (see there o) m (λ v. ChainFine s (see g o) m rest v) (rest ≡ []) a.instance c.of_text a.work c.todo z) (sym c.expects) c.goes))
 
   -- a step from where there is a rule leads to where there is one, or to an end
   pub fine_step : (c : Configuration) → Fine s (see g o) c → Goes (IsFine s) (step s l o c)
@@ -194,7 +221,7 @@ pub no_end : (s : Source) (r : Run Configuration) (o : World) (e : Ending) → r
 no_end s r o e is f = subst (Goes (IsFine s)) is f
 
 opened : (s : Source) → Typed s → (l : Limits) (input : List ℕ) (n : ℕ) → Goes (IsFine s) (run s l input n)
-opened s ok l input n = after_goes s ok l n (opening s l input) (record { sights = []; beneath = []; waiting = λ j. Takes None }, refl, opens refl refl refl refl refl refl refl)
+opened s ok l input n = after_goes s ok l n (opening s l input) (record { sights = []; beneath = []; waiting = λ j. Takes None; seat = own_seat 0 }, refl, opens refl refl refl refl refl refl refl)
 
 -- a typed program never comes to where there is no rule
 pub never_no_rule : (s : Source) → Typed s → (l : Limits) (input : List ℕ) (n : ℕ) (o : World) → run s l input n ≡ Ended o NoRule → ⊥
@@ -210,8 +237,8 @@ stays_sane s ok l input n o c is = sane_on s (run s l input n) o c is (opened s 
 
 -- ---- references name objects
 
-named_on : (s : Source) → Typed s → (r : Run Configuration) (o : World) (c : Configuration) → r ≡ Going o c → Goes (IsFine s) r → NamesOn s c.memory c.chain
-named_on s ok r o c is f = let x = subst (Goes (IsFine s)) is f in fine_names s ok (see x.0 o) c x.2
+named_on : (s : Source) → Typed s → (r : Run Configuration) (o : World) (c : Configuration) → r ≡ Going o c → Goes (IsFine s) r → NamesOn s o c.memory c.chain
+named_on s ok r o c is f = let x = subst (Goes (IsFine s)) is f in fine_names s ok o x.0 c x.2
 
 pub names_objects : (s : Source) → Typed s → NamesObjects s
 names_objects s ok l input n o c is = named_on s ok (run s l input n) o c is (opened s ok l input n)

@@ -23,7 +23,8 @@ use Rattle.sim_sound.proofs.Prefixes.{LevelOf, level_has, level_is, level_then, 
 use Rattle.sim_sound.proofs.SetLists.{Near, Previous, PutAt, Stands, a_head_itself, a_link, cleared, each_head, each_link, each_long, followed, found_instance, found_new, found_still, gone_into, its_head, left_out, pred_near, preceded, prev_near, suc_near, was_head}
 use Rattle.sim_sound.proofs.Simulated.{SimulationsFine}
 use Rattle.sim_sound.proofs.SimulatedLists.{located_at, located_simulated, simulated_there}
-use Rattle.sim_sound.proofs.Sound.{Lasts, MainIn, ObjectOf, PrefixedAt, ReferenceFine, Simulates}
+use Rattle.sim_sound.proofs.Sound.{PrefixedAt}
+use Rattle.sim_sound.proofs.Values.{Lasts, MainIn, ObjectOf, ReferenceFine, Simulates}
 
 -- ---- what is fine
 

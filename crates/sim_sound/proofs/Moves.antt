@@ -2,7 +2,7 @@
 use Rattle.std.proofs.Common.{◌≡◌, ◌≢◌, ◌<◌, ◌≤◌, ◌+◌, ℕ, zero, suc, Bool, true, false, List, [], ◌∷◌, ◌++◌, length, map, Option, Some, None, ◌⊎◌, inl, inr, ⊎_elim, refl, sym, ap, ◌∙◌, subst, arith}
 use Rattle.std.proofs.lemmas.Bool.{cases_eq}
 use Rattle.std.specs.Prelude.{◌==◌, ◌&&◌, not, if◌then◌else◌, slice_get, slice_index_or, slice_set}
-use Rattle.sim_chains.specs.Chains.{once_if, times_above, times_on}
+use Rattle.sim_chains.specs.Chains.{is_instance, once_if, times_above, times_on}
 use Rattle.sim_chains.specs.Components.{AttachedObject, DetachedObject, NoObject, ResumedObject, Standing, TerminatedObject, standing_of}
 use Rattle.sim_chains.specs.WellFormed.{chain_in, is_object, over_kept, times_above_in}
 use Rattle.sim_scope.specs.Source.{Source}
@@ -11,20 +11,19 @@ use Rattle.sim_code.specs.Outcome.{ArrayOf as OneArray, Simulation, World}
 use Rattle.sim_code.specs.Arrays.{given_with, giving_back, goes_with, unless_given}
 use Rattle.sim_code.specs.Instances.{Instance, encloser_in, encloser_of, ends_in, entered, given, given_in, is_given_at_end, live, system_head, with_instance}
 use Rattle.sim_code.specs.Instances as instances
-use Rattle.sim_meaning.specs.Pending.{Activation, Held, Instances, Item, Key, Val, held, held_set, owner}
+use Rattle.sim_meaning.specs.Pending.{Activation, Held, Instances, Key, Val, held, held_set, owner}
 use Rattle.sim_meaning.specs.Meaning.{instances_left, text_of, words_of_text, world_left}
-use Rattle.sim_meaning.specs.Sane.{AllKept, Other}
 use Rattle.sim_meaning.specs.Texts.{text}
 use Rattle.sim_sound.specs.Held.{Holds, key_holds}
-use Rattle.sim_sound.proofs.Chains.{elsewhere_none, free, here_once, others_kept}
-use Rattle.sim_sound.proofs.Heads.{given_encloser, headed_first, headed_left, headed_on, heads_kept, heads_same, le_same, more_at, more_first, more_new, more_old, stands_as}
-use Rattle.sim_sound.proofs.Running.{ChainFine, Headed, NoObjectStands, ObjectStands, Operates, Placed, StandsFine, StandsOn, StoreFine, first_of, is_resumed, parts, places}
-use Rattle.sim_sound.proofs.Sound.{AllArrays, ArrayFine, Beneath, CellsFine, Enclosed, InstanceFine, KeyAmong, Knows, Marks, Near, Outward, Sight, Stays, ValFine, Waits, alone, at_itself, elements_of, key_of, near_below, near_staying, no_further, one_lower, one_out, outward, see, staying, within}
+use Rattle.sim_sound.proofs.Chains.{apart_kept, elsewhere_none, free, here_once, own_top, seat_idle, top_apart}
+use Rattle.sim_sound.proofs.Heads.{given_encloser, headed_as, headed_left, headed_on, heads_kept, heads_same, le_same, more_at, more_first, more_new, more_old, stands_as}
+use Rattle.sim_sound.proofs.Running.{AllKeptSeats, ChainFine, Headed, NoObjectStands, ObjectStands, Operates, Placed, StandsFine, StandsOn, StoreFine, first_of, footing, idle, is_resumed, own_seat, parts, places, seat_on}
+use Rattle.sim_sound.proofs.Values.{AllArrays, ArrayFine, Beneath, CellsFine, Enclosed, InstanceFine, KeyAmong, Knows, Marks, Near, Outward, Seat, Sight, Stays, ValFine, Waits, alone, at_itself, at_seat, elements_of, key_of, near_below, near_staying, no_further, one_lower, one_out, outward, see, staying, within}
 use Rattle.sim_sound.proofs.Changes.{array_there, cells_set, held_stays, keys_set}
 use Rattle.sim_sound.proofs.Members.{MembersFine, OneMore, StillAll, members_later}
 use Rattle.sim_sound.proofs.Simulated.{SimulationsFine}
 use Rattle.sim_sound.proofs.Simulating.{simulations_later}
-use Rattle.sim_sound.proofs.Later.{All, Copies, Grown, Later, Steady, StillThere, as_it_was, cells_later, enclosed_later, flags_grown, instance_later, kept_all, kept_later, lasts_later, live_less, object_later, plain_later, standing_apart, standing_later, steady_same}
+use Rattle.sim_sound.proofs.Later.{All, AllCopies, AnySeat, Copies, Grown, Later, Steady, StillThere, as_it_was, cells_later, enclosed_later, flags_grown, instance_later, kept_all, kept_later, lasts_later, live_less, object_later, plain_later, standing_apart, standing_later, steady_same}
 use Rattle.sim_sound.proofs.Lists.{append_at, append_before, if_false, no_some, old_or_new, one_longer, other_numbers, same_some, set_len, set_other, set_same, there_is}
 
 -- ---- an instance that is there
@@ -138,15 +137,47 @@ headed_same m n chain same h =
     headed_on m n chain chain same.standings (λ x e. heads_kept m n same.enclosers (λ j. ap (λ z. is_object (slice_index_or z j (NoObject None))) same.standings) x) (λ x y e. le_same (times_above owner x y chain)) h
 
 -- where it stands does not hang on its work and its values in hand
-pub placed_as : (m : Instances) (i : ℕ) (w : List Item) (vals : List Val) (rest : List Activation) → Placed m (record { instance = i; work = []; values = [] } ∷ rest) → Placed m (record { instance = i; work = w; values = vals } ∷ rest)
-placed_as m i w vals rest a = record { once = a.once; made = a.made; ended = a.ended; all = a.all; as_many = a.as_many }
+pub placed_as : (m : Instances) (a b : Activation) (rest : List Activation) → owner b ≡ owner a → Placed m (a ∷ rest) → Placed m (b ∷ rest)
+placed_as m a b rest same p =
+    let counted : (j : ℕ) → places m (b ∷ rest) j ≡ places m (a ∷ rest) j = λ j. ap (λ u. once_if (is_instance j u) + times_on owner j rest + over_kept (times_on owner j) m.standings) same in
+    record {
+      once = λ j. (let is = counted j in let less = p.once j in omega (arith, is, less));
+      made = λ j less. counted j ∙ p.made j less;
+      ended = λ j e. counted j ∙ p.ended j e;
+      all = λ j e. (let is = counted j in let there = p.all j e in omega (arith, is, there));
+      as_many = p.as_many;
+    }
+
+-- an evaluation comes to stand on a chain, or ends
+evaluation_counted : (m : Instances) (a : Activation) (rest : List Activation) → owner a ≡ None → (j : ℕ) → places m (a ∷ rest) j ≡ places m rest j
+evaluation_counted m a rest own j = let none : once_if (is_instance j (owner a)) ≡ 0 = ap (λ u. once_if (is_instance j u)) own in omega (arith, none)
+
+pub placed_with : (m : Instances) (a : Activation) (rest : List Activation) → owner a ≡ None → Placed m rest → Placed m (a ∷ rest)
+placed_with m a rest own p = record {
+  once = λ j. (let is = evaluation_counted m a rest own j in let less = p.once j in omega (arith, is, less));
+  made = λ j less. evaluation_counted m a rest own j ∙ p.made j less;
+  ended = λ j e. evaluation_counted m a rest own j ∙ p.ended j e;
+  all = λ j e. (let is = evaluation_counted m a rest own j in let there = p.all j e in omega (arith, is, there));
+  as_many = p.as_many;
+}
+
+pub placed_without : (m : Instances) (a : Activation) (rest : List Activation) → owner a ≡ None → Placed m (a ∷ rest) → Placed m rest
+placed_without m a rest own p = record {
+  once = λ j. (let is = evaluation_counted m a rest own j in let less = p.once j in omega (arith, is, less));
+  made = λ j less. sym (evaluation_counted m a rest own j) ∙ p.made j less;
+  ended = λ j e. sym (evaluation_counted m a rest own j) ∙ p.ended j e;
+  all = λ j e. (let is = evaluation_counted m a rest own j in let there = p.all j e in omega (arith, is, there));
+  as_many = p.as_many;
+}
 
 -- what is on top operates
-pub operates_first : (b : List (Option ℕ)) (m : Instances) (a : Activation) (rest : List Activation) → a.instance < length m.instances → StandsOn b m a.instance (first_of rest) → Placed m (a ∷ rest) → Headed m (a ∷ rest) → Operates b m a.instance rest
-operates_first b m a rest before on p h = record { before = before; on = on; placed = record { once = p.once; made = p.made; ended = p.ended; all = p.all; as_many = p.as_many }; headed = headed_first m a rest h }
+pub operates_first : (b : List (Option ℕ)) (q : Seat) (m : Instances) (a : Activation) (rest : List Activation) → a.instance < length m.instances → ((j : ℕ) → owner a ≡ Some j → StandsOn b m j (first_of rest)) → seat_on (owner a) (footing None rest) ≡ Some q → Placed m (a ∷ rest) → Headed m (a ∷ rest) → Operates b q m a.instance rest
+operates_first b q m a rest before on seated p h =
+    let same = seat_idle a (footing None rest) q seated in
+    record { before = before; stands_on = λ j is. on j (sym same ∙ is); seated = ap (λ u. seat_on u (footing None rest)) same ∙ seated; placed = placed_as m a (idle q a.instance) rest same p; headed = headed_as m a (idle q a.instance) rest same h }
 
-pub operates_on : (b : List (Option ℕ)) (m n : Instances) (i : ℕ) (rest : List Activation) → SameOnes m n → Operates b m i rest → Operates b n i rest
-operates_on b m n i rest same top = record { before = subst (λ z. i < z) (sym same.count) top.before; on = λ ends. top.on (same.ended i ends); placed = placed_on m n _ same top.placed; headed = headed_same m n _ same top.headed }
+pub operates_on : (b : List (Option ℕ)) (q : Seat) (m n : Instances) (i : ℕ) (rest : List Activation) → SameOnes m n → Operates b q m i rest → Operates b q n i rest
+operates_on b q m n i rest same top = record { before = subst (λ z. i < z) (sym same.count) top.before; stands_on = λ j is ends. top.stands_on j is (same.ended j ends); seated = top.seated; placed = placed_on m n _ same top.placed; headed = headed_same m n _ same top.headed }
 
 -- ---- instances alone
 
@@ -161,8 +192,8 @@ module _ (s : Source) (o o' : AllArrays) (m n : Instances) (real : o'.real ≡ o
   still_known : (a : ℕ) (x : Sight) → slice_get o.sights a ≡ Some x → slice_get o'.sights a ≡ Some x
   still_known a x e = ap (λ z. slice_get z a) sights ∙ e
 
-  pub still_copies : (j d : ℕ) → Copies o o' j d
-  still_copies j d e h a less f = record { it = f.it; lives = still_lives a f.it f.lives; hidden = still_known a _ f.hidden; owned = f.owned; count = f.count }
+  pub still_copies : AllCopies o o'
+  still_copies q j d e h a less f = record { it = f.it; lives = still_lives a f.it f.lives; hidden = still_known a _ f.hidden; owned = f.owned; count = f.count }
 
   module _ (nears : (j e : ℕ) → Near o m j e → Near o' n j e) where
     still_array : (j : ℕ) (h : Holds) (a : ℕ) → ArrayFine o m j h a → ArrayFine o' n j h a
@@ -196,6 +227,10 @@ module _ (s : Source) (o o' : AllArrays) (m n : Instances) (real : o'.real ≡ o
 
     pub later_instances : ((j : ℕ) → ObjectStands m j → ObjectStands n j) → ((j : ℕ) → NoObjectStands m j → NoObjectStands n j) → Later s o m o' n All
     later_instances objects nobody = later_nears still_near objects nobody
+
+-- what is looked at from another seat
+pub later_there : (s : Source) (o : AllArrays) (q : Seat) (m : Instances) → Later s o m (at_seat o q) m All
+later_there s o q m = later_instances s o (at_seat o q) m m refl refl (λ j x e. e) (λ j x lives. record { now = x; lives = lives; grown = as_it_was x }) (λ j a. a) (λ j a. a) (λ j a. a)
 
 -- ---- cells that are changed
 
@@ -253,7 +288,7 @@ module _ (s : Source) (o : AllArrays) (m : Instances) (e : ℕ) (y : Instance (L
   store_cells fine store = record {
     instances = each;
     elements = λ a i it x p l k at. plain_later s o m o set_in All later_cells (elements_of x) p (store.elements a i it x p l k at);
-    kept = kept_all s o m o set_in later_cells refl refl (λ j d e h a less f. f) store.kept;
+    kept = kept_all s o m o set_in later_cells refl refl (λ q j d e h a less f. f) store.kept;
     noted = store.noted ∙ sym (set_len m.instances e other);
     members = members_later s o.members m set_in all_still store.members;
     simulations = simulations_later s o.simulations m set_in all_still store.simulations;
@@ -369,12 +404,12 @@ once_at_most : (b : Bool) → once_if b ≤ 1
 once_at_most true = omega arith
 once_at_most false = omega arith
 
--- on top of which instance it was entered, and the linkages and the simulation blocks then
-abbrev pub on_top : AllArrays → Option ℕ → Memberships → List Simulation → AllArrays
-on_top o u b q = record o { beneath = o.beneath ++ u ∷ []; members = b; simulations = q }
+-- on top of which instance it was entered, and the linkages and the simulation blocks then; and it operates
+abbrev pub on_top : AllArrays → (instance : ℕ) → Option ℕ → Memberships → List Simulation → AllArrays
+on_top o n u b q = record o { beneath = o.beneath ++ u ∷ []; members = b; simulations = q; seat = own_seat n }
 
-abbrev pub marked : Marks → Option ℕ → Marks
-marked g u = record g { beneath = g.beneath ++ u ∷ [] }
+abbrev pub marked : Marks → (instance : ℕ) → Option ℕ → Marks
+marked g n u = record g { beneath = g.beneath ++ u ∷ []; seat = own_seat n }
 
 module _ (s : Source) (o : AllArrays) (m : Instances) (y : Instance (List Held)) (z : Standing Activation) (u : Option ℕ) (b : Memberships) (q : List Simulation) where
   abbrev after : Instances
@@ -385,7 +420,7 @@ module _ (s : Source) (o : AllArrays) (m : Instances) (y : Instance (List Held))
       let w = instance_there (slice_get after.instances j) x e in
       ⊎_elim (λ old. inl (instance_lives (slice_get m.instances j) x old w.1)) (λ new. inr new) (old_or_new m.instances y j x w.0)
 
-  still_noted : (j : ℕ) (x : Option ℕ) → slice_get o.beneath j ≡ Some x → slice_get (on_top o u b q).beneath j ≡ Some x
+  still_noted : (j : ℕ) (x : Option ℕ) → slice_get o.beneath j ≡ Some x → slice_get (on_top o (length m.instances) u b q).beneath j ≡ Some x
   still_noted j x e = append_before o.beneath u j (there_is o.beneath j x e) ∙ e
 
   still_there : (j : ℕ) (x : Instance (List Held)) → live m j ≡ Some x → StillThere after j x
@@ -394,30 +429,30 @@ module _ (s : Source) (o : AllArrays) (m : Instances) (y : Instance (List Held))
   still_ending_then : (j : ℕ) → is_given_at_end m j ≡ true → is_given_at_end after j ≡ true
   still_ending_then j e = let x = ending_there m j e in ap ends_in (ap instances.unless_given (append_before m.instances y j (live_less m j x.0 x.1))) ∙ e
 
-  pub later_entered : Later s o m (on_top o u b q) after All
+  pub later_entered : Later s o m (on_top o (length m.instances) u b q) after All
   later_entered =
-      later_instances s o (on_top o u b q) m after refl refl still_noted still_there still_ending_then
+      later_instances s o (on_top o (length m.instances) u b q) m after refl refl still_noted still_there still_ending_then
       (λ j a. (a.0, append_before m.standings z j (there_is m.standings j a.0 a.1) ∙ a.1, a.2))
       (λ j a. (a.0, append_before m.standings z j (there_is m.standings j (NoObject a.0) a.1) ∙ a.1))
 
-  pub copies_entered : (j d : ℕ) → Copies o (on_top o u b q) j d
-  copies_entered = still_copies s o (on_top o u b q) m after refl refl still_noted still_there
+  pub copies_entered : AllCopies o (on_top o (length m.instances) u b q)
+  copies_entered = still_copies s o (on_top o (length m.instances) u b q) m after refl refl still_noted still_there
 
-  pub steady_entered : Begins z → (j : ℕ) → Steady o m (on_top o u b q) after j
+  pub steady_entered : Begins z → (j : ℕ) → Steady o m (on_top o (length m.instances) u b q) after j
   steady_entered begins j = (refl, resumed_more m.standings z begins j)
 
-  pub store_entered : StoreFine s o m → InstanceFine s (on_top o u b q) after (length m.instances) y → Begins z → MembersFine s b after → SimulationsFine s q after → StoreFine s (on_top o u b q) after
+  pub store_entered : StoreFine s o m → InstanceFine s (on_top o (length m.instances) u b q) after (length m.instances) y → Begins z → MembersFine s b after → SimulationsFine s q after → StoreFine s (on_top o (length m.instances) u b q) after
   store_entered store f begins members simulations = record {
     instances = λ j x e.
         ⊎_elim
-        (λ old. instance_later s o m (on_top o u b q) after All later_entered j x tt (store.instances j x old))
-        (λ new. subst (λ z. InstanceFine s (on_top o u b q) after z x) (sym new.0) (subst (λ z. InstanceFine s (on_top o u b q) after (length m.instances) z) new.1 f))
+        (λ old. instance_later s o m (on_top o (length m.instances) u b q) after All later_entered j x tt (store.instances j x old))
+        (λ new. subst (λ z. InstanceFine s (on_top o (length m.instances) u b q) after z x) (sym new.0) (subst (λ z. InstanceFine s (on_top o (length m.instances) u b q) after (length m.instances) z) new.1 f))
         (was_or_is j x e);
-    elements = λ a i it x p l k at. plain_later s o m (on_top o u b q) after All later_entered (elements_of x) p (store.elements a i it x p l k at);
+    elements = λ a i it x p l k at. plain_later s o m (on_top o (length m.instances) u b q) after All later_entered (elements_of x) p (store.elements a i it x p l k at);
     kept = λ j x e.
         ⊎_elim
-        (λ old. standing_later s o m (on_top o u b q) after All later_entered All (λ i d k. copies_entered i d) (λ i k. steady_entered begins i) j x refl (standing_apart x) (standing_apart x) (store.kept j x old))
-        (λ new. subst (StandsFine s (on_top o u b q) after j) new.1 (begins_fine s (on_top o u b q) after j z begins))
+        (λ old. standing_later s o m (on_top o (length m.instances) u b q) after All later_entered AnySeat (λ w i d k ok. copies_entered w i d) (λ i k. steady_entered begins i) j x refl (standing_apart j x) (standing_apart j x) (store.kept j x old))
+        (λ new. subst (StandsFine s (on_top o (length m.instances) u b q) after j) new.1 (begins_fine s (on_top o (length m.instances) u b q) after j z begins))
         (old_or_new m.standings z j x e);
     noted = one_longer o.beneath u ∙ ap suc store.noted ∙ sym (one_longer m.instances y);
     members = members;
@@ -427,8 +462,8 @@ module _ (s : Source) (o : AllArrays) (m : Instances) (y : Instance (List Held))
   -- one instance more, and the objects are there as before
   pub one_more : OneMore s m after y.text y.encloser
   one_more = record {
-    objects = λ j c a. object_later s o m (on_top o u b q) after All later_entered j c a;
-    lasts = λ j c a. lasts_later s o m (on_top o u b q) after All later_entered j c a;
+    objects = λ j c a. object_later s o m (on_top o (length m.instances) u b q) after All later_entered j c a;
+    lasts = λ j c a. lasts_later s o m (on_top o (length m.instances) u b q) after All later_entered j c a;
     count = one_longer m.instances y;
     fresh = λ j x e same. (let less = live_less m j x e in omega (arith, less, same));
     texts = λ j x e. ⊎_elim (λ old. inl old) (λ new. inr (new.0, ap (λ w. w.text) new.1, ap (λ w. w.encloser) new.1)) (was_or_is j x e);
@@ -438,11 +473,11 @@ module _ (s : Source) (o : AllArrays) (m : Instances) (y : Instance (List Held))
   new_standing j same many = ap (slice_get after.standings) (same ∙ sym many) ∙ append_at m.standings z
 
   -- the new one knows what the one below it has near
-  pub near_new : (i e : ℕ) → StoreFine s o m → u ≡ Some i → is_given_at_end after (length m.instances) ≡ true → Near o m i e → Near (on_top o u b q) after (length m.instances) e
-  near_new i e store is ends near = near_then (on_top o u b q) after (length m.instances) i e (near_below (one_lower ends (noted_new ∙ ap Some is) at_itself)) (later_entered.nears i e tt near)
+  pub near_new : (i e : ℕ) → StoreFine s o m → u ≡ Some i → is_given_at_end after (length m.instances) ≡ true → Near o m i e → Near (on_top o (length m.instances) u b q) after (length m.instances) e
+  near_new i e store is ends near = near_then (on_top o (length m.instances) u b q) after (length m.instances) i e (near_below (one_lower ends (noted_new ∙ ap Some is) at_itself)) (later_entered.nears i e tt near)
     where
-      noted_new : slice_get (on_top o u b q).beneath (length m.instances) ≡ Some u
-      noted_new = ap (slice_get (on_top o u b q).beneath) (sym store.noted) ∙ append_at o.beneath u
+      noted_new : slice_get (on_top o (length m.instances) u b q).beneath (length m.instances) ≡ Some u
+      noted_new = ap (slice_get (on_top o (length m.instances) u b q).beneath) (sym store.noted) ∙ append_at o.beneath u
 
   -- the heads of the resumed objects are the same
   there_still : StoreFine s o m → length m.standings ≡ length m.instances → (x : ℕ) → standing_of (parts m []) x ≡ ResumedObject → system_head after x ≡ system_head m x
@@ -475,7 +510,7 @@ module _ (s : Source) (o : AllArrays) (m : Instances) (y : Instance (List Held))
         record { object = r.object; resumed = more_new m.standings z ResumedObject r.object (λ q. cc) r.resumed; its_head = there_still store many r.object r.resumed ∙ r.its_head });
   }
 
-  pub operates_entered : (chain : List Activation) → u ≡ first_of chain → StoreFine s o m → Placed m chain → Headed m chain → (0 < length m.standings) ⊎ (z ≡ NoObject None) → Begins z → Operates (on_top o u b q).beneath after (length m.instances) chain
+  pub operates_entered : (chain : List Activation) → u ≡ first_of chain → StoreFine s o m → Placed m chain → Headed m chain → (0 < length m.standings) ⊎ (z ≡ NoObject None) → Begins z → Operates (on_top o (length m.instances) u b q).beneath (own_seat (length m.instances)) after (length m.instances) chain
   operates_entered chain is store a headed first begins =
       let noted = store.noted in
       let n = one_longer m.instances y in
@@ -483,7 +518,8 @@ module _ (s : Source) (o : AllArrays) (m : Instances) (y : Instance (List Held))
       λ j. (let more = kept_more (times_on owner j) m.standings z (ap (times_on owner j) (begins_empty z begins)) in omega (arith, more)) in
       record {
         before = omega (arith, n);
-        on = λ ends. ap (slice_get (on_top o u b q).beneath) (sym noted) ∙ append_at o.beneath u ∙ ap Some is;
+        stands_on = λ j at ends. subst (λ w. slice_get (on_top o (length m.instances) u b q).beneath w ≡ Some (first_of chain)) (same_some (Some (length m.instances)) (length m.instances) j refl at) (ap (slice_get (on_top o (length m.instances) u b q).beneath) (sym noted) ∙ append_at o.beneath u ∙ ap Some is);
+        seated = refl;
         placed = record {
           once = λ j.
               (let c = counted j in
@@ -617,8 +653,8 @@ module _ (s : Source) (o : AllArrays) (m : Instances) (i : ℕ) (store : StoreFi
   }
 
   -- a copy in hand of another instance is not given back
-  pub copies_given : (j d : ℕ) → j ≢ i → Copies o (given_view i o) j d
-  copies_given j d differ e h a less f = record { it = f.it; lives = given_lives o.real i a f.it f.lives (goes_not i f.it (λ same. differ (sym f.owned ∙ same))); hidden = f.hidden; owned = f.owned; count = f.count }
+  pub copies_given : (q : Seat) (j d : ℕ) → j ≢ i → Copies (at_seat o q) (at_seat (given_view i o) q) j d
+  copies_given q j d differ e h a less f = record { it = f.it; lives = given_lives o.real i a f.it f.lives (goes_not i f.it (λ same. differ (sym f.owned ∙ same))); hidden = f.hidden; owned = f.owned; count = f.count }
 
   live_given : (j : ℕ) (x : Instance (List Held)) → live (given m i) j ≡ Some x → (j ≢ i) × (live m j ≡ Some x)
   live_given j x e =
@@ -626,11 +662,11 @@ module _ (s : Source) (o : AllArrays) (m : Instances) (i : ℕ) (store : StoreFi
       (differ, sym (given_live j differ) ∙ e)
 
   -- no chain that is kept has it on
-  pub store_given : AllKept (Other i) m → StoreFine s (given_view i o) (given m i)
+  pub store_given : AllKeptSeats (λ q. q.owner ≢ i) m → StoreFine s (given_view i o) (given m i)
   store_given others = record {
     instances = λ j x e. (let was = live_given j x e in instance_later s o m (given_view i o) (given m i) Apart later_given j x was.0 (store.instances j x was.1));
     elements = λ a k it x p l is at. plain_later s o m (given_view i o) (given m i) Apart later_given (elements_of x) p (store.elements a k it x p (given_lived o.real i a it l) is at);
-    kept = kept_later s o m (given_view i o) (given m i) Apart later_given Apart copies_given (λ j k. steady_same o m (given_view i o) (given m i) (kept_given m i (slice_get m.instances i)) refl j) (kept_given m i (slice_get m.instances i)) refl others others store.kept;
+    kept = kept_later s o m (given_view i o) (given m i) Apart later_given AnySeat (λ q j d k ok. copies_given q j d ok) (λ j k. steady_same o m (given_view i o) (given m i) (kept_given m i (slice_get m.instances i)) refl j) (kept_given m i (slice_get m.instances i)) refl others (λ j x e. standing_apart j x) store.kept;
     noted = store.noted ∙ sym (given_len m i (slice_get m.instances i));
     members = members_later s o.members m (given m i) all_still store.members;
     simulations = simulations_later s o.simulations m (given m i) all_still store.simulations;
@@ -644,8 +680,8 @@ module _ (s : Source) (o : AllArrays) (m : Instances) (i : ℕ) (store : StoreFi
         texts = λ j x e. (let was = live_given j x e in (x, was.1, refl, refl));
       }
 
-  pub placed_given : (b : List (Option ℕ)) (rest : List Activation) → Operates b m i rest → Placed (given m i) rest
-  placed_given b rest top =
+  pub placed_given : (b : List (Option ℕ)) (q : Seat) (rest : List Activation) → Operates b q m i rest → q.evaluations ≡ 0 → Placed (given m i) rest
+  placed_given b q rest top own =
       let a = top.placed in
       let same = kept_given m i (slice_get m.instances i) in
       let many = given_len m i (slice_get m.instances i) in
@@ -658,7 +694,7 @@ module _ (s : Source) (o : AllArrays) (m : Instances) (i : ℕ) (store : StoreFi
             (let x = ending_there (given m i) j e in
             let was = live_given j x.0 x.1 in
             let c = counted j in
-            let none = elsewhere_none i j (λ is. was.0 (sym is)) in
+            let none = top_apart b q m i rest top own j (λ is. was.0 (sym is)) in
             let there = a.all j (ap ends_in was.1 ∙ sym (ap ends_in x.1) ∙ e) in
             omega (arith, c, none, there));
         as_many = ap length same ∙ a.as_many ∙ sym many;
@@ -668,7 +704,7 @@ module _ (s : Source) (o : AllArrays) (m : Instances) (i : ℕ) (store : StoreFi
 
 pub record Left (s : Source) (g : Marks) (o : World) (m : Instances) (i : ℕ) (rest : List Activation) (o' : World) (m' : Instances) : Type 0 where
   pub later : Later s (see g o) m (see g o') m' (λ j. is_given_at_end m i ≡ true → j ≢ i)
-  pub copies : (j d : ℕ) → j ≢ i → Copies (see g o) (see g o') j d
+  pub copies : (q : Seat) (j d : ℕ) → (is_given_at_end m i ≡ true → j ≢ i) → Copies (at_seat (see g o) q) (at_seat (see g o') q) j d
   pub steady : (j : ℕ) → Steady (see g o) m (see g o') m' j
   pub store : StoreFine s (see g o') m'
   pub placed : Placed m' rest
@@ -709,23 +745,23 @@ later_never s o m P A never = record {
 }
 
 -- what stays where it is leaves the rest on the chain
-placed_left : (b : List (Option ℕ)) (m : Instances) (i : ℕ) (rest : List Activation) → is_given_at_end m i ≡ false → Operates b m i rest → Placed m rest
-placed_left b m i rest stays top =
+placed_left : (b : List (Option ℕ)) (q : Seat) (m : Instances) (i : ℕ) (rest : List Activation) → is_given_at_end m i ≡ false → Operates b q m i rest → q.evaluations ≡ 0 → Placed m rest
+placed_left b q m i rest stays top own =
     let a = top.placed in
     record {
       once = λ j. (let once = a.once j in omega (arith, once));
       made = λ j less. (let none = a.made j less in omega (arith, none));
       ended = λ j e. (let none = a.ended j e in omega (arith, none));
-      all = λ j e. (let none = elsewhere_none i j (λ same. let no : is_given_at_end m j ≡ false = ap (is_given_at_end m) (sym same) ∙ stays in cc) in let there = a.all j e in omega (arith, none, there));
+      all = λ j e. (let none = top_apart b q m i rest top own j (λ same. let no : is_given_at_end m j ≡ false = ap (is_given_at_end m) (sym same) ∙ stays in cc) in let there = a.all j e in omega (arith, none, there));
       as_many = a.as_many;
     }
 
-pub left_by : (s : Source) (g : Marks) (o : World) (m : Instances) (i : ℕ) (rest : List Activation) → StoreFine s (see g o) m → Operates g.beneath m i rest → NoObjectStands m i → (v : Waits) → ChainFine s (see g o) m rest v → Left s g o m i rest (world_left s i o m) (instances_left i m)
+pub left_by : (s : Source) (g : Marks) (o : World) (m : Instances) (i : ℕ) (rest : List Activation) → StoreFine s (see g o) m → Operates g.beneath g.seat m i rest → (g.seat).evaluations ≡ 0 → NoObjectStands m i → (v : Waits) → ChainFine s (see g o) m rest v → Left s g o m i rest (world_left s i o m) (instances_left i m)
 unfolding giving_back
-left_by s g o m i rest store top nobody v c = by_flag (is_given_at_end m i) refl
+left_by s g o m i rest store top own nobody v c = by_flag (is_given_at_end m i) refl
   where
     alone_there : (j : ℕ) → is_given_at_end m j ≡ true → slice_get g.beneath j ≡ Some (Some i) → j ≢ i → ⊥
-    alone_there j e on differ = free s (see g o) m i j e on rest store top v c differ
+    alone_there j e on differ = free s (see g o) m i j e on g.seat rest store top own v c differ
 
     back : World
     back = giving_back o i (words_of_text s (text_of m i) (text s (text_of m i)))
@@ -733,21 +769,21 @@ left_by s g o m i rest store top nobody v c = by_flag (is_given_at_end m i) refl
     by_flag : (b : Bool) → is_given_at_end m i ≡ b → Left s g o m i rest (if b then back else o) (if b then given m i else m)
     by_flag true e = record {
       later = later_sure s (see g o) m (see g back) (given m i) (is_given_at_end m i ≡ true) (λ j. j ≢ i) e (later_given s (see g o) m i store e alone_there);
-      copies = λ j d differ. copies_given s (see g o) m i store e alone_there j d differ;
+      copies = λ q j d differ. copies_given s (see g o) m i store e alone_there q j d (differ e);
       steady = λ j. steady_same (see g o) m (see g back) (given m i) (kept_given m i (slice_get m.instances i)) refl j;
-      store = store_given s (see g o) m i store e alone_there (others_kept g.beneath m i rest top);
-      placed = placed_given s (see g o) m i store e alone_there g.beneath rest top;
-      headed = headed_left m (given m i) i rest (kept_given m i (slice_get m.instances i)) (given_encloser m i (slice_get m.instances i) refl) nobody.0 nobody.1 top.headed;
+      store = store_given s (see g o) m i store e alone_there (apart_kept g.beneath g.seat m i rest top own);
+      placed = placed_given s (see g o) m i store e alone_there g.beneath g.seat rest top own;
+      headed = headed_left m (given m i) i (idle g.seat i) rest (own_top g.beneath g.seat m i rest top own) (kept_given m i (slice_get m.instances i)) (given_encloser m i (slice_get m.instances i) refl) nobody.0 nobody.1 top.headed;
       long = with_len i o.arrays;
       count = given_len m i (slice_get m.instances i);
     }
     by_flag false e = record {
       later = later_never s (see g o) m (is_given_at_end m i ≡ true) (λ j. j ≢ i) (λ yes. cc);
-      copies = λ j d differ k h a lt f. f;
+      copies = λ q j d differ k h a lt f. f;
       steady = λ j. (refl, refl);
       store = store;
-      placed = placed_left g.beneath m i rest e top;
-      headed = headed_left m m i rest refl (λ j. refl) nobody.0 nobody.1 top.headed;
+      placed = placed_left g.beneath g.seat m i rest e top own;
+      headed = headed_left m m i (idle g.seat i) rest (own_top g.beneath g.seat m i rest top own) refl (λ j. refl) nobody.0 nobody.1 top.headed;
       long = refl;
       count = refl;
     }

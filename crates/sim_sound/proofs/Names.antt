@@ -1,5 +1,5 @@
 -- A standard name on operands of its kinds gives a value of its kind, and puts back no other text than its operand, moved.
-use Rattle.std.proofs.Common.{◌≡◌, ℕ, zero, suc, Bool, true, false, List, [], ◌∷◌, length, Option, Some, None, refl, sym, ap, ◌∙◌, subst}
+use Rattle.std.proofs.Common.{⊎_elim, ◌≡◌, ℕ, zero, suc, Bool, true, false, List, [], ◌∷◌, length, Option, Some, None, refl, sym, ap, ◌∙◌, subst}
 use Rattle.std.specs.Prelude.{ℤ, pos, negsuc, Result, Ok, Err, ◌==◌, ◌&&◌, ◌||◌}
 use Rattle.sim_base.specs.declared.limits.Limits.{Limits}
 use Rattle.sim_base.specs.declared.run_error.RunError.{RunError}
@@ -21,17 +21,17 @@ use Rattle.sim_code.specs.Outcome.{Run, World}
 use Rattle.sim_code.specs.Running.{name_runs}
 use Rattle.sim_code.specs.Sets.{is_attribute_name}
 use Rattle.sim_code.specs.Simulations.{is_simulation_name}
-use Rattle.sim_meaning.specs.Pending.{Address, ArrayValue, Configuration, Instances, Link, Of, ProcedureValue, Tree, Val, cell}
+use Rattle.sim_meaning.specs.Pending.{Address, ArrayValue, Configuration, Instances, Link, Of, ProcedureValue, Actual, Val, cell}
 use Rattle.sim_meaning.specs.Steps.{of_plain, operand, plain_in, put_back}
-use Rattle.sim_sound.specs.Held.{ArrayOf, Holds, Refers, Simply}
+use Rattle.sim_sound.specs.Held.{ByName, ArrayOf, Holds, Refers, Simply}
 use Rattle.sim_sound.specs.Expressions.{DoneAlone, standard_kind}
-use Rattle.sim_sound.proofs.Cells.{target_cell, val_up}
+use Rattle.sim_sound.proofs.Cells.{lies_cell, val_up, whichever_value}
 use Rattle.sim_sound.proofs.Constants.{NoReference}
 use Rattle.sim_sound.proofs.Running.{StoreFine}
-use Rattle.sim_sound.proofs.Sound.{ObjectIn, AddressOf, Component, Copied, DeepFine, ElementFine, HandFine, HandsFine, ImageAddress, IsImage, Kinds, Lasting, LinkTo, Marks, Open, OperandIs, OperandsAre, PlainFine, ReferenceAddress, ValFine, Value, pushed, see, MatchFor}
+use Rattle.sim_sound.proofs.Sound.{OperandIs, OperandsAre, pushed}
+use Rattle.sim_sound.proofs.Values.{Whichever, ObjectIn, AddressOf, Component, Copied, DeepFine, ElementFine, HandFine, HandsFine, ImageAddress, IsImage, Kinds, Lasting, LinkTo, Marks, Open, PlainFine, ReferenceAddress, ValFine, Value, see, MatchFor}
 use Rattle.sim_sound.proofs.Lifts.{Goes, Shape, a_char, a_text, an_int, any_popped, computed, had, ran, shape, took}
 use Rattle.sim_sound.proofs.Lists.{equal_numbers, there_get}
-use Rattle.sim_sound.proofs.Moves.{knows_near}
 
 -- ---- answers
 
@@ -205,7 +205,7 @@ plain_of s g o m j k (Link z) a = absurd a
 plain_of s g o m j k (Address z) a = absurd a
 plain_of s g o m j k (ArrayValue z) a = absurd a
 plain_of s g o m j k (ProcedureValue z y) a = absurd a
-plain_of s g o m j k (Tree z) a = absurd a
+plain_of s g o m j k (Actual home z) a = absurd a
 
 module _ {S : Type 0} (P : World → S → Type 0) (s : Source) (o : World) (g : Marks) (m : Instances) (j : ℕ) where
   -- an operand that lies in an image is its text
@@ -223,45 +223,61 @@ module _ {S : Type 0} (P : World → S → Type 0) (s : Source) (o : World) (g :
       let x = text_read p (shape P p kind.Text is) in
       (Text x.0, reads ∙ ap only_text at ∙ ap (λ z. only_text (Some z)) x.1, sym e, λ n f. absurd (no_image n f))
 
-  operand_read : StoreFine s (see g o) m → (k : Kind) (x : Kinds) (v : Val) → OperandIs k x → HandFine s (see g o) m j x v → Read k v
-  operand_read store k (Value (Simply k')) v is a =
+  -- what is no parameter by name
+  abbrev Direct : Kinds → Type 0
+  Direct (Whichever value_too k) = ⊥
+  Direct _ = Unit {0}
+
+  direct_read : StoreFine s (see g o) m → (k : Kind) (x : Kinds) (v : Val) → Direct x → OperandIs k x → HandFine s (see g o) m j x v → Read k v
+  direct_read store k (Whichever value_too h) v direct is a = absurd direct
+  direct_read store k (Value (Simply k')) v direct is a =
       let p = plain_of s g o m j k' v a in
       (p.0, ap (operand o m) p.1, p.2 ∙ (let f : k' ≡ k = cc in f), λ n f. absurd (cc))
-  operand_read store k (Value (Refers c)) v is a = absurd (cc)
-  operand_read store k (Value (ArrayOf k')) v is a = absurd (cc)
-  operand_read store k (AddressOf h) (Address (ElementPlace a n None)) is f =
+  direct_read store k (Value (Refers c)) v direct is a = absurd (cc)
+  direct_read store k (Value (ArrayOf k')) v direct is a = absurd (cc)
+  direct_read store k (Value (ByName k')) v direct is a = absurd (cc)
+  direct_read store k (AddressOf h) (Address (ElementPlace a n None)) direct is f =
       let q = element_there s g o m j a n h store f in
       let fine : PlainFine s m (Simply kind.Text) q.0 = subst (λ z. PlainFine s m z q.0) is.1 q.2 in
       place_read k (Address (ElementPlace a n None)) (plain_in (of_plain (element o a n))) q.0 is.0 (ap (λ z. plain_in (of_plain z)) q.1) fine.0 refl (λ i g. cc)
-  operand_read store k (AddressOf k') (Address (CellPlace e key None)) is c =
-      let q = target_cell s (see g o) m j e key k' store c in
-      let p = plain_of s g o m j kind.Text q.0 (subst (λ z. ValFine s (see g o) m j z q.0) is.1 (val_up s (see g o) m j e (knows_near s (see g o) m store j e c.near) k' q.0 q.2)) in
+  direct_read store k (AddressOf k') (Address (CellPlace e key None)) direct is c =
+      let q = lies_cell s (see g o) m j e key k' store c in
+      let p = plain_of s g o m j kind.Text q.0 (subst (λ z. ValFine s (see g o) m j z q.0) is.1 (val_up s (see g o) m j e c.near k' q.0 q.2)) in
       place_read k (Address (CellPlace e key None)) (plain_in (cell m e key)) p.0 is.0 (ap plain_in q.1 ∙ ap (λ z. plain_in (Some z)) p.1) p.2 refl (λ i g. cc)
-  operand_read store k (AddressOf k') (Address (ElementPlace a n (Some c))) is f = absurd f
-  operand_read store k (AddressOf k') (Address (CellPlace a n (Some c))) is f = absurd f
-  operand_read store k (AddressOf k') (Address (ImagePlace n)) is f = absurd f
-  operand_read store k (AddressOf k') (Of z) is f = absurd f
-  operand_read store k (AddressOf k') (Link z) is f = absurd f
-  operand_read store k (AddressOf k') (ArrayValue z) is f = absurd f
-  operand_read store k (AddressOf k') (ProcedureValue z y) is f = absurd f
-  operand_read store k (AddressOf k') (Tree z) is f = absurd f
-  operand_read store k ImageAddress (Address (ImagePlace zero)) is f = (Text o.store.sysin, refl, sym is, λ n g. (o.store.sysin, refl, ap (image_at o.store) (let h : n ≡ 0 = cc in h)))
-  operand_read store k ImageAddress (Address (ImagePlace (suc zero))) is f = (Text o.store.sysout, refl, sym is, λ n g. (o.store.sysout, refl, ap (image_at o.store) (let h : n ≡ 1 = cc in h)))
-  operand_read store k ImageAddress (Address (ImagePlace (suc (suc n)))) is f = absurd f
-  operand_read store k ImageAddress (Address (ElementPlace a n c)) is f = absurd f
-  operand_read store k ImageAddress (Address (CellPlace a n c)) is f = absurd f
-  operand_read store k ImageAddress (Of z) is f = absurd f
-  operand_read store k ImageAddress (Link z) is f = absurd f
-  operand_read store k ImageAddress (ArrayValue z) is f = absurd f
-  operand_read store k ImageAddress (ProcedureValue z y) is f = absurd f
-  operand_read store k ImageAddress (Tree z) is f = absurd f
-  operand_read store k (LinkTo t) v is f = absurd is
-  operand_read store k (Copied t) v is f = absurd is
-  operand_read store k (ReferenceAddress t) v is f = absurd is
-  operand_read store k (Lasting t) v is f = absurd is
-  operand_read store k Component v is f = absurd is
-  operand_read store k (ObjectIn u) v is f = absurd is
-  operand_read store k (MatchFor h) v is f = absurd is
+  direct_read store k (AddressOf k') (Address (ElementPlace a n (Some c))) direct is f = absurd f
+  direct_read store k (AddressOf k') (Address (CellPlace a n (Some c))) direct is f = absurd f
+  direct_read store k (AddressOf k') (Address (ImagePlace n)) direct is f = absurd f
+  direct_read store k (AddressOf k') (Of z) direct is f = absurd f
+  direct_read store k (AddressOf k') (Link z) direct is f = absurd f
+  direct_read store k (AddressOf k') (ArrayValue z) direct is f = absurd f
+  direct_read store k (AddressOf k') (ProcedureValue z y) direct is f = absurd f
+  direct_read store k (AddressOf k') (Actual home z) direct is f = absurd f
+  direct_read store k ImageAddress (Address (ImagePlace zero)) direct is f = (Text o.store.sysin, refl, sym is, λ n g. (o.store.sysin, refl, ap (image_at o.store) (let h : n ≡ 0 = cc in h)))
+  direct_read store k ImageAddress (Address (ImagePlace (suc zero))) direct is f = (Text o.store.sysout, refl, sym is, λ n g. (o.store.sysout, refl, ap (image_at o.store) (let h : n ≡ 1 = cc in h)))
+  direct_read store k ImageAddress (Address (ImagePlace (suc (suc n)))) direct is f = absurd f
+  direct_read store k ImageAddress (Address (ElementPlace a n c)) direct is f = absurd f
+  direct_read store k ImageAddress (Address (CellPlace a n c)) direct is f = absurd f
+  direct_read store k ImageAddress (Of z) direct is f = absurd f
+  direct_read store k ImageAddress (Link z) direct is f = absurd f
+  direct_read store k ImageAddress (ArrayValue z) direct is f = absurd f
+  direct_read store k ImageAddress (ProcedureValue z y) direct is f = absurd f
+  direct_read store k ImageAddress (Actual home z) direct is f = absurd f
+  direct_read store k (LinkTo t) v direct is f = absurd is
+  direct_read store k (Copied t) v direct is f = absurd is
+  direct_read store k (ReferenceAddress t) v direct is f = absurd is
+  direct_read store k (Lasting t) v direct is f = absurd is
+  direct_read store k Component v direct is f = absurd is
+  direct_read store k (ObjectIn u) v direct is f = absurd is
+  direct_read store k (MatchFor h) v direct is f = absurd is
+
+  operand_read : StoreFine s (see g o) m → (k : Kind) (x : Kinds) (v : Val) → OperandIs k x → HandFine s (see g o) m j x v → Read k v
+  operand_read store k (Whichever value_too h) v is a =
+      ⊎_elim (λ f. direct_read store k (AddressOf (Simply kind.Text)) v tt (is.0, refl) f) (λ f. direct_read store k (Value (Simply kind.Text)) v tt (ap Simply (sym is.0)) f.1)
+      (whichever_value s (see g o) m j value_too kind.Text v (λ e. cc) (subst (λ z. HandFine s (see g o) m j (Whichever value_too z) v) is.1 a))
+  operand_read store k (Value h) v is a = direct_read store k (Value h) v tt is a
+  operand_read store k (AddressOf h) v is a = direct_read store k (AddressOf h) v tt is a
+  operand_read store k ImageAddress v is a = direct_read store k ImageAddress v tt is a
+  operand_read store k _ v is a = absurd is
 
   -- an operand is no copy of an array
   at_hand : (k : Kind) (x : Kinds) (d : ℕ) (v : Val) → OperandIs k x → DeepFine s (see g o) m j d x v → HandFine s (see g o) m j x v
@@ -275,6 +291,7 @@ module _ {S : Type 0} (P : World → S → Type 0) (s : Source) (o : World) (g :
   at_hand k Component d v is f = absurd is
   at_hand k (ObjectIn u) d v is f = absurd is
   at_hand k (MatchFor h) d v is f = absurd is
+  at_hand k (Whichever value_too h) d v is f = f
 
   -- a text operand that is put back: the place that it came from, which if it is an image is still the same text
   pub record Back (store : Store) (v : Val) (t : TextVal) : Type 0 where

@@ -13,6 +13,7 @@ use Rattle.sim_scope.specs.Scopes.{class_formals, entry_of}
 use Rattle.sim_scope.specs.Source.{Source}
 use Rattle.sim_tree.specs.Syntax.{Declarations}
 use Rattle.simset.specs.Instances.{Memberships}
+use Rattle.sim_values.specs.declared.kind.Kind.{Kind}
 use Rattle.sim_values.specs.Plain.{Object}
 use Rattle.sim_code.specs.Arrays.{handed_over}
 use Rattle.sim_code.specs.Events.{entering, having, pop_many, popping, when}
@@ -24,33 +25,34 @@ use Rattle.sim_meaning.specs.Entries.{arrays_among, is_array_by_value, new_insta
 use Rattle.sim_meaning.specs.Levels.{has_levels, is_process_text, is_simulation_text, levels, linkage_of_text}
 use Rattle.sim_meaning.specs.Meaning.{do_op}
 use Rattle.sim_meaning.specs.Objects.{arrays_given, attributes_from, block_begun, cells_of_levels, filled_in, generated, inner_done, level_work, levels_work, object_entered, object_made, prefix_done, prefixed_entered, words_of_object}
-use Rattle.sim_meaning.specs.Pending.{Activation, Configuration, DeclareOp, EndLevel, EndObject, EndPrefixed, Held, Instances, Item, Level, LevelOp, Of, Val, instance_in}
-use Rattle.sim_meaning.specs.Sane.{Other}
+use Rattle.sim_meaning.specs.Pending.{Activation, Configuration, DeclareOp, EndLevel, EndObject, EndPrefixed, Held, Instances, Item, Level, LevelOp, Of, Val, instance_in, owner}
 use Rattle.sim_meaning.specs.Texts.{Text, is_class_free, text}
-use Rattle.sim_sound.specs.Held.{Among, ArrayOf, Holds, Refers, Simply, entry_holds, first, later}
+use Rattle.sim_sound.specs.Held.{Among, ArrayOf, ByName, Holds, Refers, Simply, entry_holds, first, later}
 use Rattle.sim_sound.specs.Typed.{ClassTyped, FormalsAre, Typed, arrays_of_block}
 use Rattle.sim_sound.proofs.ArrayWork.{level_arrays}
 use Rattle.sim_sound.proofs.Attributes.{Leveled, leveled}
 use Rattle.sim_sound.proofs.Cells.{fine_at, site_whole}
 use Rattle.sim_sound.proofs.ClassCells.{FilledIn, attributes_distinct, fill, none_waits}
-use Rattle.sim_sound.proofs.ClassLevels.{AllLevels, all_levels_of, arrays_of_levels, cells_are, formals_among, levels_are}
-use Rattle.sim_sound.proofs.Entering.{begun_new, below_handed, below_new, enters_fine, inside_new, later_new, link_is, lives_is, same_arrays, stands_new, store_handed}
-use Rattle.sim_sound.proofs.Evals.{IsFine, Work, goes_on}
+use Rattle.sim_sound.proofs.ClassLevels.{AllLevels, all_levels_of, arrays_of_levels, cells_are, formals_among, level_among, levels_are, number_from}
+use Rattle.sim_sound.proofs.Entering.{begun_new, below_handed, below_new, chain_first, chain_headed, chain_placed, enters_fine, inside_new, later_new, link_is, lives_is, same_arrays, stands_new, store_handed}
+use Rattle.sim_sound.proofs.Evals.{IsFine, Work, goes_on, work_owner}
 use Rattle.sim_sound.proofs.FirstCells.{ActualsAre, AllSome, ValsFine, all_taken, taken}
 use Rattle.sim_sound.proofs.Handing.{Handed, classes_hand, hand_every, handed_members, handed_same, handed_simulations, marks_of}
 use Rattle.sim_sound.proofs.Joining.{begun_members, begun_simulations, block_arrays, block_blocks, block_linked, block_members, block_started, joined_simulations, object_arrays, object_blocks, object_joined, object_linked, object_members}
-use Rattle.sim_sound.proofs.Later.{All, Copies, Later, as_it_was, cells_later, hands_later, live_less, work_later}
+use Rattle.sim_sound.proofs.Later.{All, Copies, Later, as_it_was, cells_later, hands_later, live_less, seated_later, work_later}
 use Rattle.sim_sound.proofs.LevelWork.{cells_wait, keys, level_list, level_numbers, level_works, levels_there, made, works}
 use Rattle.sim_sound.proofs.Lifts.{Goes, any_popped, enters, had, ran, whens}
 use Rattle.sim_sound.proofs.Lists.{same_some}
 use Rattle.sim_sound.proofs.Members.{MembersFine, enrolled_members}
 use Rattle.sim_sound.proofs.Simulated.{SimulationsFine}
-use Rattle.sim_sound.proofs.Moves.{Begins, knows_near, later_instances, marked, on_top, placed_as}
+use Rattle.sim_sound.proofs.Moves.{Begins, knows_near, later_instances, marked, near_then, on_top}
 use Rattle.sim_sound.proofs.Prefixes.{class_has, level_words, levels_solid}
 use Rattle.sim_sound.proofs.Reach.{attribute_key}
-use Rattle.sim_sound.proofs.Running.{Begun, ChainFine, Expected, IsRelease, Operates, Shown, StoreFine, WorkFine, awaited, is_resumed}
-use Rattle.sim_sound.proofs.Sound.{AllArrays, CellsFine, DeclareFine, Generated, HandsFine, Kinds, Knows, LevelsFine, LinkTo, Marks, NewOpFine, PrefixedOpFine, Sight, Takes, Value, Waits, Whole, class_kinds, holds_of, in_hand, kept_kinds, no_further, outward, see}
-use Rattle.sim_sound.proofs.Heads.{headed_as}
+use Rattle.sim_sound.proofs.Running.{Begun, ChainFine, Expected, IsRelease, Operates, Shown, StoreFine, WorkFine, awaited, footing, is_resumed, seat_on}
+use Rattle.sim_sound.proofs.Sound.{DeclareFine, LevelsFine, NewOpFine, PrefixedOpFine, class_kinds, holds_of, in_hand, kept_kinds}
+use Rattle.sim_sound.proofs.Values.{AllArrays, CellsFine, Generated, HandsFine, Kinds, Knows, LinkTo, Marks, Seat, Sight, Takes, Value, Waits, Whole, at_seat, no_further, outward, see}
+use Rattle.sim_sound.proofs.Chains.{Elsewhere}
+use Rattle.sim_sound.proofs.Changes.{near_same}
 
 -- ---- actual parameters of a class
 
@@ -60,22 +62,28 @@ some_kept mode.ByReference shape.Array false (ArrayOf h) hs a = a
 some_kept mode.ByReference shape.Array true (Simply k) hs a = a
 some_kept mode.ByReference shape.Array false (Simply k) hs a = a
 some_kept mode.ByReference shape.Array true (Refers c) hs a = a
+some_kept mode.ByReference shape.Array true (ByName k) hs a = a
 some_kept mode.ByReference shape.Array false (Refers c) hs a = a
+some_kept mode.ByReference shape.Array false (ByName k) hs a = a
 some_kept mode.ByReference shape.Simple true (ArrayOf h) hs a = a
 some_kept mode.ByReference shape.Simple true (Simply h) hs a = a
 some_kept mode.ByReference shape.Simple true (Refers h) hs a = a
+some_kept mode.ByReference shape.Simple true (ByName k) hs a = a
 some_kept mode.ByReference shape.Simple false h hs a = a
 some_kept mode.ByReference shape.Procedure true (ArrayOf h) hs a = a
 some_kept mode.ByReference shape.Procedure true (Simply h) hs a = a
 some_kept mode.ByReference shape.Procedure true (Refers h) hs a = a
+some_kept mode.ByReference shape.Procedure true (ByName k) hs a = a
 some_kept mode.ByReference shape.Procedure false h hs a = a
 some_kept mode.ByValue g true (ArrayOf h) hs a = a
 some_kept mode.ByValue g true (Simply h) hs a = a
 some_kept mode.ByValue g true (Refers h) hs a = a
+some_kept mode.ByValue g true (ByName k) hs a = a
 some_kept mode.ByValue g false h hs a = a
 some_kept mode.ByName g true (ArrayOf h) hs a = a
 some_kept mode.ByName g true (Simply h) hs a = a
 some_kept mode.ByName g true (Refers h) hs a = a
+some_kept mode.ByName g true (ByName k) hs a = a
 some_kept mode.ByName g false h hs a = a
 
 classes_some : (s : Source) (ds : List DeclNo) (fs : List Formal) → FormalsAre s ds fs → AllSome (class_kinds s fs)
@@ -92,14 +100,14 @@ formal_at s c (x ∷ ds) [] a d b = absurd a
 formal_at s c (x ∷ ds) (f ∷ fs) a _ first = (a.0, ap (entry_holds s c) a.1 ∙ a.2)
 formal_at s c (x ∷ ds) (f ∷ fs) a d (later b) = formal_at s c ds fs a.3 d b
 
-module _ (s : Source) (ok : Typed s) (l : Limits) (o : World) (marks : Marks) (long : length marks.sights ≡ length o.arrays) (m : Instances) (i t : ℕ) (rest : List Activation) (top : Operates marks.beneath m i rest) (w : List Item) where
+module _ (s : Source) (ok : Typed s) (l : Limits) (o : World) (marks : Marks) (long : length marks.sights ≡ length o.arrays) (m : Instances) (i t : ℕ) (rest : List Activation) (top : Operates marks.beneath marks.seat m i rest) (w : List Item) where
   -- ---- a text with levels, with the actual parameters of its class in hand
 
   -- What enters it has these values in hand then, and waits. `z` says how the new instance stands, and its work ends with `end`. `made` says what the
   -- world becomes, with which linkages and simulation blocks.
   module _ (k line : ℕ) (has : has_levels (text s k) ≡ true) (vs vs' : List Val) (d j u : ℕ) (todo : List DeclNo) (left : List Kinds) (stands : encloser s.tables k ≡ Some u) (knows : Knows m i j) (whole : Whole s m j u) (acts : ActualsAre s (see marks o) m i d (class_kinds s (class_parameters s (Some k))) vs) (less : length vs' ≤ d) (b : Begun s (see marks o) m i t todo) (hands : HandsFine s (see marks o) m i left vs')
-      (waits : Waits) (hold : List Val) (shown : Shown (awaited marks.waiting i waits) hold vs') (expected : List Kinds) (expects : Expected s (awaited marks.waiting i waits) left expected) (work : Work s o marks long m i t rest top w todo expected) (z : Standing Activation) (begins : Begins z) (end : Item)
-      (ends : (v : AllArrays) (c : List Held) → ChainFine s v (entered m (new_instance s k (Some j) c) z) (record { instance = i; work = w; values = hold } ∷ rest) waits → WorkFine s v (entered m (new_instance s k (Some j) c) z) (λ q. ChainFine s v (entered m (new_instance s k (Some j) c) z) (record { instance = i; work = w; values = hold } ∷ rest) q) ((record { instance = i; work = w; values = hold } ∷ rest) ≡ []) (length m.instances) k (end ∷ []) [] [])
+      (waits : Waits) (hold : List Val) (shown : Shown (awaited marks.waiting (owner (record { instance = i; work = w; values = hold })) waits) hold vs') (expected : List Kinds) (expects : Expected s (awaited marks.waiting (owner (record { instance = i; work = w; values = hold })) waits) left expected) (work : Work s o marks long m i t rest top w todo expected) (z : Standing Activation) (begins : Begins z) (end : Item)
+      (ends : (v : AllArrays) (c : List Held) → (v.seat).evaluations ≡ 0 → ChainFine s v (entered m (new_instance s k (Some j) c) z) (record { instance = i; work = w; values = hold } ∷ rest) waits → WorkFine s v (entered m (new_instance s k (Some j) c) z) (λ q. ChainFine s v (entered m (new_instance s k (Some j) c) z) (record { instance = i; work = w; values = hold } ∷ rest) q) ((record { instance = i; work = w; values = hold } ∷ rest) ≡ []) (length m.instances) k (end ∷ []) [] [])
       (words : ℕ) (made_then : World → World) (linkages_then : Memberships) (blocks_then : List Simulation) (made_arrays : (p : World) → (made_then p).arrays ≡ p.arrays) (made_members : (p : World) → p.members ≡ o.members → (made_then p).members ≡ linkages_then) (made_blocks : (p : World) → p.simulations ≡ o.simulations → (made_then p).simulations ≡ blocks_then)
       (joins : (c : List Held) → MembersFine s linkages_then (entered m (new_instance s k (Some j) c) z)) (starts : (c : List Held) → SimulationsFine s blocks_then (entered m (new_instance s k (Some j) c) z)) where
     abbrev own : Leveled s ok k
@@ -113,6 +121,9 @@ module _ (s : Source) (ok : Typed s) (l : Limits) (o : World) (marks : Marks) (l
 
     abbrev N : ℕ
     N = length m.instances
+
+    abbrev First : ℕ
+    First = (marks.seat).owner
 
     -- its levels, with what they declare
     abbrev all : AllLevels s ok (length s.tables.blocks) k
@@ -147,13 +158,19 @@ module _ (s : Source) (ok : Typed s) (l : Limits) (o : World) (marks : Marks) (l
     After c = entered m (new_instance s k (Some j) c) z
 
     abbrev noted : Marks
-    noted = marked marks (Some i)
+    noted = marked marks N (Some First)
 
     later_with : (c : List Held) (q : List Sight) (p : World) → Later s (see (marks_of marks q) p) m (see (marks_of noted q) p) (After c) All
-    later_with c q p = later_new s ok (see (marks_of marks q) p) m k (Some j) c z X is solid (Some i) p.members p.simulations
+    later_with c q p = later_new s ok (see (marks_of marks q) p) m k (Some j) c z X is solid (Some First) p.members p.simulations
+
+    -- none of its parameters is by name
+    nameless : (e : DeclNo) (kd : Kind) → Among e formals → entry_holds s true (entry_of s.tables e) ≡ Some (ByName kd) → ⊥
+    nameless e kd a held =
+        let y = number_from s e xs (formals_among s ok k has e a) in
+        (level_among s k y.0 xs all.are y.1).typed.not_by_name e kd y.2 held
 
     handed : (c : List Held) → Handed s m (After c) i N top.before marks noted (later_with c) o marks.sights d P (λ v. (kk : ℕ) → ValsFine s v (After c) N kk (holds_of s fs) vs)
-    handed c = hand_every s m (After c) i N top.before marks noted (later_with c) fs (class_kinds s fs) (classes_hand s ⊥ formals fs typed.formals) vs o marks.sights long d acts
+    handed c = hand_every s m (After c) i N top.before marks noted (later_with c) fs (class_kinds s fs) (classes_hand s ⊥ formals fs typed.formals nameless) vs o marks.sights long d acts
 
     filled : (c : List Held) → FilledIn s (see (marks_of noted (handed c).sights) P) (After c) N k vs first_ones formals
     filled c =
@@ -173,11 +190,11 @@ module _ (s : Source) (ok : Typed s) (l : Limits) (o : World) (marks : Marks) (l
     V = see G P
 
     abbrev V' : AllArrays
-    V' = on_top V (Some i) linkages_then blocks_then
+    V' = on_top V N (Some First) linkages_then blocks_then
 
     -- the same before it is made a linkage or a process
     abbrev seen_first : AllArrays
-    seen_first = on_top V (Some i) V.members V.simulations
+    seen_first = on_top V N (Some First) V.members V.simulations
 
     abbrev M : Instances
     M = After Cells
@@ -194,8 +211,8 @@ module _ (s : Source) (ok : Typed s) (l : Limits) (o : World) (marks : Marks) (l
     e : Later s (see marks o) m V m All
     e = (handed Cells).later marks m
 
-    copies : (n y : ℕ) → Other i n → Copies (see marks o) V n y
-    copies n y other q kd c' small copy = (handed Cells).copies n q kd c' (λ same. absurd (other same)) copy
+    copies : (q : Seat) (n y : ℕ) → Elsewhere marks.seat q → Copies (at_seat (see marks o) q) (at_seat V q) n y
+    copies q n y other z' kd c' small copy = (handed Cells).copies q n z' kd c' (λ same. absurd (other same)) copy
 
     linkages : P.members ≡ o.members
     linkages = handed_members N (arrays_among vs) o
@@ -208,34 +225,39 @@ module _ (s : Source) (ok : Typed s) (l : Limits) (o : World) (marks : Marks) (l
 
     begun : Begun s V' M N k (arrays_of_levels s xs)
     begun =
-        begun_new s ok V m k (Some j) Cells z X is solid (Some i) linkages_then blocks_then store begins (keys s ok k has Cells (filled first_ones).same_keys (filled first_ones).got) fine
-        (inside_new s ok V m k (Some j) Cells z X is solid (Some i) linkages_then blocks_then j u i refl stands (live_less m j whole.now whole.lives) refl (knows_near s V m store i j knows) store whole) (arrays_of_levels s xs) (made s ok k has Cells (filled first_ones).same_keys (filled first_ones).got) (joins Cells) (starts Cells)
+        begun_new s ok V m k (Some j) Cells z X is solid (Some First) linkages_then blocks_then store begins (keys s ok k has Cells (filled first_ones).same_keys (filled first_ones).got) fine
+        (inside_new s ok V m k (Some j) Cells z X is solid (Some First) linkages_then blocks_then j u First refl stands (live_less m j whole.now whole.lives) refl (near_then V m First i j (near_same (see marks o) V m First i refl (b.works).near) (knows_near s V m store i j knows)) store whole) (arrays_of_levels s xs) (made s ok k has Cells (filled first_ones).same_keys (filled first_ones).got) (joins Cells) (starts Cells)
 
     abbrev Below : List Activation
     Below = record { instance = i; work = w; values = hold } ∷ rest
 
     -- what enters it waits
     chain : ChainFine s V m Below waits
-    chain = record {
-      of_text = t;
-      todo = todo;
-      here = b.here;
-      own = b.own;
-      on = top.on;
-      vals = vs';
-      shown = shown;
-      kinds = left;
-      hands = hands_later s (see marks o) m V m All e i tt left vs' (λ n kd c deep copy. (handed Cells).copies i n kd c (λ q. omega (arith, deep, less)) copy) hands;
-      expected = expected;
-      expects = expects;
-      goes = work_later s (see marks o) m V m All e i t tt refl (rest ≡ []) (rest ≡ []) (λ q. q) (λ q. ChainFine s (see marks o) m rest q) (λ q. ChainFine s V m rest q) (below_handed s ok l o marks long m i t rest top w vs' P (handed Cells).sights e copies b.store (handed Cells).elements linkages blocks) w todo expected work;
-    }
+    chain =
+        let own = work_owner s o marks long m i t rest top w hold todo expected work in
+        record {
+          of_text = t;
+          todo = todo;
+          here = b.here;
+          own = b.own;
+          stands_on = λ x at. top.stands_on x (sym own ∙ at);
+          seat = marks.seat;
+          seated = ap (λ x. seat_on x (footing None rest)) own ∙ top.seated;
+          works = seated_later s (see marks o) m V m All e marks.seat i tt b.works;
+          vals = vs';
+          shown = shown;
+          kinds = left;
+          hands = hands_later s (see marks o) m V m All e i tt left vs' (λ n kd c deep copy. (handed Cells).copies marks.seat i n kd c (λ q. omega (arith, deep, less)) copy) hands;
+          expected = expected;
+          expects = expects;
+          goes = work_later s (see marks o) m V m All e i t tt refl (λ q. refl) (rest ≡ []) (rest ≡ []) (λ q. q) (λ q. ChainFine s (see marks o) m rest q) (λ q. ChainFine s V m rest q) (below_handed s ok l o marks long m i t rest top w vs' P (handed Cells).sights e copies b.store (handed Cells).elements linkages blocks) w todo expected work;
+        }
 
     abbrev Wk : List Item → List DeclNo → List Kinds → Type 0
     Wk w todo ks = WorkFine s V' M (λ q. ChainFine s V' M Below q) (Below ≡ []) N k w todo ks
 
     at_end : Wk (end ∷ []) [] []
-    at_end = ends V' Cells (below_new s ok V m k (Some j) Cells z X is solid (Some i) linkages_then blocks_then begins Below waits chain)
+    at_end = ends V' Cells refl (below_new s ok V m k (Some j) Cells z X is solid (Some First) linkages_then blocks_then begins Below waits chain)
 
     pending : Wk (levels_work xs end) (arrays_of_levels s xs) []
     pending = works s ok V' M N k has (arrays_of_levels s xs) begun (λ q. ChainFine s V' M Below q) (Below ≡ []) end at_end
@@ -263,7 +285,7 @@ module _ (s : Source) (ok : Typed s) (l : Limits) (o : World) (marks : Marks) (l
         same_arrays Made_then (made_then (arrays_given N vs (ran o t' w'))) _
         (handed_same N (arrays_among vs) o (ran o t' w') refl ∙ sym (made_arrays (arrays_given N vs (ran o t' w'))))
         (sym (made_members (arrays_given N vs (ran o t' w')) (given_members t' w'))) (sym (made_blocks (arrays_given N vs (ran o t' w')) (given_blocks t' w')))
-        (enters_fine s ok Made_then G (handed Cells).long m k (Some j) Cells z (arrays_of_levels s xs) begins (levels_work xs end) Below P store (placed_as m i w hold rest top.placed) (headed_as m i w hold rest top.headed) (inl (let before = top.before in let many = (top.placed).as_many in omega (arith, before, many))) begun pending)))
+        (enters_fine s ok Made_then G (handed Cells).long m k (Some j) Cells z (arrays_of_levels s xs) begins (levels_work xs end) Below P (Some First) (chain_first s ok l o marks long m i t rest top w hold todo expected work hold) store (chain_placed s ok l o marks long m i t rest top w hold todo expected work hold) (chain_headed s ok l o marks long m i t rest top w hold todo expected work hold) (inl (let before = top.before in let many = (top.placed).as_many in omega (arith, before, many))) begun pending)))
 
   module _ (vals : List Val) where
     class_many : (fs : List Formal) → length (class_kinds s fs) ≡ length fs
@@ -285,16 +307,16 @@ module _ (s : Source) (ok : Typed s) (l : Limits) (o : World) (marks : Marks) (l
         link_is s ok l o marks long m i t rest top w vals c.around v (λ j. when (is_live m j) o (having (levels s k) o (λ xs. object_entered s l o m i w vs rest k line r.values j xs))) here (λ j near whole.
         whens (IsFine s) (is_live m j) o (having (levels s k) o (λ xs. object_entered s l o m i w vs rest k line r.values j xs)) (lives_is s ok l o marks long m i t rest top w vals j whole.now whole.lives)
         (had (IsFine s) (levels s k) xs o (λ xs. object_entered s l o m i w vs rest k line r.values j xs) (levels_are s ok k has)
-        (entered_goes k line has r.values vs (length r.rest) j c.around todo c.left q.stands_in near whole r.fine (below_top r.rest v vs same) b more (Generated (length m.instances) k) (Of (Object (length m.instances)) ∷ vs) refl (Value c.holds ∷ c.left) (c.holds, c.fits, refl) (subst (λ z. Work s o marks long m i t rest top w todo z) c.out work) AttachedObject tt EndObject (λ v hs x. object_at_end v hs (own.typed).stays has j (record { instance = i; work = w; values = Of (Object (length m.instances)) ∷ vs } ∷ rest) x)
+        (entered_goes k line has r.values vs (length r.rest) j c.around todo c.left q.stands_in near whole r.fine (below_top r.rest v vs same) b more (Generated (length m.instances) k) (Of (Object (length m.instances)) ∷ vs) refl (Value c.holds ∷ c.left) (c.holds, c.fits, refl) (subst (λ z. Work s o marks long m i t rest top w todo z) c.out work) AttachedObject tt EndObject (λ v hs own' x. object_at_end v hs own' (own.typed).stays has j (record { instance = i; work = w; values = Of (Object (length m.instances)) ∷ vs } ∷ rest) x)
         (words_of_object s k (cells_of_levels s xs)) (λ p. object_made s k j (length m.instances) p) (enrolled_members (length m.instances) (linkage_of_text s k) o.members) (joined_simulations (is_process_text s k) j (length m.instances) o.simulations)
         (λ p. object_arrays s k j (length m.instances) p) (λ p e. object_members s k j (length m.instances) p ∙ ap (enrolled_members (length m.instances) (linkage_of_text s k)) e) (λ p e. object_blocks s k j (length m.instances) p ∙ ap (joined_simulations (is_process_text s k) j (length m.instances)) e)
         (λ c'. object_linked s ok o marks m b.store k (Some j) c' AttachedObject has (Some i) q.single q.made j c.around refl q.stands_in whole) (λ c'. object_joined s ok o marks m b.store k (Some j) c' AttachedObject has (Some i) q.single q.made j c.around refl q.stands_in whole))))))))
       where
         -- it is an object, which ends as one
-        object_at_end : (v : AllArrays) (hs : List Held) → is_class_free s k ≡ false → has_levels (text s k) ≡ true → (j : ℕ) → (below : List Activation) → ChainFine s v (entered m (new_instance s k (Some j) hs) AttachedObject) below (Generated (length m.instances) k) → WorkFine s v (entered m (new_instance s k (Some j) hs) AttachedObject) (λ q. ChainFine s v (entered m (new_instance s k (Some j) hs) AttachedObject) below q) (below ≡ []) (length m.instances) k (EndObject ∷ []) [] []
-        object_at_end v hs free has j below c =
+        object_at_end : (v : AllArrays) (hs : List Held) → (v.seat).evaluations ≡ 0 → is_class_free s k ≡ false → has_levels (text s k) ≡ true → (j : ℕ) → (below : List Activation) → ChainFine s v (entered m (new_instance s k (Some j) hs) AttachedObject) below (Generated (length m.instances) k) → WorkFine s v (entered m (new_instance s k (Some j) hs) AttachedObject) (λ q. ChainFine s v (entered m (new_instance s k (Some j) hs) AttachedObject) below q) (below ≡ []) (length m.instances) k (EndObject ∷ []) [] []
+        object_at_end v hs own free has j below c =
             let stands = stands_new m (new_instance s k (Some j) hs) AttachedObject (top.placed).as_many in
-            (refl, free, has, (AttachedObject, stands, tt), Generated (length m.instances) k, subst (λ b. IsRelease b (length m.instances) k (Generated (length m.instances) k)) (sym (ap is_resumed stands)) (refl, refl), c)
+            (refl, free, has, (AttachedObject, stands, tt), Generated (length m.instances) k, subst (λ b. IsRelease b (length m.instances) k (Generated (length m.instances) k)) (sym (ap is_resumed stands)) (refl, refl), c, (refl, own))
 
         next : List Val → List Val → Run Configuration
         next values vals = popping vals o (λ v vals. having (instance_in v) o (λ j. when (is_live m j) o (having (levels s k) o (λ xs. object_entered s l o m i w vals rest k line values j xs))))
@@ -314,7 +336,7 @@ module _ (s : Source) (ok : Typed s) (l : Limits) (o : World) (marks : Marks) (l
         (subst (λ z. Goes (IsFine s) (pop_many (length r.values) [] z o next)) (sym r.are)
         (subst (Goes (IsFine s)) (sym (all_taken r.values r.rest o next))
         (had (IsFine s) (levels s k) xs o (λ xs. prefixed_entered s l o m (record { instance = i; work = w; values = r.rest } ∷ rest) k line r.values (Some i) EndPrefixed xs) (levels_are s ok k has)
-        (entered_goes k line has r.values r.rest (length r.rest) i c.around [] behind c.stands_in (outward no_further) (site_whole s (see marks o) m i t c.around b c.site) r.fine (omega arith) b r.more (Takes None) r.rest refl behind refl work (NoObject None) tt EndPrefixed (λ v hs x. ((None, stands_new m (new_instance s k (Some i) hs) (NoObject None) (top.placed).as_many), x))
+        (entered_goes k line has r.values r.rest (length r.rest) i c.around [] behind c.stands_in (outward no_further) (site_whole s (see marks o) m i t c.around b c.site) r.fine (omega arith) b r.more (Takes None) r.rest refl behind refl work (NoObject None) tt EndPrefixed (λ v hs own' x. ((None, stands_new m (new_instance s k (Some i) hs) (NoObject None) (top.placed).as_many), x, (refl, own')))
         (words_of_cells (cells_of_levels s xs)) (λ p. block_begun s k (length m.instances) p) (begun_members (is_simulation_text s k) (length m.instances) o.members) (begun_simulations (is_simulation_text s k) (length m.instances) o.simulations)
         (λ p. block_arrays s k (length m.instances) p) (λ p e. block_members s k (length m.instances) p ∙ ap (begun_members (is_simulation_text s k) (length m.instances)) e) (λ p e. block_blocks s k (length m.instances) p ∙ ap (begun_simulations (is_simulation_text s k) (length m.instances)) e)
         (λ c'. block_linked s ok o marks m b.store k (Some i) c' (NoObject None) has (Some i) c.block) (λ c'. block_started s ok o marks m b.store k (Some i) c' (NoObject None) has (Some i) c.block)))))

@@ -1,5 +1,5 @@
 -- Each operator of expressions and assignments goes on.
-use Rattle.std.proofs.Common.{◌≡◌, ℕ, suc, Bool, true, false, List, [], ◌∷◌, ◌++◌, length, Option, Some, None, inr, refl, sym, ap, ◌∙◌, subst}
+use Rattle.std.proofs.Common.{⊎_elim, ◌≡◌, ℕ, suc, Bool, true, false, List, [], ◌∷◌, ◌++◌, length, Option, Some, None, inr, refl, sym, ap, ◌∙◌, subst}
 use Rattle.std.specs.Prelude.{◌*◌, ◌+◌}
 use Rattle.sim_base.specs.declared.limits.Limits.{Limits}
 use Rattle.sim_base.specs.declared.numbering.DeclNo.{DeclNo}
@@ -13,6 +13,7 @@ use Rattle.sim_meaning.specs.Meaning.{do_op}
 use Rattle.sim_meaning.specs.Steps.{go, putting, text_assigned, value_at, with_value}
 use Rattle.sim_scope.specs.Access.{encloser}
 use Rattle.sim_tree.specs.declared.expr.Membership.{Membership}
+use Rattle.sim_tree.specs.Syntax.{Expression}
 use Rattle.sim_values.specs.declared.operators.Dyadic.{Dyadic}
 use Rattle.sim_values.specs.declared.operators.Dyadic.TheVariants as dyadic
 use Rattle.sim_values.specs.declared.operators.Monadic.{Monadic}
@@ -23,28 +24,31 @@ use Rattle.sim_code.specs.Events.{choosing, having, popping, qualifying, when}
 use Rattle.sim_code.specs.Instances.{CellPlace, ElementPlace}
 use Rattle.sim_meaning.specs.Levels.{belongs, has_procedure, has_levels, is_in, is_in_any, main_belongs, stands_in}
 use Rattle.sim_meaning.specs.Objects.{is_member, putting_reference}
-use Rattle.sim_meaning.specs.Pending.{Activation, Address, AgainOp, array_in, ArrayOp, ArrayValue, AttributeOp, cell_set, Configuration, CopyOp, Declared, Do, DropOp, ElementOp, Eval, FetchOp, FitsOp, GiveOp, IfOp, Instances, Item, JoinOp, KeepOp, Key, Link, MemberOp, NotNoneOp, ObjectOp, Of, OneOp, Op, PastOp, place_in, QualifiedElementOp, QuaOp, ReferOp, ShareOp, StandardOp, StepOp, StoreOp, SwapOp, Target, Term, ToAddress, ToCell, ToPlace, ToReference, ToReferenceAt, ToText, ToTextAt, ToTextOf, TwoOp, Val, variable_in}
+use Rattle.sim_meaning.specs.Closing.{close_actual}
+use Rattle.sim_meaning.specs.Pending.{CloseOp, ToNamed, Activation, Address, AgainOp, array_in, ArrayOp, ArrayValue, AttributeOp, cell_set, Configuration, CopyOp, Declared, Do, DropOp, ElementOp, Eval, FetchOp, FitsOp, GiveOp, IfOp, Instances, Item, JoinOp, KeepOp, Key, Link, MemberOp, NotNoneOp, ObjectOp, Of, OneOp, Op, PastOp, place_in, QualifiedElementOp, QuaOp, ReferOp, ShareOp, StandardOp, StepOp, StoreOp, SwapOp, Target, Term, ToAddress, ToCell, ToPlace, ToReference, ToReferenceAt, ToText, ToTextAt, ToTextOf, TwoOp, Val, variable_in}
 use Rattle.sim_meaning.specs.Texts.{text}
-use Rattle.sim_sound.specs.Held.{ArrayOf, Holds, Refers, Simply}
+use Rattle.sim_sound.specs.Held.{ByName, ArrayOf, Holds, Refers, Simply}
 use Rattle.sim_sound.specs.Expressions.{TwoKinds, some_holds, standard_kind}
 use Rattle.sim_sound.specs.Typed.{Typed}
 use Rattle.sim_sound.proofs.ArrayEvents.{NewArray, added_fine, array_is, copied_array, copied_fine, found_element, made_array}
-use Rattle.sim_sound.proofs.Cells.{none_among}
+use Rattle.sim_sound.proofs.Cells.{target_lies, whichever_reference, whichever_value, none_among}
 use Rattle.sim_sound.proofs.Changes.{copies_array, copies_replaced, elements_array, elements_replaced, later_array, later_replaced, more, new_lives, replaced}
 use Rattle.sim_sound.proofs.Constants.{names_none}
 use Rattle.sim_sound.proofs.Evals.{IsFine, Work, eval_goes, goes_on}
 use Rattle.sim_sound.proofs.Fitting.{knows_object, object_in, main_up, object_levels, object_up, object_whole, plain_by_kind, val_fits}
-use Rattle.sim_sound.proofs.Later.{All, Copies, own_later, present_later}
+use Rattle.sim_sound.proofs.Later.{All, AllCopies, own_later, present_later}
 use Rattle.sim_sound.proofs.Lifts.{Goes, any_popped, assigning_goes, chosen, had, integers_popped, joining_goes, known_popped, one_applied, plain_popped, ran, step_applied, truth_popped, two_applied, whens}
 use Rattle.sim_sound.proofs.Lists.{set_len}
 use Rattle.sim_sound.proofs.Moves.{same_ones}
 use Rattle.sim_sound.proofs.Names.{ValueIs, performed}
 use Rattle.sim_sound.proofs.Ops.{back_goes, fetched_goes, later_hands, later_with, putting_goes, putting_reference_goes, set_goes, store_with, stored_array}
+use Rattle.sim_sound.proofs.Places.{actual_closed}
 use Rattle.sim_sound.proofs.Prefixes.{level_is, level_then}
 use Rattle.sim_sound.proofs.ProcessClasses.{main_bare}
 use Rattle.sim_sound.proofs.References.{any_some_popped, held_reference_goes, object_popped, some_popped}
 use Rattle.sim_sound.proofs.Running.{Begun, Operates}
-use Rattle.sim_sound.proofs.Sound.{ShowsObject, ObjectIn, AddressOf, Addressed, CellTarget, Component, Copied, CopyFine, DeepFine, HandFine, HandsFine, Hidden, ImageAddress, IsAddress, IsCopy, Kinds, Lasting, Leads, LinkTo, MainIn, Marks, NotStandard, ObjectOf, OneKinds, OpFine, Open, PlainFine, ReferenceAddress, ReferenceFine, Sight, TermFine, ValFine, Value, array_stored, elements_of, given, held_kinds, see, value_stored, MatchFor}
+use Rattle.sim_sound.proofs.Sound.{TakesReference, TakesValue, actual_gives, ShowsObject, Addressed, IsAddress, IsCopy, Leads, NotStandard, OneKinds, OpFine, TermFine, array_stored, given, held_kinds, value_stored}
+use Rattle.sim_sound.proofs.Values.{CellLies, Whichever, near_staying, ObjectIn, AddressOf, Component, Copied, CopyFine, DeepFine, HandFine, HandsFine, Hidden, ImageAddress, Kinds, Lasting, LinkTo, MainIn, Marks, ObjectOf, Open, PlainFine, ReferenceAddress, ReferenceFine, Sight, ValFine, Value, elements_of, see, MatchFor}
 
 one_longer : (g : List Sight) (o : List OneArray) (z : Sight) (x : OneArray) → length (g ++ z ∷ []) ≡ suc (length g)
 one_longer [] o z x = refl
@@ -67,7 +71,7 @@ two_no_reference (dyadic.Connect c) k v a e = let z = a.1 in cc
 two_no_reference dyadic.SameObject k v a e = let z = a.1 in cc
 two_no_reference dyadic.SameText k v a e = let z = a.1 in cc
 
-module _ (s : Source) (ok : Typed s) (l : Limits) (o : World) (g : Marks) (long : length g.sights ≡ length o.arrays) (m : Instances) (i t : ℕ) (rest : List Activation) (top : Operates g.beneath m i rest) (w : List Item) (vals : List Val) (todo todo' : List DeclNo) (before behind : List Kinds) (b : Begun s (see g o) m i t todo) (h : HandsFine s (see g o) m i before vals) (work : Work s o g long m i t rest top w todo' behind) where
+module _ (s : Source) (ok : Typed s) (l : Limits) (o : World) (g : Marks) (long : length g.sights ≡ length o.arrays) (m : Instances) (i t : ℕ) (rest : List Activation) (top : Operates g.beneath g.seat m i rest) (w : List Item) (vals : List Val) (todo todo' : List DeclNo) (before behind : List Kinds) (b : Begun s (see g o) m i t todo) (h : HandsFine s (see g o) m i before vals) (work : Work s o g long m i t rest top w todo' behind) where
   abbrev P : World → Configuration → Type 0
   P = IsFine s
 
@@ -119,6 +123,7 @@ module _ (s : Source) (ok : Typed s) (l : Limits) (o : World) (g : Marks) (long 
       leading Component k d v is f = absurd is
       leading (ObjectIn z) k d v is f = absurd is
       leading (MatchFor z) k d v is f = absurd is
+      leading (Whichever value_too z) k d v is f = f
 
   pub join_op : (line : ℕ) → OpFine s (see g o) m i t (JoinOp line) todo todo' before behind → Stepped (JoinOp line)
   join_op line a = joining_goes P s (see g o) m i l line a.0 vals o (λ z p vs. go p m i w (Of z ∷ vs) rest) (hand _ a.1) (λ z t' w' frames vs more. goes (Of (Text z) ∷ vs) (Value (Simply kind.Text) ∷ a.0) ((refl, tt), more) (works _ a.2 a.3))
@@ -129,10 +134,10 @@ module _ (s : Source) (ok : Typed s) (l : Limits) (o : World) (g : Marks) (long 
       let e = later_array s (see g o) m z x in
       let seen : Marks = record g { sights = g.sights ++ z ∷ [] } in
       let longer : length seen.sights ≡ length (o.arrays ++ x ∷ []) = one_longer g.sights o.arrays z x ∙ ap suc long ∙ sym (one_longer' o.arrays x) in
-      let copies : (j d : ℕ) → Copies (see g o) (more (see g o) z x) j d = λ j d. copies_array (see g o) z x j d in
+      let copies : AllCopies (see g o) (more (see g o) z x) = copies_array (see g o) z x in
       let store = store_with s (see g o) (more (see g o) z x) m e refl refl copies (elements_array s (see g o) m z x long new.elements b.store.elements) b.store.members b.store.simulations b.store in
-      later_with s ok l o g long m i t rest top seen (added (ran o t' w') x) longer refl refl m e copies (same_ones m) store w (ArrayValue (length o.arrays) ∷ vs) todo (c ∷ left) (present_later s (see g o) m (more (see g o) z x) m All e i t todo tt b.here) (own_later s (see g o) m (more (see g o) z x) m All e i t todo tt b.here ∙ b.own)
-      (f, later_hands s ok l o g long m i t rest top seen (added (ran o t' w') x) longer refl refl m e copies (same_ones m) store left vs hands) y
+      later_with s ok l o g long m i t rest top seen (added (ran o t' w') x) longer refl refl refl m e copies (same_ones m) store w (ArrayValue (length o.arrays) ∷ vs) todo (c ∷ left) (present_later s (see g o) m (more (see g o) z x) m All e i t todo tt b.here) (own_later s (see g o) m (more (see g o) z x) m All e i t todo tt b.here ∙ b.own) b.works
+      (f, later_hands s ok l o g long m i t rest top seen (added (ran o t' w') x) longer refl refl refl m e copies (same_ones m) store left vs hands) y
 
   pub copy_op : (line : ℕ) → OpFine s (see g o) m i t (CopyOp line) todo todo' before behind → Stepped (CopyOp line)
   copy_op line a =
@@ -142,13 +147,14 @@ module _ (s : Source) (ok : Typed s) (l : Limits) (o : World) (g : Marks) (long 
     where
       by_copy : (c : Kinds) → IsCopy a.0 c → (vs : List Val) → HandsFine s (see g o) m i a.1 vs → (t' w' : ℕ) (x : OneArray) → NewArray s m i a.0 x → Work s o g long m i t rest top w todo (c ∷ a.1) → IsFine s (added (ran o t' w') x) (record { chain = record { instance = i; work = w; values = ArrayValue (length o.arrays) ∷ vs } ∷ rest; memory = m })
       by_copy (Value h) is vs hands t' w' x new y = array_goes (Open a.0) (Value h) vs a.1 hands t' w' x new (subst (λ z. ValFine s (more (see g o) (Open a.0) x) m i z (ArrayValue (length o.arrays))) (sym is) (added_fine s (see g o) m i a.0 x long new)) y
-      by_copy (Copied k) is vs hands t' w' x new y = array_goes (Hidden a.0 i (length vs)) (Copied k) vs a.1 hands t' w' x new (subst (λ z. CopyFine (more (see g o) (Hidden a.0 i (length vs)) x) i (length vs) z (length o.arrays)) (sym is) (copied_fine s (see g o) m i (length vs) a.0 x long new)) y
+      by_copy (Copied k) is vs hands t' w' x new y = array_goes (Hidden a.0 g.seat (length vs)) (Copied k) vs a.1 hands t' w' x new (subst (λ z. CopyFine (more (see g o) (Hidden a.0 g.seat (length vs)) x) i (length vs) z (length o.arrays)) (sym is) (copied_fine s (see g o) m i (length vs) a.0 x long new)) y
       by_copy (AddressOf k) is vs hands t' w' x new y = absurd is
       by_copy (ReferenceAddress k) is vs hands t' w' x new y = absurd is
       by_copy (Lasting k) is vs hands t' w' x new y = absurd is
       by_copy Component is vs hands t' w' x new y = absurd is
       by_copy (ObjectIn k) is vs hands t' w' x new y = absurd is
       by_copy (MatchFor k) is vs hands t' w' x new y = absurd is
+      by_copy (Whichever value_too k) is vs hands t' w' x new y = absurd is
       by_copy ImageAddress is vs hands t' w' x new y = absurd is
       by_copy (LinkTo k) is vs hands t' w' x new y = absurd is
 
@@ -196,30 +202,56 @@ module _ (s : Source) (ok : Typed s) (l : Limits) (o : World) (g : Marks) (long 
   now_fine : (x : Term) (r : Option Kinds) → todo ≡ [] → TermFine s m i t [] x r → TermFine s m i t todo x r
   now_fine x r none a = subst (λ z. TermFine s m i t z x r) (sym none) a
 
+  -- where a value goes
+  takes_hand : (k : Kind) (x : Kinds) (d : ℕ) (v : Val) → TakesValue (Simply k) x → DeepFine s (see g o) m i d x v → HandFine s (see g o) m i (AddressOf (Simply k)) v
+  takes_hand k (AddressOf h) d v is f = subst (λ z. HandFine s (see g o) m i (AddressOf z) v) is f
+  takes_hand k (Whichever false h) d v is f =
+      let same : h ≡ k = let e = is.0 in cc in
+      subst (λ z. HandFine s (see g o) m i (AddressOf (Simply z)) v) same (⊎_elim (λ a. a) (λ a. absurd (let e = a.0 in cc)) (whichever_value s (see g o) m i false h v is.1 f))
+  takes_hand k _ d v is f = absurd is
+
+  takes_address : (k : Kind) (x : Kinds) → TakesValue (Simply k) x → IsAddress x
+  takes_address k (AddressOf h) is = tt
+  takes_address k (Whichever false h) is = tt
+  takes_address k _ is = absurd is
+
+  -- and a reference
+  reference_hand : (x : Kinds) (d : ℕ) (v : Val) → TakesReference x → DeepFine s (see g o) m i d x v → (c : ℕ) × HandFine s (see g o) m i (ReferenceAddress c) v
+  reference_hand (ReferenceAddress c) d v is f = (c, f)
+  reference_hand (Whichever false k) d v is f = whichever_reference s (see g o) m i k v is f
+  reference_hand _ d v is f = absurd is
+
   pub store_op : (x : Target) → OpFine s (see g o) m i t (StoreOp x) todo todo' before behind → Stepped (StoreOp x)
   store_op (ToCell j key) (value_stored k next is a none same) =
       any_popped P s (see g o) m i (Value (Simply k)) next vals o (λ v vs. having (cell_set m j key v) o (λ m. go o m i w vs rest)) (hand _ is) (λ v vs e here more.
-      set_goes s ok l o g long m i t rest top j key (Simply k) v w vs todo next a.0 tt here b more (works next (sym a.1) same))
+      set_goes s ok l o g long m i t rest top j key (Simply k) v w vs todo next (target_lies s (see g o) m i j key (Simply k) b.store a.0) tt here b more (works next (sym a.1) same))
   store_op ToAddress (value_stored k next is a none same) =
       any_popped P s (see g o) m i (Value (Simply k)) next vals o (λ v vs. popping vs o (λ p vs. having (variable_in p) o (λ p. putting p v o m (λ o m. go o m i w vs rest)))) (hand _ is) (λ v vs e here more.
-      any_popped P s (see g o) m i (AddressOf (Simply k)) behind vs o (λ p vs. having (variable_in p) o (λ p. putting p v o m (λ o m. go o m i w vs rest))) (subst (λ z. HandsFine s (see g o) m i z vs) a more) (λ p vs f there most.
-      putting_goes s ok l o g long m i t rest top (Simply k) p v w vs todo behind tt there here b most (works behind refl same)))
+      any_popped P s (see g o) m i a.0 behind vs o (λ p vs. having (variable_in p) o (λ p. putting p v o m (λ o m. go o m i w vs rest))) (subst (λ z. HandsFine s (see g o) m i z vs) a.2 more) (λ p vs f there most.
+      putting_goes s ok l o g long m i t rest top (Simply k) p v w vs todo behind tt (takes_hand k a.0 (length vs) p a.1 there) here b most (works behind refl same)))
   store_op (ToText line) (value_stored k next is a none same) = text_stored line k next is a same
   store_op (ToTextOf j key line) (value_stored k next is a none same) = text_stored line k next is a same
   store_op (ToTextAt x line) (value_stored k next is a none same) = text_stored line k next is a same
   store_op (ToReference line) (value_stored k next is a none same) =
       goes_on s o g long m i t rest top (Do (ReferOp line) ∷ w) vals todo before b h
-      (todo, behind, (a.1, is ∙ ap (λ z. Value z ∷ next) a.0 ∙ ap (λ z. Value (Simply kind.Reference) ∷ z) a.2, refl), works behind refl same)
+      (todo, behind, (ReferenceAddress a.1, tt, is ∙ ap (λ z. Value z ∷ next) a.0 ∙ ap (λ z. Value (Simply kind.Reference) ∷ z) a.2, refl), works behind refl same)
+  store_op (ToNamed c line) (value_stored k next is a none same) =
+      goes_on s o g long m i t rest top (Do (FitsOp c line) ∷ Do (ReferOp line) ∷ w) vals todo before b h (
+        todo,
+        Value (Simply kind.Reference) ∷ next,
+        (Simply kind.Reference, next, refl, is ∙ ap (λ z. Value z ∷ next) a.0, refl, refl),
+        (todo, behind, (Whichever false kind.Reference, refl, ap (λ z. Value (Simply kind.Reference) ∷ z) a.1, refl), works behind refl same),
+      )
   store_op (ToPlace x) (value_stored k next is a none same) =
       goes_on s o g long m i t rest top (Do (Eval x) ∷ Do SwapOp ∷ Do (StoreOp ToAddress) ∷ w) vals todo before b h (
         todo,
-        AddressOf (Simply k) ∷ before,
-        (Some (AddressOf (Simply k)), now_fine x (Some (AddressOf (Simply k))) none a.0, refl, refl),
+        a.0 ∷ before,
+        (Some a.0, now_fine x (Some a.0) none a.2, refl, refl),
         (
           todo,
-          Value (Simply k) ∷ AddressOf (Simply k) ∷ next,
-          (AddressOf (Simply k), k, next, tt, ap (λ z. AddressOf (Simply k) ∷ z) is, refl, refl),
-          (todo, next, value_stored k (AddressOf (Simply k) ∷ next) refl refl none refl, works next (sym a.1) same),
+          Value (Simply k) ∷ a.0 ∷ next,
+          (a.0, k, next, takes_address k a.0 a.1, ap (λ z. a.0 ∷ z) is, refl, refl),
+          (todo, next, value_stored k (a.0 ∷ next) refl (a.0, a.1, refl) none refl, works next (sym a.3) same),
         ),
       )
   store_op (ToReferenceAt x line) (value_stored k next is a none same) =
@@ -231,7 +263,7 @@ module _ (s : Source) (ok : Typed s) (l : Limits) (o : World) (g : Marks) (long 
           todo,
           Value (Simply k) ∷ ReferenceAddress a.2 ∷ next,
           (ReferenceAddress a.2, k, next, tt, ap (λ z. ReferenceAddress a.2 ∷ z) is, refl, refl),
-          (todo, next, (a.2, ap (λ z. Value z ∷ ReferenceAddress a.2 ∷ next) a.0, refl), works next (sym a.1) same),
+          (todo, next, (ReferenceAddress a.2, tt, ap (λ z. Value z ∷ ReferenceAddress a.2 ∷ next) a.0, refl), works next (sym a.1) same),
         ),
       )
   store_op (ToCell j key) (array_stored a) =
@@ -247,6 +279,7 @@ module _ (s : Source) (ok : Typed s) (l : Limits) (o : World) (g : Marks) (long 
   store_op (ToText line) (array_stored a) = let e = a.is in absurd (cc)
   store_op (ToTextOf j key line) (array_stored a) = let e = a.is in absurd (cc)
   store_op (ToReference line) (array_stored a) = let e = a.is in absurd (cc)
+  store_op (ToNamed c line) (array_stored a) = let e = a.is in absurd (cc)
   store_op (ToPlace x) (array_stored a) = let e = a.is in absurd (cc)
   store_op (ToTextAt x line) (array_stored a) = let e = a.is in absurd (cc)
   store_op (ToReferenceAt x line) (array_stored a) = let e = a.is in absurd (cc)
@@ -270,12 +303,19 @@ module _ (s : Source) (ok : Typed s) (l : Limits) (o : World) (g : Marks) (long 
   swap_goes Component v u k d e is f = absurd is
   swap_goes (ObjectIn z) v u k d e is f = absurd is
   swap_goes (MatchFor z) v u k d e is f = absurd is
+  swap_goes (Whichever value_too z) v u k d e is f = f
 
   pub swap_op : OpFine s (see g o) m i t SwapOp todo todo' before behind → Stepped SwapOp
   swap_op a =
       any_popped P s (see g o) m i a.0 (Value (Simply a.1) ∷ a.2) vals o (λ v vs. popping vs o (λ u vs. go o m i w (u ∷ v ∷ vs) rest)) (hand _ a.4) (λ v vs is e more.
       any_popped P s (see g o) m i (Value (Simply a.1)) a.2 vs o (λ u vs. go o m i w (u ∷ v ∷ vs) rest) more (λ u us is' f most.
       goes (u ∷ v ∷ us) (Value (Simply a.1) ∷ a.0 ∷ a.2) (f, (swap_goes a.0 v u a.1 (length vs) (length us) a.3 e, most)) (works _ a.5 a.6)))
+
+  -- an actual parameter by name is closed, in the instance in which it stands
+  pub close_op : (e : Expression) → OpFine s (see g o) m i t (CloseOp e) todo todo' before behind → Stepped (CloseOp e)
+  close_op e a =
+      goes_on s o g long m i t rest top (Do (Eval (close_actual s m i e)) ∷ w) vals todo before b h
+      (todo, actual_gives s e a.0 ∷ before, (Some (actual_gives s e a.0), actual_closed s ok (see g o) m b.store i t todo a.1 a.2 e a.0 a.3, refl, refl), works (actual_gives s e a.0 ∷ before) a.4 a.5)
 
   -- no main program has an attribute of a class that is not one of the standard classes
   pub bare : (c u : ℕ) → has_level s.tables c u ≡ true → NotStandard s u → (z : ℕ) → MainIn s m z c → ⊥
@@ -287,15 +327,15 @@ module _ (s : Source) (ok : Typed s) (l : Limits) (o : World) (g : Marks) (long 
       whens P (is_in s m u j) o (go o m i w (Address (CellPlace j key class) ∷ vs) rest) (object_in s ok (see g o) m b.store j a.0 u p (a.4).level)
       (goes (Address (CellPlace j key class) ∷ vs) (a.2 ∷ a.3) (address class a.1 a.2 (length vs) j a.5 (target j vs p), more) (works _ a.7 a.8)))
     where
-      target : (j : ℕ) (vs : List Val) → ObjectOf s m j a.0 → CellTarget s m i j key a.1
+      target : (j : ℕ) (vs : List Val) → ObjectOf s m j a.0 → CellLies s (see g o) m i j key a.1
       target j vs p =
           let whole = object_whole s ok (see g o) m b.store j a.0 u p (a.4).level in
           let has : has_levels (text s u) ≡ true = object_levels s ok (see g o) m b.store j a.0 u p (a.4).level in
-          record { around = u; near = knows_object s m i j a.0 p; todo = []; here = whole; ready = λ d e z. none_among d z; holds = (a.4).is has; there = (a.4).there has }
+          record { around = u; near = near_staying (record { now = p.now; lives = p.lives; stays = p.stays }); todo = []; here = whole; ready = λ d e z. none_among d z; holds = (a.4).is has; there = (a.4).there has }
 
-      address : (class : Option ℕ) (held : Holds) (x : Kinds) (d j : ℕ) → Addressed class held x → CellTarget s m i j key held → DeepFine s (see g o) m i d x (Address (CellPlace j key class))
+      address : (class : Option ℕ) (held : Holds) (x : Kinds) (d j : ℕ) → Addressed class held x → CellLies s (see g o) m i j key held → DeepFine s (see g o) m i d x (Address (CellPlace j key class))
       address None held x d j is c = subst (λ z. DeepFine s (see g o) m i d z (Address (CellPlace j key None))) is c
-      address (Some k) held x d j is c = subst (λ z. DeepFine s (see g o) m i d z (Address (CellPlace j key (Some k)))) is.1 (refl, subst (λ z. CellTarget s m i j key z) is.0 c)
+      address (Some k) held x d j is c = subst (λ z. DeepFine s (see g o) m i d z (Address (CellPlace j key (Some k)))) is.1 (refl, subst (λ z. CellLies s (see g o) m i j key z) is.0 c)
 
   has_the_procedure : (j k u : ℕ) → encloser s.tables k ≡ Some u → is_in s m u j ≡ true → has_procedure s m k j ≡ true
   unfolding has_procedure
@@ -341,6 +381,7 @@ module _ (s : Source) (ok : Typed s) (l : Limits) (o : World) (g : Marks) (long 
           some_popped P s (see g o) m i c line a.2 vals o (λ p vs. go o m i w (Of p ∷ vs) rest) f (λ p vs e some more. goes (Of p ∷ vs) (ObjectIn k ∷ a.2) (in_class c k is p e some (length vs), more) y)
       by_kind (Simply q) (ObjectIn k) is f y = absurd is
       by_kind (ArrayOf q) (ObjectIn k) is f y = absurd is
+      by_kind (ByName q) (ObjectIn k) is f y = absurd is
       by_kind h _ is f y = absurd is
 
   pub member_op : (member : Membership) (c : ℕ) → OpFine s (see g o) m i t (MemberOp member c) todo todo' before behind → Stepped (MemberOp member c)
@@ -380,13 +421,14 @@ module _ (s : Source) (ok : Typed s) (l : Limits) (o : World) (g : Marks) (long 
       let now : OneArray = record f.it { kept = true } in
       let next = replaced (see g o) n f.it now f.lives refl (inr refl) (λ k. refl) refl refl in
       let e = later_replaced (see g o) n f.it now f.lives refl (inr refl) (λ k. refl) refl refl s m in
-      let copies : (j d : ℕ) → Copies (see g o) next j d = λ j d. copies_replaced (see g o) n f.it now f.lives refl (inr refl) (λ k. refl) refl refl a.0 f.known j d in
+      let copies : AllCopies (see g o) next = copies_replaced (see g o) n f.it now f.lives refl (inr refl) (λ k. refl) refl refl a.0 f.known in
       let store = store_with s (see g o) next m e refl refl copies (elements_replaced (see g o) n f.it now f.lives refl (inr refl) (λ k. refl) refl refl s m (Open a.0) f.known (λ q p at. b.store.elements n q f.it (Open a.0) p f.lives f.known at) b.store.elements) b.store.members b.store.simulations b.store in
-      later_with s ok l o g long m i t rest top g (with_array o n now) (long ∙ sym (set_len o.arrays n now)) refl refl m e copies (same_ones m) store w (ArrayValue n ∷ vs) todo (Lasting a.0 ∷ a.1) (present_later s (see g o) m next m All e i t todo tt b.here) (own_later s (see g o) m next m All e i t todo tt b.here ∙ b.own)
-      (record { it = now; lives = new_lives (see g o) n f.it now f.lives refl (inr refl) (λ k. refl) refl refl n refl; known = f.known; keeps = refl; count = f.count }, later_hands s ok l o g long m i t rest top g (with_array o n now) (long ∙ sym (set_len o.arrays n now)) refl refl m e copies (same_ones m) store a.1 vs hands) (works _ a.3 a.4))))
+      later_with s ok l o g long m i t rest top g (with_array o n now) (long ∙ sym (set_len o.arrays n now)) refl refl refl m e copies (same_ones m) store w (ArrayValue n ∷ vs) todo (Lasting a.0 ∷ a.1) (present_later s (see g o) m next m All e i t todo tt b.here) (own_later s (see g o) m next m All e i t todo tt b.here ∙ b.own) b.works
+      (record { it = now; lives = new_lives (see g o) n f.it now f.lives refl (inr refl) (λ k. refl) refl refl n refl; known = f.known; keeps = refl; count = f.count }, later_hands s ok l o g long m i t rest top g (with_array o n now) (long ∙ sym (set_len o.arrays n now)) refl refl refl m e copies (same_ones m) store a.1 vs hands) (works _ a.3 a.4))))
 
   pub refer_op : (line : ℕ) → OpFine s (see g o) m i t (ReferOp line) todo todo' before behind → Stepped (ReferOp line)
   refer_op line a =
-      known_popped P s (see g o) m i kind.Reference (ReferenceAddress a.0 ∷ behind) vals o (λ p vs. popping vs o (λ v vs. having (place_in v) o (λ place. putting_reference s line place p o m (λ o m. go o m i w vs rest)))) (hand _ a.1) (λ p vs e more.
-      any_popped P s (see g o) m i (ReferenceAddress a.0) behind vs o (λ v vs. having (place_in v) o (λ place. putting_reference s line place p o m (λ o m. go o m i w vs rest))) more (λ v vs is f most.
-      putting_reference_goes s ok l o g long m i t rest top a.0 line v p w vs todo behind f e b most (works behind refl a.2)))
+      known_popped P s (see g o) m i kind.Reference (a.0 ∷ behind) vals o (λ p vs. popping vs o (λ v vs. having (place_in v) o (λ place. putting_reference s line place p o m (λ o m. go o m i w vs rest)))) (hand _ a.2) (λ p vs e more.
+      any_popped P s (see g o) m i a.0 behind vs o (λ v vs. having (place_in v) o (λ place. putting_reference s line place p o m (λ o m. go o m i w vs rest))) more (λ v vs is f most.
+      let x = reference_hand a.0 (length vs) v a.1 f in
+      putting_reference_goes s ok l o g long m i t rest top x.0 line v p w vs todo behind x.1 e b most (works behind refl a.3)))

@@ -24,7 +24,7 @@ use Rattle.sim_code.specs.Simulations.{current_process, ended_at, integer_or_err
 use Rattle.sim_meaning.specs.Levels.{end_line, has_levels}
 use Rattle.sim_meaning.specs.Meaning.{do_op}
 use Rattle.sim_meaning.specs.Objects.{decided}
-use Rattle.sim_meaning.specs.Pending.{Activation, Address, ArrayValue, BlockOp, Configuration, EndProcessOp, Instances, Item, Link, Of, Op, ProcedureValue, ProcessOp, SelfOp, Tree, Val, plain}
+use Rattle.sim_meaning.specs.Pending.{Activation, Address, ArrayValue, BlockOp, Configuration, EndProcessOp, Instances, Item, Link, Of, Op, ProcedureValue, ProcessOp, SelfOp, Actual, Val, plain}
 use Rattle.sim_meaning.specs.Steps.{go}
 use Rattle.sim_meaning.specs.Texts.{text}
 use Rattle.sim_sound.specs.Held.{FitsIn, Holds, Refers, Simply, given_by}
@@ -42,12 +42,13 @@ use Rattle.sim_sound.proofs.NoticeLists.{first_is, next_is, passivated_all}
 use Rattle.sim_sound.proofs.Prefixes.{LevelOf, level_is, level_of_levels}
 use Rattle.sim_sound.proofs.ProcessClasses.{only_process}
 use Rattle.sim_sound.proofs.Reach.{has_itself}
-use Rattle.sim_sound.proofs.Running.{Begun, Operates, StoreFine}
+use Rattle.sim_sound.proofs.Running.{Begun, Operates, StoreFine, idle}
 use Rattle.sim_sound.proofs.SetWork.{gives_integer, gives_truth}
 use Rattle.sim_sound.proofs.Simulated.{EachNotice, NumberFine, Processes, SimulationsFine}
 use Rattle.sim_sound.proofs.SimulatedLists.{located_at, some_place}
-use Rattle.sim_sound.proofs.Sound.{Component, DeepFine, HandsFine, Kinds, LinkTo, MainIn, Marks, ObjectIn, ObjectOf, OpFine, PlainFine, ProcessIs, ProcessText, ReferenceFine, Simulates, Value, given, held_kinds, see}
-use Rattle.sim_sound.proofs.Transfers.{Chain, waits_fine}
+use Rattle.sim_sound.proofs.Sound.{OpFine, ProcessIs, ProcessText, given, held_kinds}
+use Rattle.sim_sound.proofs.Values.{Component, DeepFine, HandsFine, Kinds, LinkTo, MainIn, Marks, ObjectIn, ObjectOf, PlainFine, ReferenceFine, Simulates, Value, see}
+use Rattle.sim_sound.proofs.Transfers.{own_then, Chain, waits_fine}
 
 -- ---- the simulation of a block
 
@@ -117,7 +118,7 @@ ended_same : (x : Simulation) (y : Option ℕ) → ((ended_at x y).block ≡ x.b
 ended_same x None = (refl, refl)
 ended_same x (Some n) = (refl, refl)
 
-module _ (s : Source) (ok : Typed s) (l : Limits) (o : World) (g : Marks) (long : length g.sights ≡ length o.arrays) (m : Instances) (i t : ℕ) (rest : List Activation) (top : Operates g.beneath m i rest) (w : List Item) (vals : List Val) (todo todo' : List DeclNo) (before behind : List Kinds) (b : Begun s (see g o) m i t todo) (h : HandsFine s (see g o) m i before vals) (work : Work s o g long m i t rest top w todo' behind) where
+module _ (s : Source) (ok : Typed s) (l : Limits) (o : World) (g : Marks) (long : length g.sights ≡ length o.arrays) (m : Instances) (i t : ℕ) (rest : List Activation) (top : Operates g.beneath g.seat m i rest) (w : List Item) (vals : List Val) (todo todo' : List DeclNo) (before behind : List Kinds) (b : Begun s (see g o) m i t todo) (h : HandsFine s (see g o) m i before vals) (work : Work s o g long m i t rest top w todo' behind) where
   abbrev Hd : List Kinds → List Val → Type 0
   Hd ks vs = HandsFine s (see g o) m i ks vs
 
@@ -133,7 +134,7 @@ module _ (s : Source) (ok : Typed s) (l : Limits) (o : World) (g : Marks) (long 
   -- what a procedure of scheduling leaves decides who goes on
   pub decides_on : todo' ≡ todo → (line k : ℕ) (x : ℕ × Simulation) (old : Simulation) → slice_get o.simulations x.0 ≡ Some old → (x.1).block ≡ old.block → (x.1).processes ≡ old.processes → Simulates s m old.block k → (r : _) (vs : List Val) → Hd behind vs → ((ns : _) → r ≡ Ok ns → EachNotice (NumberFine s m old k) ns) → Goes (IsFine s) (decided m i w rest line o x r vs)
   decides_on same line k x old at block processes home r vs more leaves =
-      decides s ok o g long m (Chain s ok l o g long m i t rest top w vals todo todo' before behind b h work vs) b.store (placed_as m i w vs rest top.placed) (headed_as m i w vs rest top.headed)
+      decides s ok o g long m (Chain s ok l o g long m i t rest top w vals todo todo' before behind b h work vs) b.store (placed_as m (idle g.seat i) (record { instance = i; work = w; values = vs }) rest (own_then s ok l o g long m i t rest top w vals todo todo' before behind b h work same vs) top.placed) (headed_as m (idle g.seat i) (record { instance = i; work = w; values = vs }) rest (own_then s ok l o g long m i t rest top w vals todo todo' before behind b h work same vs) top.headed)
       (waits_fine s ok l o g long m i t rest top w vals todo todo' before behind b h work same vs more) x old at block processes k home line r leaves
 
   -- ---- what a process tells
@@ -214,7 +215,7 @@ module _ (s : Source) (ok : Typed s) (l : Limits) (o : World) (g : Marks) (long 
       by_value (Address z) vs f more = absurd f
       by_value (ArrayValue z) vs f more = absurd f
       by_value (ProcedureValue z y) vs f more = absurd f
-      by_value (Tree z) vs f more = absurd f
+      by_value (Actual home z) vs f more = absurd f
 
   -- ---- a process that begins, and one that ends
 

@@ -21,7 +21,7 @@ use Rattle.sim_meaning.specs.Texts.{BlockText, ClassText, ConnectionText, Prefix
 use Rattle.sim_sound.specs.Held.{Among, Around, Holds, In, InBound, IsFixed, Place, Seen, Sees, StandsAround, entry_holds, first, from_around, further, itself, later, own_fixed}
 use Rattle.sim_sound.specs.Typed.{Home, TextTyped, Typed, connected as past, stands}
 use Rattle.sim_sound.proofs.Running.{StoreFine}
-use Rattle.sim_sound.proofs.Sound.{AllArrays, Enclosed, InstanceFine, KeyAmong, Knows, Present, StandsFor, Whole, alone, connected, first_key, key_of, keys_in, later_key, no_further, one_out, outward as knows_outward, own_cells, own_text, within}
+use Rattle.sim_sound.proofs.Values.{AllArrays, Enclosed, InstanceFine, KeyAmong, Knows, Present, Stands, StandsFor, Whole, alone, connected, first_key, in_bound, in_text, key_of, keys_in, later_key, no_further, one_out, outward as knows_outward, own_cells, own_text, within}
 use Rattle.sim_sound.proofs.Cells.{fine_at, none_among, own_level, stands_level_of}
 use Rattle.sim_sound.proofs.Lists.{equal_numbers, if_false, if_true, no_some, other_numbers, same_some}
 use Rattle.sim_sound.proofs.Moves.{knows_itself, knows_then}
@@ -215,6 +215,15 @@ module _ (s : Source) (ok : Typed s) (o : AllArrays) (m : Instances) where
 
     pub text_bound : (i t u : ℕ) (todo : List DeclNo) → (p : Present s m i t todo) → (p.now).text ≡ t → LevelOf s t u → ReachesText s m i (InBound u)
     text_bound i t u todo p own at k z = text_outside i u z.next k p.now p.lives (subst (λ y. LevelOf s y u) (sym own) at) z.stands_in z.around
+
+-- from where an expression stands
+pub reaches_from : (s : Source) → Typed s → (o : AllArrays) (m : Instances) → StoreFine s o m → (i : ℕ) (from : Place) → Stands s m i from → Reaches s m i from
+reaches_from s ok o m store i (In u) (in_text whole) = reaches_in s ok o m store i u whole
+reaches_from s ok o m store i (InBound u) (in_bound {t = t} {todo = todo} p own at ready solid) = reaches_bound s ok o m store i t u todo p own at ready solid
+
+pub text_from : (s : Source) → Typed s → (o : AllArrays) (m : Instances) → StoreFine s o m → (i : ℕ) (from : Place) → Stands s m i from → ReachesText s m i from
+text_from s ok o m store i (In u) (in_text whole) = text_in s ok o m store i u whole
+text_from s ok o m store i (InBound u) (in_bound {t = t} {todo = todo} p own at ready solid) = text_bound s ok o m store i t u todo p own at
 
 -- ---- the keys of a text are those of its declarations
 

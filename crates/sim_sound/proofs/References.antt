@@ -7,13 +7,13 @@ use Rattle.sim_values.specs.declared.kind.Kind.TheVariants as kind
 use Rattle.sim_values.specs.Plain.{Character, Integer, MainOf, Nothing, Object, Plain, Text, Truth, kind_of}
 use Rattle.sim_code.specs.Events.{having, not_nothing, pop_object, pop_plain, pop_reference, qualifying, referring, stopping}
 use Rattle.sim_code.specs.Outcome.{Run, RunFault, World}
-use Rattle.sim_meaning.specs.Pending.{Address, ArrayValue, Instances, Link, Of, ProcedureValue, Tree, Val, plain}
+use Rattle.sim_meaning.specs.Pending.{Address, ArrayValue, Instances, Link, Of, ProcedureValue, Actual, Val, plain}
 use Rattle.sim_sound.specs.Held.{Refers, Simply}
 use Rattle.sim_meaning.specs.Levels.{stands_in}
 use Rattle.sim_sound.specs.Typed.{Typed}
 use Rattle.sim_sound.proofs.Fitting.{main_of_class, of_class}
 use Rattle.sim_sound.proofs.Lifts.{Goes, any_popped, had, known_popped, stops}
-use Rattle.sim_sound.proofs.Sound.{AllArrays, HandsFine, Kinds, MainIn, ObjectOf, PlainFine, ReferenceFine, ValFine, Value}
+use Rattle.sim_sound.proofs.Values.{AllArrays, HandsFine, Kinds, MainIn, ObjectOf, PlainFine, ReferenceFine, ValFine, Value}
 
 module _ {S : Type 0} (P : World → S → Type 0) where
   by_test : (b : Bool) (line : ℕ) (o : World) (r : Run S) → (b ≡ true → Goes P r) → Goes P (if b then r else stopping (RunFault OutsideQualification line) o)
@@ -69,7 +69,7 @@ module _ {S : Type 0} (P : World → S → Type 0) where
     reference_is c (Address z) o f h x = absurd h
     reference_is c (ArrayValue z) o f h x = absurd h
     reference_is c (ProcedureValue z y) o f h x = absurd h
-    reference_is c (Tree z) o f h x = absurd h
+    reference_is c (Actual home z) o f h x = absurd h
 
     -- a reference of a class
     pub reference_popped : (c : ℕ) (ks : List Kinds) (vals : List Val) (o : World) (f : Plain → List Val → Run S) → HandsFine s a m i (Value (Refers c) ∷ ks) vals → ((p : Plain) (rest : List Val) → ReferenceFine s m c p → HandsFine s a m i ks rest → Goes P (f p rest)) → Goes P (pop_plain plain vals o f)

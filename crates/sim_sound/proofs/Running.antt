@@ -1,5 +1,5 @@
 -- What stands on the chains, and which configurations have a rule for what is pending.
-use Rattle.std.proofs.Common.{◌≡◌, ◌<◌, ◌≤◌, ℕ, Bool, true, false, List, [], ◌∷◌, length, Option, Some, None}
+use Rattle.std.proofs.Common.{◌≡◌, ◌<◌, ◌≤◌, ℕ, zero, suc, Bool, true, false, List, [], ◌∷◌, length, Option, Some, None}
 use Rattle.std.specs.Prelude.{slice_get, ◌+◌}
 use Rattle.sim_base.specs.declared.numbering.DeclNo.{DeclNo}
 use Rattle.sim_chains.specs.Chains.{outermost, times_on}
@@ -8,18 +8,20 @@ use Rattle.sim_chains.specs.WellFormed.{HasResumed, IsInPlace, over_kept}
 use Rattle.sim_scope.specs.Source.{Source}
 use Rattle.sim_tree.specs.declared.stmt.TypeName.{TypeName}
 use Rattle.sim_tree.specs.Syntax.{Heading, Statement}
+use Rattle.sim_values.specs.declared.kind.Kind.{Kind}
 use Rattle.sim_values.specs.Plain.{Object, Plain}
 use Rattle.sim_code.specs.Outcome.{ArrayOf as OneArray}
 use Rattle.sim_code.specs.Arrays.{unless_given}
 use Rattle.sim_code.specs.Instances.{Instance, is_given_at_end, is_object_at, live, system_head}
 use Rattle.sim_meaning.specs.Levels.{has_levels}
 use Rattle.sim_meaning.specs.Meaning.{has_result}
-use Rattle.sim_meaning.specs.Pending.{Activation, Configuration, Do, EndBlock, EndLevel, EndObject, EndPrefixed, EndProcedure, EndProgram, Held, Instances, Item, Of, Val, owner}
+use Rattle.sim_meaning.specs.Pending.{Activation, Configuration, Do, EndBlock, EndEvaluation, EndLevel, ForPlace, EndObject, EndPrefixed, EndProcedure, EndProgram, Held, Instances, Item, Of, Val, owner}
 use Rattle.sim_meaning.specs.Texts.{ProcedureText, is_class_free, text}
 use Rattle.sim_sound.specs.Held.{Fits, Holds, Refers}
 use Rattle.sim_sound.proofs.Members.{MembersFine, no_members}
 use Rattle.sim_sound.proofs.Simulated.{SimulationsFine}
-use Rattle.sim_sound.proofs.Sound.{AllArrays, Generated, GivesResult, HandsFine, InstanceFine, Kinds, OpFine, PlainFine, Present, Sight, Stays, Suspended, Takes, Value, Waits, elements_of, given}
+use Rattle.sim_sound.proofs.Sound.{Gets, Gives, GivesResult, OpFine, given}
+use Rattle.sim_sound.proofs.Values.{AllArrays, Generated, HandsFine, InstanceFine, Kinds, Near, PlainFine, Present, Seat, Sight, Stays, at_seat, Suspended, Takes, Value, Waits, elements_of}
 
 -- an instance that is an object's
 abbrev pub IsObject : Standing Activation → Type 0
@@ -55,27 +57,36 @@ IsRelease false j t (Takes None) = Unit {0}
 IsRelease false j t (Takes (Some k)) = ⊥
 IsRelease false j t (Generated i u) = (i ≡ j) × (u ≡ t)
 
--- The pending work of an instance. `Below` tells what is below on the chain where it waits for this; `Outermost` that nothing is.
+-- the end of an instance's own work
+abbrev pub Last : AllArrays → List Item → Type 0
+Last o w = (w ≡ []) × ((o.seat).evaluations ≡ 0)
+
+-- The pending work of an activation: of an instance's own, or of an evaluation. `Below` tells what is below on the chain where it waits for this;
+-- `Outermost` that nothing is.
 abbrev pub WorkFine : Source → AllArrays → Instances → (Below : Waits → Type 0) → (Outermost : Type 0) → (j t : ℕ) → List Item → (todo : List DeclNo) → (before : List Kinds) → Type 0
 WorkFine s o m Below Outermost j t [] todo before = ⊥
 WorkFine s o m Below Outermost j t (Do op ∷ w) todo before = (todo' : List DeclNo) × (behind : List Kinds) × OpFine s o m j t op todo todo' before behind × WorkFine s o m Below Outermost j t w todo' behind
-WorkFine s o m Below Outermost j t (EndBlock ∷ w) todo before = NoObjectStands m j × Below (Takes None)
+WorkFine s o m Below Outermost j t (EndBlock ∷ w) todo before = NoObjectStands m j × Below (Takes None) × Last o w
 WorkFine s o m Below Outermost j t (EndProcedure leaves ∷ w) todo before =
-    (result : Option TypeName) × (heading : Heading) × (body : Statement) × (text s t ≡ Some (ProcedureText result heading body)) × (has_result result ≡ leaves) × (g : Option Kinds) × GivesResult s t g × NoObjectStands m j × Below (Takes g)
+    (result : Option TypeName) × (heading : Heading) × (body : Statement) × (text s t ≡ Some (ProcedureText result heading body)) × (has_result result ≡ leaves) × (g : Option Kinds) × GivesResult s t g × NoObjectStands m j × Below (Takes g) × Last o w
 WorkFine s o m Below Outermost j t (EndLevel k ∷ w) todo before = WorkFine s o m Below Outermost j t w todo before
 -- an object, with its arrays
 WorkFine s o m Below Outermost j t (EndObject ∷ w) todo before =
-    (todo ≡ []) × (is_class_free s t ≡ false) × (has_levels (text s t) ≡ true) × ObjectStands m j × (v : Waits) × IsRelease (resumes m j) j t v × Below v
-WorkFine s o m Below Outermost j t (EndPrefixed ∷ w) todo before = NoObjectStands m j × Below (Takes None)
-WorkFine s o m Below Outermost j t (EndProgram ∷ w) todo before = NoObjectStands m j × Outermost
+    (todo ≡ []) × (is_class_free s t ≡ false) × (has_levels (text s t) ≡ true) × ObjectStands m j × (v : Waits) × IsRelease (resumes m j) j t v × Below v × Last o w
+WorkFine s o m Below Outermost j t (EndPrefixed ∷ w) todo before = NoObjectStands m j × Below (Takes None) × Last o w
+WorkFine s o m Below Outermost j t (EndProgram ∷ w) todo before = NoObjectStands m j × Outermost × Last o w
+-- what it gave is in hand alone
+WorkFine s o m Below Outermost j t (EndEvaluation wanted ∷ w) todo before =
+    (w ≡ []) × (0 < (o.seat).evaluations) × (k : Kind) × (x : Kinds) × Gives k x × (before ≡ x ∷ []) × (g : Kinds) × Gets s k wanted g × Below (Takes (Some g))
 
 -- ---- chains
 
--- what an activation waits for, that may be a system head
-abbrev pub awaited : (waiting : ℕ → Waits) → ℕ → Waits → Waits
-awaited waiting j Suspended = waiting j
-awaited waiting j (Takes g) = Takes g
-awaited waiting j (Generated i u) = Generated i u
+-- what an activation waits for, that may be a system head's own
+abbrev pub awaited : (waiting : ℕ → Waits) → (owner : Option ℕ) → Waits → Waits
+awaited waiting (Some j) Suspended = waiting j
+awaited waiting None Suspended = Suspended
+awaited waiting owner (Takes g) = Takes g
+awaited waiting owner (Generated i u) = Generated i u
 
 -- the values in hand but for the reference to an object that was generated
 abbrev pub Shown : Waits → (all vals : List Val) → Type 0
@@ -89,37 +100,72 @@ Expected s (Takes g) ks xs = given g ks ≡ xs
 Expected s (Generated j class) ks xs = (h : Holds) × Fits s (Refers class) h × (Value h ∷ ks ≡ xs)
 Expected s Suspended ks xs = ⊥
 
--- the instance that stands first on a chain, or the floor below it
-abbrev pub first_over : (floor : Option ℕ) → List Activation → Option ℕ
-first_over floor [] = floor
-first_over floor (a ∷ rest) = Some a.instance
-
-abbrev pub first_of : List Activation → Option ℕ
-first_of chain = first_over None chain
+abbrev pub or_below : Option ℕ → (under : Option ℕ) → Option ℕ
+or_below None under = under
+or_below (Some j) under = Some j
 
 -- what is given back at its end stands on that on which it was entered
 abbrev pub StandsOn : (beneath : List (Option ℕ)) → Instances → (j : ℕ) → Option ℕ → Type 0
 StandsOn beneath m j under = is_given_at_end m j ≡ true → slice_get beneath j ≡ Some under
 
-pub record ActFine (s : Source) (o : AllArrays) (m : Instances) (a : Activation) (under : Option ℕ) (waits : Waits) (Below : Waits → Type 0) (Outermost : Type 0) : Type 0 where
+-- what an activation stands on: the first instance below it, the seat of what is directly below, and for which instance that works
+pub record Footing : Type 0 where
+  pub under : Option ℕ
+  pub seat : Option Seat
+  pub next : Option ℕ
+
+abbrev pub own_seat : ℕ → Seat
+own_seat j = record { owner = j; evaluations = 0; lower = j }
+
+abbrev pub own_seats : Option ℕ → Option Seat
+own_seats None = None
+own_seats (Some j) = Some (own_seat j)
+
+abbrev pub evaluation_seat : (below : Option Seat) → (next : Option ℕ) → Option Seat
+evaluation_seat (Some q) (Some j) = Some (record { owner = q.owner; evaluations = suc q.evaluations; lower = j })
+evaluation_seat _ _ = None
+
+-- the seat of an activation on that
+abbrev pub seat_on : (owner : Option ℕ) → Footing → Option Seat
+seat_on (Some j) f = Some (own_seat j)
+seat_on None f = evaluation_seat f.seat f.next
+
+abbrev pub footing : (floor : Option ℕ) → List Activation → Footing
+footing floor [] = record { under = floor; seat = own_seats floor; next = floor }
+footing floor (a ∷ rest) = record { under = or_below (owner a) (footing floor rest).under; seat = seat_on (owner a) (footing floor rest); next = Some a.instance }
+
+-- The instance for which an activation at a seat works is there for as long as the seat's owner, and as that for which the one below works.
+pub record SeatedFor (o : AllArrays) (m : Instances) (q : Seat) (j : ℕ) : Type 0 where
+  pub near : Near o m q.owner j
+  pub through : Near o m q.owner q.lower
+  pub lower : Near o m q.lower j
+
+pub record ActFine (s : Source) (o : AllArrays) (m : Instances) (a : Activation) (on : Footing) (waits : Waits) (Below : Waits → Type 0) (Outermost : Type 0) : Type 0 where
   pub of_text : ℕ
   pub todo : List DeclNo
   pub here : Present s m a.instance of_text todo
   pub own : (here.now).text ≡ of_text
-  pub on : StandsOn o.beneath m a.instance under
+  pub stands_on : (j : ℕ) → owner a ≡ Some j → StandsOn o.beneath m j on.under
+  pub seat : Seat
+  pub seated : seat_on (owner a) on ≡ Some seat
+  pub works : SeatedFor o m seat a.instance
   pub vals : List Val
   pub shown : Shown waits a.values vals
   pub kinds : List Kinds
-  pub hands : HandsFine s o m a.instance kinds vals
+  pub hands : HandsFine s (at_seat o seat) m a.instance kinds vals
   pub expected : List Kinds
   pub expects : Expected s waits kinds expected
-  pub goes : WorkFine s o m Below Outermost a.instance of_text a.work todo expected
+  pub goes : WorkFine s (at_seat o seat) m Below Outermost a.instance of_text a.work todo expected
 
 -- The instances on a chain. `floor` stands below it, if any does; `Ground` tells what its last one may wait for, and `Outermost` where the program
 -- may end: above what rest.
 abbrev pub ChainOn : Source → AllArrays → Instances → (floor : Option ℕ) → (Ground : Waits → Type 0) → (Outermost : List Activation → Type 0) → List Activation → (waits : Waits) → Type 0
 ChainOn s o m floor Ground Outermost [] waits = Ground waits
-ChainOn s o m floor Ground Outermost (a ∷ rest) waits = ActFine s o m a (first_over floor rest) (awaited o.waiting a.instance waits) (λ v. ChainOn s o m floor Ground Outermost rest v) (Outermost rest)
+ChainOn s o m floor Ground Outermost (a ∷ rest) waits = ActFine s o m a (footing floor rest) (awaited o.waiting (owner a) waits) (λ v. ChainOn s o m floor Ground Outermost rest v) (Outermost rest)
+
+-- the instance that stands first on a chain, where evaluations are passed over
+abbrev pub first_of : List Activation → Option ℕ
+first_of chain = (footing None chain).under
 
 -- the operating chain: nothing is below it
 abbrev pub ChainFine : Source → AllArrays → Instances → List Activation → (waits : Waits) → Type 0
@@ -138,11 +184,31 @@ pub record KeptChain (s : Source) (o : AllArrays) (m : Instances) (j : ℕ) (cha
 -- How an instance stands. The main chain that a system head keeps ends with what that waits for.
 abbrev pub StandsFine : Source → AllArrays → Instances → ℕ → Standing Activation → Type 0
 StandsFine s o m j (NoObject None) = Unit {0}
-StandsFine s o m j (NoObject (Some chain)) = ChainOver s o m (Some j) (λ v. awaited o.waiting j v ≡ o.waiting j) chain
+StandsFine s o m j (NoObject (Some chain)) = ChainOver s o m (Some j) (λ v. awaited o.waiting (Some j) v ≡ o.waiting j) chain
 StandsFine s o m j AttachedObject = Unit {0}
 StandsFine s o m j (DetachedObject chain) = KeptChain s o m j chain
 StandsFine s o m j ResumedObject = Stays m j
 StandsFine s o m j TerminatedObject = Unit {0}
+
+-- all seats of a chain are of a kind, and those of a chain that an instance keeps
+abbrev pub SeatOf : (Is : Seat → Type 0) → Option Seat → Type 0
+SeatOf Is None = Unit {0}
+SeatOf Is (Some q) = Is q
+
+abbrev pub AllSeats : (Is : Seat → Type 0) → (floor : Option ℕ) → List Activation → Type 0
+AllSeats Is floor [] = Unit {0}
+AllSeats Is floor (a ∷ rest) = SeatOf Is (seat_on (owner a) (footing floor rest)) × AllSeats Is floor rest
+
+abbrev pub KeptSeats : (Is : Seat → Type 0) → ℕ → Standing Activation → Type 0
+KeptSeats Is j (NoObject None) = Unit {0}
+KeptSeats Is j (NoObject (Some chain)) = AllSeats Is (Some j) chain
+KeptSeats Is j AttachedObject = Unit {0}
+KeptSeats Is j (DetachedObject chain) = AllSeats Is None chain
+KeptSeats Is j ResumedObject = Unit {0}
+KeptSeats Is j TerminatedObject = Unit {0}
+
+abbrev pub AllKeptSeats : (Is : Seat → Type 0) → Instances → Type 0
+AllKeptSeats Is m = (j : ℕ) (x : Standing Activation) → slice_get m.standings j ≡ Some x → KeptSeats Is j x
 
 -- ---- the store
 
@@ -161,6 +227,7 @@ pub record Begun (s : Source) (o : AllArrays) (m : Instances) (j t : ℕ) (todo 
   pub store : StoreFine s o m
   pub here : Present s m j t todo
   pub own : (here.now).text ≡ t
+  pub works : SeatedFor o m o.seat j
 
 -- ---- where instances stand
 
@@ -188,12 +255,21 @@ pub record Headed (m : Instances) (chain : List Activation) : Type 0 where
   pub resumed : (x : ℕ) → standing_of (parts m chain) x ≡ ResumedObject → IsInPlace owner (system_head m) (parts m chain) x
   pub main : (x : ℕ) (main : List Activation) → standing_of (parts m chain) x ≡ NoObject (Some main) → HasResumed owner (system_head m) (parts m chain) x
 
--- The instance i operates, on top of the rest of the chain.
-pub record Operates (beneath : List (Option ℕ)) (m : Instances) (i : ℕ) (rest : List Activation) : Type 0 where
+-- some activation at a seat
+abbrev pub idle_work : (evaluations : ℕ) → List Item
+idle_work zero = []
+idle_work (suc n) = EndEvaluation (ForPlace true 0) ∷ []
+
+abbrev pub idle : Seat → (instance : ℕ) → Activation
+idle q i = record { instance = i; work = idle_work q.evaluations; values = [] }
+
+-- An activation for the instance i operates at a seat, on top of the rest of the chain.
+pub record Operates (beneath : List (Option ℕ)) (q : Seat) (m : Instances) (i : ℕ) (rest : List Activation) : Type 0 where
   pub before : i < length m.instances
-  pub on : StandsOn beneath m i (first_of rest)
-  pub placed : Placed m (record { instance = i; work = []; values = [] } ∷ rest)
-  pub headed : Headed m (record { instance = i; work = []; values = [] } ∷ rest)
+  pub stands_on : (j : ℕ) → owner (idle q i) ≡ Some j → StandsOn beneath m j (first_of rest)
+  pub seated : seat_on (owner (idle q i)) (footing None rest) ≡ Some q
+  pub placed : Placed m (idle q i ∷ rest)
+  pub headed : Headed m (idle q i ∷ rest)
 
 -- before the first step there is nothing
 pub data Fine (s : Source) (o : AllArrays) (c : Configuration) : Type 0 where

@@ -17,7 +17,7 @@ use Rattle.sim_sound.specs.Held.{Among, Holds, IsFormal, Seen, entry_holds, firs
 use Rattle.sim_sound.specs.SetProgram.{link_in_set}
 use Rattle.sim_sound.specs.Typed.{ClassThere, Distinct, IsAttribute, PrefixTyped, Prefixes, SetClassThere, SetClasses, SetProcedureThere, Typed, as_prefixed, stands}
 use Rattle.sim_sound.proofs.Acyclic.{prefixes_from}
-use Rattle.sim_sound.proofs.Examples.{TextHolds, none_among, number, text_holds, true_never}
+use Rattle.sim_sound.proofs.Examples.{none_named, TextHolds, none_among, number, text_holds, true_never}
 use Rattle.sim_sound.proofs.Lists.{no_some}
 use Rattle.sim_sound.proofs.Prefixes.{LevelOf, level_is, prefix_level, same_level}
 use Rattle.sim_meaning.specs.Entries.{numbers_of}
@@ -187,6 +187,7 @@ y_block = record {
   formals = tt;
   parameters = λ d a f. absurd (not_formal (entry_of link_in_set.tables d) (simple_among link_in_set d (numbers_of link_in_set 0) (tt, (tt, tt)) a) f);
   different = rising_distinct (numbers_of link_in_set 0) ((omega arith, tt), (tt, tt));
+  not_by_name = λ d k a e. none_named link_in_set d k (numbers_of link_in_set 0) (tt, (tt, tt)) a e;
   constants = λ d type a e. absurd (subst IsSimple e (simple_among link_in_set d (numbers_of link_in_set 0) (tt, (tt, tt)) a));
   arrays = tt;
   distinct = tt;
@@ -208,6 +209,7 @@ y_linkage = record {
   formals = tt;
   parameters = λ d a f. absurd (not_formal (entry_of link_in_set.tables d) (simple_among link_in_set d (numbers_of link_in_set 1) (tt, (tt, (tt, tt))) a) f);
   different = rising_distinct (numbers_of link_in_set 1) ((omega arith, (omega arith, tt)), ((omega arith, tt), (tt, tt)));
+  not_by_name = λ d k a e. none_named link_in_set d k (numbers_of link_in_set 1) (tt, (tt, (tt, tt))) a e;
   constants = λ d type a e. absurd (subst IsSimple e (simple_among link_in_set d (numbers_of link_in_set 1) (tt, (tt, (tt, tt))) a));
   arrays = tt;
   distinct = tt;
@@ -223,6 +225,7 @@ y_link = record {
   formals = tt;
   parameters = λ d a f. absurd (not_formal (entry_of link_in_set.tables d) (simple_among link_in_set d (numbers_of link_in_set 2) (tt, (tt, (tt, (tt, tt)))) a) f);
   different = rising_distinct (numbers_of link_in_set 2) ((omega arith, (omega arith, (omega arith, tt))), ((omega arith, (omega arith, tt)), ((omega arith, tt), (tt, tt))));
+  not_by_name = λ d k a e. none_named link_in_set d k (numbers_of link_in_set 2) (tt, (tt, (tt, (tt, tt)))) a e;
   constants = λ d type a e. absurd (subst IsSimple e (simple_among link_in_set d (numbers_of link_in_set 2) (tt, (tt, (tt, (tt, tt)))) a));
   arrays = tt;
   distinct = tt;
@@ -238,6 +241,7 @@ y_head = record {
   formals = tt;
   parameters = λ d a f. absurd (not_formal (entry_of link_in_set.tables d) (simple_among link_in_set d (numbers_of link_in_set 3) (tt, (tt, (tt, (tt, (tt, tt))))) a) f);
   different = rising_distinct (numbers_of link_in_set 3) ((omega arith, (omega arith, (omega arith, (omega arith, tt)))), ((omega arith, (omega arith, (omega arith, tt))), ((omega arith, (omega arith, tt)), ((omega arith, tt), (tt, tt)))));
+  not_by_name = λ d k a e. none_named link_in_set d k (numbers_of link_in_set 3) (tt, (tt, (tt, (tt, (tt, tt))))) a e;
   constants = λ d type a e. absurd (subst IsSimple e (simple_among link_in_set d (numbers_of link_in_set 3) (tt, (tt, (tt, (tt, (tt, tt))))) a));
   arrays = tt;
   distinct = tt;

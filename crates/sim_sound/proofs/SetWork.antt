@@ -19,13 +19,13 @@ use Rattle.sim_code.specs.Sets.{SetEffect, linkage_given, linkage_named, object_
 use Rattle.sim_code.specs.Simulations.{named_in}
 use Rattle.sim_meaning.specs.Attributes.{attribute_formals}
 use Rattle.sim_meaning.specs.Meaning.{do_op}
-use Rattle.sim_meaning.specs.Pending.{Activation, Address, ArrayValue, Configuration, Instances, Item, Link, Of, ProcedureValue, SetOp, Tree, Val, plain}
+use Rattle.sim_meaning.specs.Pending.{Activation, Address, ArrayValue, Configuration, Instances, Item, Link, Of, ProcedureValue, SetOp, Actual, Val, plain}
 use Rattle.sim_meaning.specs.Steps.{go, with_value}
 use Rattle.sim_sound.specs.Held.{FitsIn, Holds, Refers, Simply, given_by}
 use Rattle.sim_sound.specs.Typed.{SetClasses, SetType, Typed}
 use Rattle.sim_sound.proofs.Evals.{IsFine, Work}
 use Rattle.sim_sound.proofs.Fitting.{plain_fits, plain_val}
-use Rattle.sim_sound.proofs.Later.{All, Copies, Later, as_it_was, own_later, present_later}
+use Rattle.sim_sound.proofs.Later.{All, AllCopies, Later, as_it_was, own_later, present_later}
 use Rattle.sim_sound.proofs.Lifts.{Goes, any_popped, had}
 use Rattle.sim_sound.proofs.Lists.{if_true}
 use Rattle.sim_sound.proofs.Members.{Linked, MembersFine, any_found, by_main, by_object, clear_fine, follow_fine, follow_none, head_found, head_only, head_place, into_fine, into_none, link_found, linkage_linked, linkage_place, out_fine, precede_fine, precede_none, pred_fine, prev_fine, suc_fine}
@@ -33,7 +33,8 @@ use Rattle.sim_sound.proofs.Moves.{later_instances, same_ones, still_copies}
 use Rattle.sim_sound.proofs.Ops.{later_hands, later_with, store_with}
 use Rattle.sim_sound.proofs.Running.{Begun, Operates}
 use Rattle.sim_sound.proofs.Simulated.{SimulationsFine}
-use Rattle.sim_sound.proofs.Sound.{DeepFine, HandsFine, Kinds, Marks, ObjectIn, OpFine, PlainFine, SetIs, Value, formal_kinds, given, held_kinds, onto, see, set_class, set_operands}
+use Rattle.sim_sound.proofs.Sound.{OpFine, SetIs, formal_kinds, given, held_kinds, onto, set_class, set_operands}
+use Rattle.sim_sound.proofs.Values.{DeepFine, HandsFine, Kinds, Marks, ObjectIn, PlainFine, Value, see}
 
 -- ---- what is declared of them
 
@@ -77,7 +78,7 @@ ValueFine s m None (Some h) = ⊥
 ValueFine s m (Some p) None = ⊥
 ValueFine s m (Some p) (Some h) = PlainFine s m h p
 
-module _ (s : Source) (ok : Typed s) (l : Limits) (o : World) (g : Marks) (long : length g.sights ≡ length o.arrays) (m : Instances) (i t : ℕ) (rest : List Activation) (top : Operates g.beneath m i rest) (w : List Item) (vals : List Val) (todo todo' : List DeclNo) (before behind : List Kinds) (b : Begun s (see g o) m i t todo) (h : HandsFine s (see g o) m i before vals) (work : Work s o g long m i t rest top w todo' behind) where
+module _ (s : Source) (ok : Typed s) (l : Limits) (o : World) (g : Marks) (long : length g.sights ≡ length o.arrays) (m : Instances) (i t : ℕ) (rest : List Activation) (top : Operates g.beneath g.seat m i rest) (w : List Item) (vals : List Val) (todo todo' : List DeclNo) (before behind : List Kinds) (b : Begun s (see g o) m i t todo) (h : HandsFine s (see g o) m i before vals) (work : Work s o g long m i t rest top w todo' behind) where
   abbrev Hd : List Kinds → List Val → Type 0
   Hd ks vs = HandsFine s (see g o) m i ks vs
 
@@ -100,7 +101,7 @@ module _ (s : Source) (ok : Typed s) (l : Limits) (o : World) (g : Marks) (long 
   later_then_on : (n : Memberships) → Later s (see g o) m (see g (Then n)) m All
   later_then_on n = later_instances s (see g o) (see g (Then n)) m m refl refl (λ j x e. e) (λ j x lives. record { now = x; lives = lives; grown = as_it_was x }) (λ j a. a) (λ j a. a) (λ j a. a)
 
-  copies_on : (n : Memberships) (j d : ℕ) → Copies (see g o) (see g (Then n)) j d
+  copies_on : (n : Memberships) → AllCopies (see g o) (see g (Then n))
   copies_on n = still_copies s (see g o) (see g (Then n)) m m refl refl (λ j x e. e) (λ j x lives. record { now = x; lives = lives; grown = as_it_was x })
 
   value_in_hand : (n : Memberships) (value : Option Plain) (q : Option Holds) (vs : List Val) (left : List Kinds) → ValueFine s m value q → HandsFine s (see g (Then n)) m i left vs → HandsFine s (see g (Then n)) m i (given (held_kinds q) left) (with_value value vs)
@@ -114,8 +115,8 @@ module _ (s : Source) (ok : Typed s) (l : Limits) (o : World) (g : Marks) (long 
       let e = later_then_on n in
       let copies = copies_on n in
       let store = store_with s (see g o) (see g (Then n)) m e refl refl copies b.store.elements fine b.store.simulations b.store in
-      later_with s ok l o g long m i t rest top g (Then n) long refl refl m e copies (same_ones m) store w (with_value value vs) todo (given (held_kinds q) left) (present_later s (see g o) m (see g (Then n)) m All e i t todo tt b.here) (own_later s (see g o) m (see g (Then n)) m All e i t todo tt b.here ∙ b.own)
-      (value_in_hand n value q vs left a (later_hands s ok l o g long m i t rest top g (Then n) long refl refl m e copies (same_ones m) store left vs more)) y
+      later_with s ok l o g long m i t rest top g (Then n) long refl refl refl m e copies (same_ones m) store w (with_value value vs) todo (given (held_kinds q) left) (present_later s (see g o) m (see g (Then n)) m All e i t todo tt b.here) (own_later s (see g o) m (see g (Then n)) m All e i t todo tt b.here ∙ b.own) b.works
+      (value_in_hand n value q vs left a (later_hands s ok l o g long m i t rest top g (Then n) long refl refl refl m e copies (same_ones m) store left vs more)) y
 
   -- ---- what is popped
 
@@ -155,7 +156,7 @@ module _ (s : Source) (ok : Typed s) (l : Limits) (o : World) (g : Marks) (long 
       by_value (Address z) vs a more = absurd a
       by_value (ArrayValue z) vs a more = absurd a
       by_value (ProcedureValue z y) vs a more = absurd a
-      by_value (Tree z) vs a more = absurd a
+      by_value (Actual home z) vs a more = absurd a
 
   -- the linkage that is given, with what it is that of
   abbrev GivenFine : (class : ℕ) → Option ℕ → Type 0
@@ -187,7 +188,7 @@ module _ (s : Source) (ok : Typed s) (l : Limits) (o : World) (g : Marks) (long 
       by_value (Address z) stack a more = absurd a
       by_value (ArrayValue z) stack a more = absurd a
       by_value (ProcedureValue z y) stack a more = absurd a
-      by_value (Tree z) stack a more = absurd a
+      by_value (Actual home z) stack a more = absurd a
 
   -- ---- each procedure
 

@@ -11,7 +11,8 @@ use Rattle.sim_code.specs.Simulations.{located}
 use Rattle.sim_meaning.specs.Pending.{Held, Instances}
 use Rattle.sim_meaning.specs.Texts.{StandardText, text}
 use Rattle.sim_sound.proofs.Prefixes.{LevelOf}
-use Rattle.sim_sound.proofs.Sound.{Lasts, ObjectOf, PrefixedAt, Simulates}
+use Rattle.sim_sound.proofs.Sound.{PrefixedAt}
+use Rattle.sim_sound.proofs.Values.{Lasts, ObjectOf, Simulates}
 
 -- ---- event notices
 

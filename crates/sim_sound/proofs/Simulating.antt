@@ -18,7 +18,8 @@ use Rattle.sim_sound.proofs.Members.{NoSimulation, OneMore, StillAll, one_outerm
 use Rattle.sim_sound.proofs.Prefixes.{LevelOf, level_then, prefix_level, same_level}
 use Rattle.sim_sound.proofs.Simulated.{EachNotice, Joined, NumberFine, Processes, Scheduled, SimulationsFine}
 use Rattle.sim_sound.proofs.SimulatedLists.{located_at, located_before, located_changed, located_other, some_located}
-use Rattle.sim_sound.proofs.Sound.{Lasts, ObjectOf, PrefixedAt, Simulates}
+use Rattle.sim_sound.proofs.Sound.{PrefixedAt}
+use Rattle.sim_sound.proofs.Values.{Lasts, ObjectOf, Simulates}
 
 -- ---- notices
 

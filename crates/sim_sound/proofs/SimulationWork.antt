@@ -31,7 +31,7 @@ use Rattle.sim_meaning.specs.Attributes.{attribute_formals, is_connection}
 use Rattle.sim_meaning.specs.Levels.{has_levels, in_process, in_process_class, stands_in}
 use Rattle.sim_meaning.specs.Meaning.{do_op}
 use Rattle.sim_meaning.specs.Objects.{decided}
-use Rattle.sim_meaning.specs.Pending.{Activation, ActivateOp, Address, ArrayValue, Configuration, Instances, Item, Link, Of, Op, ProcedureValue, SimulationOp, Tree, Val, instance_in, plain}
+use Rattle.sim_meaning.specs.Pending.{Activation, ActivateOp, Address, ArrayValue, Configuration, Instances, Item, Link, Of, Op, ProcedureValue, SimulationOp, Actual, Val, instance_in, plain}
 use Rattle.sim_meaning.specs.Steps.{go}
 use Rattle.sim_meaning.specs.Texts.{is_class_free, text}
 use Rattle.sim_sound.specs.Held.{FitsIn, Holds, Refers, Simply, given_by}
@@ -40,7 +40,7 @@ use Rattle.sim_sound.proofs.Attributes.{leveled}
 use Rattle.sim_sound.proofs.Cells.{own_level}
 use Rattle.sim_sound.proofs.Evals.{IsFine, Work, goes_on}
 use Rattle.sim_sound.proofs.Fitting.{plain_val, process_is, reference_known, reference_up}
-use Rattle.sim_sound.proofs.Later.{All, Copies, Later, as_it_was, own_later, present_later}
+use Rattle.sim_sound.proofs.Later.{All, AllCopies, Later, as_it_was, own_later, present_later, seated_later}
 use Rattle.sim_sound.proofs.Lifts.{Goes, any_popped, had, known_popped}
 use Rattle.sim_sound.proofs.Lists.{if_true, numbers_equal, same_some}
 use Rattle.sim_sound.proofs.Members.{Linked, MembersFine, by_main, by_object, head_found, head_only, head_place, into_fine, into_none, link_found, linkage_linked, process_link}
@@ -55,7 +55,8 @@ use Rattle.sim_sound.proofs.Running.{Begun, Operates, StoreFine}
 use Rattle.sim_sound.proofs.SetWork.{gives_head, gives_integer, gives_nothing}
 use Rattle.sim_sound.proofs.Simulated.{EachNotice, NumberFine, SimulationsFine}
 use Rattle.sim_sound.proofs.SimulatedLists.{found_in}
-use Rattle.sim_sound.proofs.Sound.{DeepFine, HandsFine, Kinds, Lasts, LinkTo, Marks, ObjectOf, OpFine, PlainFine, ReferenceFine, SimulationIs, Simulates, Value, Whole, formal_kinds, given, held_kinds, onto, see}
+use Rattle.sim_sound.proofs.Sound.{OpFine, SimulationIs, formal_kinds, given, held_kinds, onto}
+use Rattle.sim_sound.proofs.Values.{DeepFine, HandsFine, Kinds, Lasts, LinkTo, Marks, ObjectOf, PlainFine, ReferenceFine, Simulates, Value, Whole, see}
 
 -- ---- what is in hand
 
@@ -176,7 +177,7 @@ module _ (s : Source) (ok : Typed s) (m : Instances) (sims : List Simulation) (b
   placed_fine (Beside true) (Some p) a = let r = seen_fine p a in (place.Before r.0, ap (beside true) r.1)
   placed_fine (Beside false) (Some p) a = let r = seen_fine p a in (place.After r.0, ap (beside false) r.1)
 
-module _ (s : Source) (ok : Typed s) (l : Limits) (o : World) (g : Marks) (long : length g.sights ≡ length o.arrays) (m : Instances) (i t : ℕ) (rest : List Activation) (top : Operates g.beneath m i rest) (w : List Item) (vals : List Val) (todo todo' : List DeclNo) (before behind : List Kinds) (b : Begun s (see g o) m i t todo) (h : HandsFine s (see g o) m i before vals) (work : Work s o g long m i t rest top w todo' behind) where
+module _ (s : Source) (ok : Typed s) (l : Limits) (o : World) (g : Marks) (long : length g.sights ≡ length o.arrays) (m : Instances) (i t : ℕ) (rest : List Activation) (top : Operates g.beneath g.seat m i rest) (w : List Item) (vals : List Val) (todo todo' : List DeclNo) (before behind : List Kinds) (b : Begun s (see g o) m i t todo) (h : HandsFine s (see g o) m i before vals) (work : Work s o g long m i t rest top w todo' behind) where
   abbrev Hd : List Kinds → List Val → Type 0
   Hd ks vs = HandsFine s (see g o) m i ks vs
 
@@ -207,7 +208,7 @@ module _ (s : Source) (ok : Typed s) (l : Limits) (o : World) (g : Marks) (long 
       by_value (Address z) vs a more = absurd a
       by_value (ArrayValue z) vs a more = absurd a
       by_value (ProcedureValue z y) vs a more = absurd a
-      by_value (Tree z) vs a more = absurd a
+      by_value (Actual home z) vs a more = absurd a
 
   -- what is left decides
   abbrev Leaves : (block k : ℕ) → Home block k → Result (List Notice) RunError → Type 0
@@ -296,20 +297,20 @@ module _ (s : Source) (ok : Typed s) (l : Limits) (o : World) (g : Marks) (long 
     set_later : Later s (see g o) m (see g O) m All
     set_later = later_instances s (see g o) (see g O) m m refl refl (λ j x e. e) (λ j x lives. record { now = x; lives = lives; grown = as_it_was x }) (λ j a. a) (λ j a. a) (λ j a. a)
 
-    set_copies : (j d : ℕ) → Copies (see g o) (see g O) j d
+    set_copies : AllCopies (see g o) (see g O)
     set_copies = still_copies s (see g o) (see g O) m m refl refl (λ j x e. e) (λ j x lives. record { now = x; lives = lives; grown = as_it_was x })
 
     set_store : StoreFine s (see g O) m
     set_store = store_with s (see g o) (see g O) m set_later refl refl set_copies b.store.elements members b.store.simulations b.store
 
     set_hands : (ks : List Kinds) (vs : List Val) → Hd ks vs → HandsFine s (see g O) m i ks vs
-    set_hands ks vs a = later_hands s ok l o g long m i t rest top g O long refl refl m set_later set_copies (same_ones m) set_store ks vs a
+    set_hands ks vs a = later_hands s ok l o g long m i t rest top g O long refl refl refl m set_later set_copies (same_ones m) set_store ks vs a
 
     set_decides : todo' ≡ todo → (line block k : ℕ) (x : Home block k) (vs : List Val) → Hd behind vs → Goes (IsFine s) (decided m i w rest line O x.entry (Ok (passivated ((x.entry).1).notices)) vs)
     set_decides same line block k x vs more =
         decides_on s ok l O g long m i t rest top w vals todo todo' before behind
-        (record { store = set_store; here = present_later s (see g o) m (see g O) m All set_later i t todo tt b.here; own = own_later s (see g o) m (see g O) m All set_later i t todo tt b.here ∙ b.own }) (set_hands before vals h)
-        (later_work s ok l o g long m i t rest top g O long refl refl m set_later set_copies (same_ones m) set_store w todo' behind work) same line k x.entry (x.entry).1 x.at refl refl x.home (Ok (passivated ((x.entry).1).notices)) vs (set_hands behind vs more) (passivates block k x)
+        (record { store = set_store; here = present_later s (see g o) m (see g O) m All set_later i t todo tt b.here; own = own_later s (see g o) m (see g O) m All set_later i t todo tt b.here ∙ b.own; works = seated_later s (see g o) m (see g O) m All set_later g.seat i tt b.works }) (set_hands before vals h)
+        (later_work s ok l o g long m i t rest top g O long refl refl refl m set_later set_copies (same_ones m) set_store w todo' behind work) same line k x.entry (x.entry).1 x.at refl refl x.home (Ok (passivated ((x.entry).1).notices)) vs (set_hands behind vs more) (passivates block k x)
 
   abbrev B : Memberships
   B = o.members

@@ -1,6 +1,6 @@
--- Which values, terms and operators are fine for an instance among others.
-use Rattle.std.proofs.Common.{◌≡◌, ◌<◌, ℕ, zero, suc, Bool, true, false, List, [], ◌∷◌, ◌++◌, length, map, Option, Some, None, ◌⊎◌}
-use Rattle.std.specs.Prelude.{slice_get, ◌*◌, ◌+◌, ◌&&◌, not}
+-- Which terms and operators are fine in an instance.
+use Rattle.std.proofs.Common.{◌≡◌, ℕ, zero, suc, Bool, true, false, List, [], ◌∷◌, ◌++◌, length, Option, Some, None}
+use Rattle.std.specs.Prelude.{◌*◌, ◌+◌}
 use Rattle.sim_base.specs.declared.numbering.DeclNo.{DeclNo}
 use Rattle.sim_scope.specs.declared.types.Formal.{Formal}
 use Rattle.sim_scope.specs.declared.types.FormalKind.{FormalKind}
@@ -13,349 +13,33 @@ use Rattle.sim_scope.specs.declared.types.StandardClass.{StandardClass}
 use Rattle.sim_scope.specs.Access.{encloser}
 use Rattle.sim_scope.specs.Levels.{base, has_level, is_for_prefixing, is_simulation_block}
 use Rattle.sim_scope.specs.Scopes.{entry_of}
-use Rattle.sim_scope.specs.Source.{Source, block_of, level_of}
+use Rattle.sim_scope.specs.Source.{Source, block_of, type_at}
 use Rattle.sim_tree.specs.declared.expr.Identifier.{Identifier}
-use Rattle.sim_tree.specs.declared.stmt.TypeName.{TypeName}
-use Rattle.sim_tree.specs.Syntax.{Declarations, Expressions, Heading, Statement, Statements}
+use Rattle.sim_tree.specs.Syntax.{Declarations, Expression, Expressions, Statements}
 use Rattle.sim_values.specs.declared.kind.Kind.{Kind}
 use Rattle.sim_values.specs.declared.kind.Kind.TheVariants as kind
 use Rattle.sim_values.specs.declared.operators.Monadic.{Monadic}
 use Rattle.sim_values.specs.declared.operators.Monadic.TheVariants as monadic
 use Rattle.sim_values.specs.declared.standard.Standard.{Standard}
-use Rattle.sim_values.specs.Plain.{MainOf, Nothing, Object, Plain, kind_of}
 use Rattle.sim_values.specs.Standard.{operands_of, row_of}
-use Rattle.sim_values.specs.Words.{element_count}
-use Rattle.simset.specs.Instances.{Memberships}
-use Rattle.sim_code.specs.Outcome.{ArrayOf as OneArray, Simulation, World}
-use Rattle.sim_code.specs.Arrays.{unless_given}
-use Rattle.sim_code.specs.Instances.{CellPlace, ElementPlace, ImagePlace, Instance, is_given_at_end, live}
+use Rattle.sim_code.specs.Instances.{Instance, live}
+use Rattle.sim_code.specs.Instances as instances
 use Rattle.sim_code.specs.Scheduling.{AtTime, Beside, Directly, Timing, WithDelay}
 use Rattle.sim_code.specs.Sets.{is_set_name}
 use Rattle.sim_code.specs.Simulations.{is_process_name, is_simulation_name}
 use Rattle.sim_code.specs.Transfers.{Calling, Detaching, Resuming, Transfer}
 use Rattle.sim_meaning.specs.Attributes.{attribute_formals, cell_of_connection, is_bare_process, is_connection}
-use Rattle.sim_meaning.specs.Closing.{class_parameters}
-use Rattle.sim_meaning.specs.Entries.{first_cells, formals_of, is_array_by_value, numbers_of}
-use Rattle.sim_meaning.specs.Levels.{has_levels, is_class}
-use Rattle.sim_meaning.specs.Objects.{attributes_from}
-use Rattle.sim_meaning.specs.Pending.{ActivateOp, Address, AgainOp, ArrayOp, ArrayValue, AttributeOf, AttributeOp, BackOp, BlockOp, BranchOp, CallOf, CallOp, Cell, ChooseOp, ConnectOp, CopyOf, CopyOp, Declared, DeclareOp, DropOp, Either, ElementOf, ElementOp, ElementsOp, EndProcessOp, EnterOp, Eval, Exec, Execs, FetchOp, FitsOf, FitsOp, Further, Given, GiveOp, Held, IfOp, ImageOf, InnerOp, Instances, JoinOp, Joined, KeepOp, KeptOf, Key, Level, LevelOp, Link, MemberOf, MemberOp, NewOf, NewOp, NoTerm, NotNoneOf, NotNoneOp, ObjectOp, Of, One, OneOp, Op, PastOp, PlaceOf, PrefixedOp, ProcessOf, ProcessOp, QuaOf, QuaOp, QualifiedElementOf, QualifiedElementOp, QualifiedPlaceOf, RaiseOp, ReferOp, RemoteCallOf, SelfOp, SetOf, SetOp, ShareOp, SimulationOf, SimulationOp, StandardOf, StandardOp, StepOp, StepTestOp, StoreOp, SwapOp, Target, Term, Terms, TestOp, ToAddress, ToCell, ToPlace, ToReference, ToReferenceAt, ToText, ToTextAt, ToTextOf, TransferOf, TransferOp, Two, TwoOp, Unbuilt, Val, ValueAt, WhenOp, WhileElementOp, held, VirtualOf, VirtualOp, CheckOp, CallValueOp, ProcedureValue}
-use Rattle.sim_meaning.specs.Texts.{BlockText, ClassText, PrefixedText, ProcedureText, StandardText, Text, is_class_free, text}
-use Rattle.sim_sound.specs.Expressions.{DoneAlone, ExprIs, TwoKinds, some_holds, standard_kind}
-use Rattle.sim_sound.specs.Held.{Among, ArrayOf, Fits, FitsIn, Holds, In, InBound, IsOfKind, Refers, Simply, formal_holds, given_by, key_holds, reference_to, result_holds}
+use Rattle.sim_meaning.specs.Closing.{by_name, class_parameters, is_placed, typed_token}
+use Rattle.sim_meaning.specs.Entries.{formals_of, is_array_by_value, numbers_of}
+use Rattle.sim_meaning.specs.Levels.{has_levels, is_class, qualification}
+use Rattle.sim_meaning.specs.Pending.{ActualOf, CloseOp, ForPlace, ForValue, NamedOf, NamedOp, ToNamed, Use, ActivateOp, AgainOp, ArrayOp, AttributeOf, AttributeOp, BackOp, BlockOp, BranchOp, CallOf, CallOp, Cell, ChooseOp, ConnectOp, CopyOf, CopyOp, Declared, DeclareOp, DropOp, Either, ElementOf, ElementOp, ElementsOp, EndProcessOp, EnterOp, Eval, Exec, Execs, FetchOp, FitsOf, FitsOp, Further, Given, GiveOp, Held, IfOp, ImageOf, InnerOp, Instances, JoinOp, Joined, KeepOp, KeptOf, Key, Level, LevelOp, MemberOf, MemberOp, NewOf, NewOp, NoTerm, NotNoneOf, NotNoneOp, ObjectOp, One, OneOp, Op, PastOp, PlaceOf, PrefixedOp, ProcessOf, ProcessOp, QuaOf, QuaOp, QualifiedElementOf, QualifiedElementOp, QualifiedPlaceOf, RaiseOp, ReferOp, RemoteCallOf, SelfOp, SetOf, SetOp, ShareOp, SimulationOf, SimulationOp, StandardOf, StandardOp, StepOp, StepTestOp, StoreOp, SwapOp, Target, Term, Terms, TestOp, ToAddress, ToCell, ToPlace, ToReference, ToReferenceAt, ToText, ToTextAt, ToTextOf, TransferOf, TransferOp, Two, TwoOp, Unbuilt, ValueAt, WhenOp, WhileElementOp, VirtualOf, VirtualOp, CheckOp, CallValueOp}
+use Rattle.sim_meaning.specs.Texts.{BlockText, PrefixedText, StandardText, Text, is_class_free, text}
+use Rattle.sim_sound.specs.Expressions.{ActualIs, DoneAlone, ExprIs, TwoKinds, some_holds, standard_kind}
+use Rattle.sim_sound.specs.Held.{Among, ArrayOf, ByName, Fits, FitsIn, Holds, In, InBound, IsOfKind, Place, Refers, Simply, formal_holds, given_by, key_holds, reference_to, result_holds}
 use Rattle.sim_sound.specs.Statements.{ArmsAre, ConnectionIs, ElementsAre, StatementIs, StatementsAre}
 use Rattle.sim_sound.specs.Typed.{ArraysTyped, Distinct, SetProcedureThere, SimulationProcedureThere, arrays_of_block}
 use Rattle.sim_sound.proofs.Prefixes.{LevelOf}
-
--- ---- what stays
-
--- an instance that is not given back at its end, and one that is
-pub record Stays (m : Instances) (j : ℕ) : Type 0 where
-  pub now : Instance (List Held)
-  pub lives : live m j ≡ Some now
-  pub stays : (now.passing && not now.kept) ≡ false
-
--- the way outward, from encloser to encloser
-pub data Outward (m : Instances) : (j e : ℕ) → Type 0 where
-  no_further : {j : ℕ} → Outward m j j
-  one_out : {j f e : ℕ} {x : Instance (List Held)} → live m j ≡ Some x → x.encloser ≡ Some f → Outward m f e → Outward m j e
-
--- What an instance may know: what stays, and its enclosers.
-pub data Knows (m : Instances) (j e : ℕ) : Type 0 where
-  staying : Stays m e → Knows m j e
-  outward : Outward m j e → Knows m j e
-
--- ---- arrays
-
--- Who may know an array, and what its elements hold: all, or, of a copy for a parameter by value, one place alone, which is a value in hand of
--- an instance, on top of so many others.
-pub data Sight : Type 0 where
-  Open : (elements : Holds) → Sight
-  Hidden : (elements : Holds) → (home depth : ℕ) → Sight
-
-abbrev pub elements_of : Sight → Holds
-elements_of (Open h) = h
-elements_of (Hidden h home depth) = h
-
--- a value; where a variable or an element lies; where a reference lies, with its qualification; where an image lies; an instance of a text; a
--- copy for a parameter by value; an array that is kept; an object or a main program, and one of a class; what matches a virtual that gives this
-pub data Kinds : Type 0 where
-  Value : Holds → Kinds
-  AddressOf : Holds → Kinds
-  ReferenceAddress : (class : ℕ) → Kinds
-  ImageAddress : Kinds
-  LinkTo : (text : ℕ) → Kinds
-  Copied : Holds → Kinds
-  Lasting : Holds → Kinds
-  Component : Kinds
-  ObjectIn : (class : ℕ) → Kinds
-  MatchFor : Option Holds → Kinds
-
--- What an activation waits for: a value or none, which is put in its hand; that the object ends, or lets go, that it generated, whose
--- reference it has in hand already; or that the resumed object above it gives control to the main component that it keeps, and then what
--- is noted of it.
-pub data Waits : Type 0 where
-  Takes : Option Kinds → Waits
-  Generated : (object class : ℕ) → Waits
-  Suspended : Waits
-
--- what is noted beside a run: who may know its arrays; on top of which instance each instance was entered, if of any; and what a system head
--- waits for while a resumed object operates in its system
-pub record Marks : Type 0 where
-  pub sights : List Sight
-  pub beneath : List (Option ℕ)
-  pub waiting : ℕ → Waits
-
--- the arrays of a run, its linkages and its simulation blocks, with what is noted
-pub record AllArrays : Type 0 where
-  pub sights : List Sight
-  pub beneath : List (Option ℕ)
-  pub waiting : ℕ → Waits
-  pub real : List OneArray
-  pub members : Memberships
-  pub simulations : List Simulation
-
-abbrev pub see : Marks → World → AllArrays
-see g o = record { sights = g.sights; beneath = g.beneath; waiting = g.waiting; real = o.arrays; members = o.members; simulations = o.simulations }
-
--- what is below an instance on its chain, through those that are given back at their end: it stays there until they end
-pub data Beneath (o : AllArrays) (m : Instances) : (j e : ℕ) → Type 0 where
-  at_itself : {j : ℕ} → Beneath o m j j
-  one_lower : {j k e : ℕ} → is_given_at_end m j ≡ true → slice_get o.beneath j ≡ Some (Some k) → Beneath o m k e → Beneath o m j e
-
--- What is there for as long as an instance is: what stays, and what is below it.
-pub data Near (o : AllArrays) (m : Instances) (j e : ℕ) : Type 0 where
-  near_staying : Stays m e → Near o m j e
-  near_below : Beneath o m j e → Near o m j e
-
--- an array that stays for as long as an instance, as many elements as it has bounds for
-pub record ArrayFine (o : AllArrays) (m : Instances) (j : ℕ) (h : Holds) (a : ℕ) : Type 0 where
-  pub it : OneArray
-  pub lives : unless_given (slice_get o.real a) ≡ Some it
-  pub known : slice_get o.sights a ≡ Some (Open h)
-  pub owned : (it.kept ≡ true) ⊎ Near o m j it.owner
-  pub count : length it.elements ≡ element_count it.bounds
-
--- an array that is kept
-pub record KeptFine (o : AllArrays) (h : Holds) (a : ℕ) : Type 0 where
-  pub it : OneArray
-  pub lives : unless_given (slice_get o.real a) ≡ Some it
-  pub known : slice_get o.sights a ≡ Some (Open h)
-  pub keeps : it.kept ≡ true
-  pub count : length it.elements ≡ element_count it.bounds
-
--- a copy that is in hand in one place alone
-pub record CopyFine (o : AllArrays) (j d : ℕ) (h : Holds) (a : ℕ) : Type 0 where
-  pub it : OneArray
-  pub lives : unless_given (slice_get o.real a) ≡ Some it
-  pub hidden : slice_get o.sights a ≡ Some (Hidden h j d)
-  pub owned : it.owner ≡ j
-  pub count : length it.elements ≡ element_count it.bounds
-
--- ---- cells
-
-abbrev pub key_of : Held → Key
-key_of h = h.key
-
--- the cells of a text of its own
-abbrev pub own_cells : Source → ℕ → Text → List Held
-own_cells s t (ClassText prefix h ds ss) = attributes_from s (numbers_of s t)
-own_cells s t (PrefixedText class arguments ds ss) = attributes_from s (numbers_of s t)
-own_cells s t (StandardText which) = attributes_from s (numbers_of s t)
-own_cells s t x = first_cells s t x
-
-abbrev pub keys_in : Source → ℕ → Option Text → List Key
-keys_in s t None = []
-keys_in s t (Some x) = map key_of (own_cells s t x)
-
-pub data KeyAmong (key : Key) : List Key → Type 0 where
-  first_key : {ks : List Key} → KeyAmong key (key ∷ ks)
-  later_key : {k : Key} {ks : List Key} → KeyAmong key ks → KeyAmong key (k ∷ ks)
-
--- the arrays of an instance of a text are made, those of all its levels, but for these
-abbrev pub Made : Source → (text : ℕ) → List DeclNo → List Held → Type 0
-Made s t todo hs = (u : ℕ) → LevelOf s t u → (d : DeclNo) (k : Holds) → key_holds s u (Declared d.0) ≡ Some (ArrayOf k) → KeyAmong (Declared d.0) (keys_in s u (text s u)) → held (Declared d.0) hs ≡ None → Among d todo
-
--- An instance stands for each level of its text, and for each connection in such a text whose object is there.
-pub data StandsFor (s : Source) (x : Instance (List Held)) : (t : ℕ) → Type 0 where
-  own_text : {t : ℕ} → LevelOf s x.text t → StandsFor s x t
-  connected : {t u : ℕ} → is_connection (text s t) ≡ true → encloser s.tables t ≡ Some u → KeyAmong (cell_of_connection s t) (map key_of x.cells) → StandsFor s x u → StandsFor s x t
-
--- an instance that stands for a text and was not given back, whose arrays are made but for these
-pub record Present (s : Source) (m : Instances) (j t : ℕ) (todo : List DeclNo) : Type 0 where
-  pub now : Instance (List Held)
-  pub lives : live m j ≡ Some now
-  pub stands : StandsFor s now t
-  pub words : Text
-  pub has_text : text s now.text ≡ Some words
-  pub made : Made s now.text todo now.cells
-
-abbrev pub Whole : Source → Instances → (j t : ℕ) → Type 0
-Whole s m j t = Present s m j t []
-
--- ---- values
-
--- an object, or a prefixed block, that has the class among its levels, with its arrays, which is not given back at its end
-pub record ObjectOf (s : Source) (m : Instances) (j class : ℕ) : Type 0 where
-  pub now : Instance (List Held)
-  pub lives : live m j ≡ Some now
-  pub object : has_levels (text s now.text) ≡ true
-  pub levels : has_level s.tables now.text class ≡ true
-  pub stays : (now.passing && not now.kept) ≡ false
-  pub words : Text
-  pub has_text : text s now.text ≡ Some words
-  pub made : Made s now.text [] now.cells
-
--- what has a text among its levels, and is not given back at its end
-pub record Lasts (s : Source) (m : Instances) (j u : ℕ) : Type 0 where
-  pub now : Instance (List Held)
-  pub lives : live m j ≡ Some now
-  pub solid : is_connection (text s now.text) ≡ false
-  pub level : LevelOf s now.text u
-  pub stays : (now.passing && not now.kept) ≡ false
-
--- a simulation block, with the level that has `simulation` in front
-pub record Simulates (s : Source) (m : Instances) (b k : ℕ) : Type 0 where
-  pub lasts : Lasts s m b k
-  pub simulates : is_simulation_block s.tables k ≡ true
-
--- the main program of a simulation block is in its class `process`
-pub record MainIn (s : Source) (m : Instances) (b class : ℕ) : Type 0 where
-  pub level : ℕ
-  pub block : Simulates s m b level
-  pub levels : has_level s.tables (level + 4) class ≡ true
-
--- a reference to an object of a class, to a main program that is in it, or to none
-abbrev pub ReferenceFine : Source → Instances → (class : ℕ) → Plain → Type 0
-ReferenceFine s m c Nothing = Unit {0}
-ReferenceFine s m c (Object j) = ObjectOf s m j c
-ReferenceFine s m c (MainOf b) = MainIn s m b c
-ReferenceFine s m c _ = ⊥
-
--- each reference is one to an object or a main program
-abbrev pub NamesObject : Source → Instances → Plain → Type 0
-NamesObject s m (Object j) = (c : ℕ) × ObjectOf s m j c
-NamesObject s m (MainOf b) = (k : ℕ) × Simulates s m b k
-NamesObject s m p = Unit {0}
-
-abbrev pub PlainFine : Source → Instances → Holds → Plain → Type 0
-PlainFine s m (Simply k) p = (kind_of p ≡ k) × NamesObject s m p
-PlainFine s m (Refers c) p = ReferenceFine s m c p
-PlainFine s m (ArrayOf h) p = ⊥
-
-abbrev pub ValFine : Source → AllArrays → Instances → ℕ → Holds → Val → Type 0
-ValFine s o m j (Simply k) (Of p) = (kind_of p ≡ k) × NamesObject s m p
-ValFine s o m j (Refers c) (Of p) = ReferenceFine s m c p
-ValFine s o m j (ArrayOf h) (ArrayValue a) = ArrayFine o m j h a
-ValFine s o m j _ _ = ⊥
-
--- what a variable may hold
-abbrev pub IsPlain : Holds → Type 0
-IsPlain (Simply k) = Unit {0}
-IsPlain (Refers c) = Unit {0}
-IsPlain (ArrayOf k) = ⊥
-
--- A cell has what it holds; one of an array may have nothing yet.
-abbrev pub CellFine : Source → AllArrays → Instances → ℕ → Option Holds → Option Val → Type 0
-CellFine s o m j None v = Unit {0}
-CellFine s o m j (Some (Simply k)) None = ⊥
-CellFine s o m j (Some (Refers c)) None = ⊥
-CellFine s o m j (Some (ArrayOf k)) None = Unit {0}
-CellFine s o m j (Some h) (Some v) = ValFine s o m j h v
-
-abbrev pub CellsFine : Source → AllArrays → Instances → (instance text : ℕ) → List Held → Type 0
-CellsFine s o m j t [] = Unit {0}
-CellsFine s o m j t (h ∷ hs) = CellFine s o m j (key_holds s t h.key) h.value × CellsFine s o m j t hs
-
--- ---- the store
-
--- The encloser of an instance of a text is older, is there for as long as it is, and is a whole one of the text around.
-pub data Enclosed (s : Source) (o : AllArrays) (m : Instances) (j t : ℕ) (out : Option ℕ) : Type 0 where
-  alone : out ≡ None → encloser s.tables t ≡ None → Enclosed s o m j t out
-  within : {e u : ℕ} → out ≡ Some e → encloser s.tables t ≡ Some u → e < j → Near o m j e → Whole s m e u → Enclosed s o m j t out
-
--- An instance is as its text says: it has the cells of all its levels, each holds what it should, and it is given back at its end if the text is class-free.
-pub record InstanceFine (s : Source) (o : AllArrays) (m : Instances) (j : ℕ) (x : Instance (List Held)) : Type 0 where
-  pub level : x.level ≡ level_of s x.text
-  pub solid : is_connection (text s x.text) ≡ false
-  pub keys : (u : ℕ) → LevelOf s x.text u → (key : Key) → KeyAmong key (keys_in s u (text s u)) → KeyAmong key (map key_of x.cells)
-  pub holds : (u : ℕ) → LevelOf s x.text u → (key : Key) → KeyAmong key (keys_in s u (text s u)) → key_holds s x.text key ≡ key_holds s u key
-  pub cells : CellsFine s o m j x.text x.cells
-  pub ends : x.passing ≡ is_class_free s x.text
-  pub out : Enclosed s o m j x.text x.encloser
-
--- ---- values in hand
-
-pub record ElementFine (o : AllArrays) (m : Instances) (j : ℕ) (h : Holds) (a n : ℕ) : Type 0 where
-  pub array : ArrayFine o m j h a
-  pub there : n < length (array.it).elements
-
--- a cell that holds what it should: of an instance whose arrays are made, but for some others
-pub record CellTarget (s : Source) (m : Instances) (j e : ℕ) (key : Key) (h : Holds) : Type 0 where
-  pub around : ℕ
-  pub todo : List DeclNo
-  pub near : Knows m j e
-  pub here : Present s m e around todo
-  pub ready : (d : DeclNo) → key ≡ Declared d.0 → Among d todo → ⊥
-  pub holds : key_holds s around key ≡ Some h
-  pub there : KeyAmong key (keys_in s around (text s around))
-
-abbrev pub IsImage : ℕ → Type 0
-IsImage zero = Unit {0}
-IsImage (suc zero) = Unit {0}
-IsImage (suc (suc n)) = ⊥
-
--- a procedure that is declared in a text
-pub record ProcedureIn (s : Source) (k around : ℕ) : Type 0 where
-  pub stands_in : encloser s.tables k ≡ Some around
-  pub result : Option TypeName
-  pub heading : Heading
-  pub body : Statement
-  pub is : text s k ≡ Some (ProcedureText result heading body)
-
--- a match of a virtual, with the instance in which it is declared: a procedure without parameters, which gives this
-pub record MatchHeld (s : Source) (m : Instances) (j k e : ℕ) (h : Option Holds) : Type 0 where
-  pub around : ℕ
-  pub near : Knows m j e
-  pub whole : Whole s m e around
-  pub procedure : ProcedureIn s k around
-  pub alone : formals_of s k ≡ []
-  pub fits : FitsIn s (result_holds s k) h
-
-abbrev pub HandFine : Source → AllArrays → Instances → ℕ → Kinds → Val → Type 0
-HandFine s o m j (Value h) v = ValFine s o m j h v
-HandFine s o m j (AddressOf h) (Address (ElementPlace a n None)) = ElementFine o m j h a n
-HandFine s o m j (AddressOf h) (Address (CellPlace e key None)) = CellTarget s m j e key h
-HandFine s o m j (ReferenceAddress c) (Address (ElementPlace a n (Some k))) = (k ≡ c) × ElementFine o m j (Refers c) a n
-HandFine s o m j (ReferenceAddress c) (Address (CellPlace e key (Some k))) = (k ≡ c) × CellTarget s m j e key (Refers c)
-HandFine s o m j ImageAddress (Address (ImagePlace n)) = IsImage n
-HandFine s o m j (LinkTo u) (Link e) = Knows m j e × Whole s m e u
-HandFine s o m j (Lasting h) (ArrayValue a) = KeptFine o h a
-HandFine s o m j Component (Of (Object i)) = (c : ℕ) × ObjectOf s m i c
-HandFine s o m j Component (Of (MainOf b)) = (k : ℕ) × Simulates s m b k
-HandFine s o m j (ObjectIn c) (Of (Object i)) = ObjectOf s m i c
-HandFine s o m j (ObjectIn c) (Of (MainOf b)) = MainIn s m b c
-HandFine s o m j (MatchFor h) (ProcedureValue k e) = MatchHeld s m j k e h
-HandFine s o m j _ _ = ⊥
-
--- with so many values below
-abbrev pub DeepFine : Source → AllArrays → Instances → (j depth : ℕ) → Kinds → Val → Type 0
-DeepFine s o m j d (Copied k) (ArrayValue a) = CopyFine o j d k a
-DeepFine s o m j d (Copied k) _ = ⊥
-DeepFine s o m j d (Value h) v = ValFine s o m j h v
-DeepFine s o m j d (AddressOf k) v = HandFine s o m j (AddressOf k) v
-DeepFine s o m j d (ReferenceAddress c) v = HandFine s o m j (ReferenceAddress c) v
-DeepFine s o m j d ImageAddress v = HandFine s o m j ImageAddress v
-DeepFine s o m j d (LinkTo u) v = HandFine s o m j (LinkTo u) v
-DeepFine s o m j d (Lasting h) v = HandFine s o m j (Lasting h) v
-DeepFine s o m j d Component v = HandFine s o m j Component v
-DeepFine s o m j d (ObjectIn c) v = HandFine s o m j (ObjectIn c) v
-DeepFine s o m j d (MatchFor h) v = HandFine s o m j (MatchFor h) v
-
-abbrev pub HandsFine : Source → AllArrays → Instances → ℕ → List Kinds → List Val → Type 0
-HandsFine s o m j [] [] = Unit {0}
-HandsFine s o m j [] (v ∷ vs) = ⊥
-HandsFine s o m j (k ∷ ks) [] = ⊥
-HandsFine s o m j (k ∷ ks) (v ∷ vs) = DeepFine s o m j (length vs) k v × HandsFine s o m j ks vs
+use Rattle.sim_sound.proofs.Values.{Knows, Kinds, Value, AddressOf, ReferenceAddress, ImageAddress, LinkTo, Copied, Lasting, Component, ObjectIn, MatchFor, Whichever, AllArrays, keys_in, KeyAmong, StandsFor, Whole, Stands, PlainFine, ValFine, CellTarget, IsImage, ProcedureIn}
 
 -- ---- closed trees
 
@@ -389,6 +73,7 @@ abbrev pub in_hand : (by_value : Bool) → Option Holds → Option Kinds
 in_hand true (Some (ArrayOf k)) = Some (Copied k)
 in_hand true (Some (Simply k)) = Some (Value (Simply k))
 in_hand true (Some (Refers c)) = Some (Value (Refers c))
+in_hand true (Some (ByName k)) = Some (Value (ByName k))
 in_hand true None = None
 in_hand false h = held_kinds h
 
@@ -454,6 +139,7 @@ Addressed (Some k) h x = (h ≡ Refers k) × (ReferenceAddress k ≡ x)
 abbrev pub Leads : Source → Kinds → Holds → Type 0
 Leads s (AddressOf h') h = Fits s h' h
 Leads s ImageAddress h = h ≡ Simply kind.Text
+Leads s (Whichever false k) h = h ≡ Simply k
 Leads s _ h = ⊥
 
 -- an operand of a kind: a value in hand, or where a text lies
@@ -461,6 +147,7 @@ abbrev pub OperandIs : Kind → Kinds → Type 0
 OperandIs k (Value h) = h ≡ Simply k
 OperandIs k (AddressOf h) = (k ≡ kind.Text) × (h ≡ Simply kind.Text)
 OperandIs k ImageAddress = k ≡ kind.Text
+OperandIs k (Whichever value_too h) = (k ≡ kind.Text) × (h ≡ kind.Text)
 OperandIs k _ = ⊥
 
 abbrev pub OperandsAre : List Kind → List Kinds → Type 0
@@ -469,9 +156,48 @@ OperandsAre [] (x ∷ xs) = ⊥
 OperandsAre (k ∷ ks) [] = ⊥
 OperandsAre (k ∷ ks) (x ∷ xs) = OperandIs k x × OperandsAre ks xs
 
+-- where values go that are assigned
+abbrev pub TakesValue : Holds → Kinds → Type 0
+TakesValue h (AddressOf h') = h' ≡ h
+TakesValue h (Whichever false k) = (h ≡ Simply k) × (k ≡ kind.Reference → ⊥)
+TakesValue h _ = ⊥
+
+-- where a reference is assigned to, with its qualification
+abbrev pub TakesReference : Kinds → Type 0
+TakesReference (ReferenceAddress c) = Unit {0}
+TakesReference (Whichever false k) = k ≡ kind.Reference
+TakesReference _ = ⊥
+
+-- what the evaluation of an actual by name gives: a value of the kind, or where a variable lies
+abbrev pub Gives : Kind → Kinds → Type 0
+Gives k (Value h) = IsOfKind h k
+Gives k (AddressOf h) = (h ≡ Simply k) × (k ≡ kind.Reference → ⊥)
+Gives k (ReferenceAddress c) = k ≡ kind.Reference
+Gives k (Whichever value_too k') = k' ≡ k
+Gives k _ = ⊥
+
 -- a value that comes to be held, which fits in what is wanted
 abbrev pub Comes : Source → Holds → Option Kinds → Type 0
 Comes s h g = (h' : Holds) × Fits s h h' × (Some (Value h') ≡ g)
+
+-- and what a use of the parameter gets of it
+abbrev pub Gets : Source → Kind → Use → Kinds → Type 0
+Gets s k (ForValue None line) x = Comes s (Simply k) (Some x)
+Gets s k (ForValue (Some c) line) x = (k ≡ kind.Reference) × Comes s (Refers c) (Some x)
+Gets s k (ForPlace value_too line) x = x ≡ Whichever value_too k
+
+-- what the closed expression gives
+abbrev pub place_gives : Kind → (class : Option ℕ) → (by_name : Option DeclNo) → Kinds
+place_gives k class (Some d) = Whichever true k
+place_gives k None None = AddressOf (Simply k)
+place_gives k (Some c) None = ReferenceAddress c
+
+abbrev pub actual_gives_by : Bool → Source → Expression → Kind → Kinds
+actual_gives_by true s e k = place_gives k (qualification s (type_at s (typed_token e))) (by_name s e)
+actual_gives_by false s e k = Value (Simply k)
+
+abbrev pub actual_gives : Source → Expression → Kind → Kinds
+actual_gives s e k = actual_gives_by (is_placed s e) s e k
 
 -- what `detach` and `call` take: an object, and any reference
 abbrev pub component_kind : Transfer → Kinds
@@ -563,6 +289,9 @@ abbrev mutual
   TermFine s m j t todo (SimulationOf b name ts line) g =
       (x : SimulationIs s name) × (h : Option Holds) × FitsIn s (given_by s x.result) h × (held_kinds h ≡ g) × BlockIn s m j b (block_of s x.declaration) × TermsFine s m j t todo ts (formal_kinds s (attribute_formals x.parameter))
   TermFine s m j t todo (VirtualOf a v n line) g = (c : ℕ) × (h : Option Holds) × VirtualIn s v c h × (held_kinds h ≡ g) × TermFine s m j t todo a (Some (Value (Refers c)))
+  -- parameters by name: an actual one stands for the operating instance
+  TermFine s m j t todo (ActualOf home e) g = (k : Kind) × (from : Place) × (home ≡ j) × (Some (Value (ByName k)) ≡ g) × Stands s m j from × ActualIs s from e k
+  TermFine s m j t todo (NamedOf e key wanted) g = (k : Kind) × (x : Kinds) × Gets s k wanted x × (Some x ≡ g) × CellIs s m j t todo e key (ByName k)
   TermFine s m j t todo Unbuilt g = ⊥
 
   pub IntegersFine : Source → Instances → (j t : ℕ) → List DeclNo → Terms → Type 0
@@ -596,11 +325,12 @@ integers (suc n) ks = Value (Simply kind.Integer) ∷ integers n ks
 -- what a value is assigned to, in a statement
 abbrev pub TargetFine : Source → Instances → (j t : ℕ) → Target → Holds → (before behind : List Kinds) → Type 0
 TargetFine s m j t (ToCell e key) h before behind = CellTarget s m j e key h × (before ≡ behind)
-TargetFine s m j t ToAddress h before behind = before ≡ AddressOf h ∷ behind
+TargetFine s m j t ToAddress h before behind = (x : Kinds) × TakesValue h x × (before ≡ x ∷ behind)
 TargetFine s m j t (ToText line) h before behind = (h ≡ Simply kind.Text) × (before ≡ Value (Simply kind.Text) ∷ behind)
 TargetFine s m j t (ToTextOf e key line) h before behind = (h ≡ Simply kind.Text) × (before ≡ Value (Simply kind.Text) ∷ behind)
 TargetFine s m j t (ToReference line) h before behind = (h ≡ Simply kind.Reference) × (c : ℕ) × (before ≡ ReferenceAddress c ∷ behind)
-TargetFine s m j t (ToPlace a) h before behind = TermFine s m j t [] a (Some (AddressOf h)) × (before ≡ behind)
+TargetFine s m j t (ToNamed k line) h before behind = (h ≡ Simply kind.Reference) × (before ≡ Whichever false kind.Reference ∷ behind)
+TargetFine s m j t (ToPlace a) h before behind = (x : Kinds) × TakesValue h x × TermFine s m j t [] a (Some x) × (before ≡ behind)
 TargetFine s m j t (ToTextAt a line) h before behind = (h ≡ Simply kind.Text) × (before ≡ Value (Simply kind.Text) ∷ behind)
 TargetFine s m j t (ToReferenceAt a line) h before behind = (h ≡ Simply kind.Reference) × (before ≡ behind) × (c : ℕ) × TermFine s m j t [] a (Some (ReferenceAddress c))
 
@@ -615,7 +345,8 @@ VariableFine s m j t ToAddress k = ⊥
 VariableFine s m j t (ToText line) k = ⊥
 VariableFine s m j t (ToTextOf e key line) k = CellTarget s m j e key (Simply k) × (k ≡ kind.Text)
 VariableFine s m j t (ToReference line) k = ⊥
-VariableFine s m j t (ToPlace a) k = TermFine s m j t [] a (Some (AddressOf (Simply k)))
+VariableFine s m j t (ToNamed c line) k = ⊥
+VariableFine s m j t (ToPlace a) k = (x : Kinds) × TakesValue (Simply k) x × TermFine s m j t [] a (Some x)
 VariableFine s m j t (ToTextAt a line) k = TermFine s m j t [] a (Some (AddressOf (Simply k))) × (k ≡ kind.Text)
 VariableFine s m j t (ToReferenceAt a line) k = (k ≡ kind.Reference) × (c : ℕ) × TermFine s m j t [] a (Some (ReferenceAddress c))
 
@@ -696,6 +427,7 @@ IsCopy k _ = ⊥
 abbrev pub IsAddress : Kinds → Type 0
 IsAddress (AddressOf h) = Unit {0}
 IsAddress (ReferenceAddress c) = Unit {0}
+IsAddress (Whichever value_too k) = Unit {0}
 IsAddress _ = ⊥
 
 -- the text of an object that is a process has the class `process` of a simulation block among its levels
@@ -766,6 +498,9 @@ OpFine s o m j t (VirtualOp v line) todo todo' before behind =
     (c : ℕ) × (h : Option Holds) × (left : List Kinds) × VirtualIn s v c h × (before ≡ Value (Refers c) ∷ left) × (behind ≡ MatchFor h ∷ left) × (todo' ≡ todo)
 OpFine s o m j t (CheckOp n line) todo todo' before behind = (h : Option Holds) × (left : List Kinds) × (before ≡ MatchFor h ∷ left) × (behind ≡ before) × (todo' ≡ todo)
 OpFine s o m j t (CallValueOp line) todo todo' before behind = (h : Option Holds) × (left : List Kinds) × (before ≡ MatchFor h ∷ left) × (behind ≡ given (held_kinds h) left) × (todo' ≡ todo)
+-- parameters by name
+OpFine s o m j t (NamedOp e key wanted) todo todo' before behind = (k : Kind) × (x : Kinds) × Gets s k wanted x × CellIs s m j t todo e key (ByName k) × (behind ≡ x ∷ before) × (todo' ≡ todo)
+OpFine s o m j t (CloseOp e) todo todo' before behind = (k : Kind) × (from : Place) × Stands s m j from × ActualIs s from e k × (behind ≡ actual_gives s e k ∷ before) × (todo' ≡ todo)
 OpFine s o m j t KeepOp todo todo' before behind = (h : Holds) × (left : List Kinds) × (before ≡ Value (ArrayOf h) ∷ left) × (behind ≡ Lasting h ∷ left) × (todo' ≡ todo)
 -- values in hand, and assignments
 OpFine s o m j t DropOp todo todo' before behind = (k : Kinds) × (before ≡ k ∷ behind) × (todo' ≡ todo)
@@ -774,7 +509,7 @@ OpFine s o m j t SwapOp todo todo' before behind = (x : Kinds) × (k : Kind) × 
 OpFine s o m j t (StoreOp x) todo todo' before behind = StoreOpFine s o m j t todo todo' x before behind
 OpFine s o m j t (ShareOp ts) todo todo' before behind = (k : Kind) × (next : List Kinds) × (before ≡ Value (Simply k) ∷ next) × TargetsFine s m j t ts (Simply k) next behind × (todo ≡ []) × (todo' ≡ todo)
 OpFine s o m j t (GiveOp v ts) todo todo' before behind = (k : Kind) × ValFine s o m j (Simply k) v × TargetsFine s m j t ts (Simply k) before behind × (todo ≡ []) × (todo' ≡ todo)
-OpFine s o m j t (ReferOp line) todo todo' before behind = (c : ℕ) × (before ≡ Value (Simply kind.Reference) ∷ ReferenceAddress c ∷ behind) × (todo' ≡ todo)
+OpFine s o m j t (ReferOp line) todo todo' before behind = (x : Kinds) × TakesReference x × (before ≡ Value (Simply kind.Reference) ∷ x ∷ behind) × (todo' ≡ todo)
 OpFine s o m j t (ArrayOp k n line) todo todo' before behind = (h : Holds) × (left : List Kinds) × IsOfKind h k × (before ≡ integers (2 * n) left) × (behind ≡ Value (ArrayOf h) ∷ left) × (todo' ≡ todo)
 -- statements
 OpFine s o m j t (Exec a) todo todo' before behind = Ready todo todo' before behind (Sited s m j (λ u. StatementIs s u a))

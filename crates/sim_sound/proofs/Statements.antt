@@ -31,13 +31,13 @@ use Rattle.sim_scope.specs.Source.{Source, block_around, denoted, found_at, leve
 use Rattle.sim_code.specs.Instances.{at_level, live}
 use Rattle.sim_code.specs.Transfers.{Transfer}
 use Rattle.sim_meaning.specs.Attributes.{own_attribute, connection_at, transfer_at}
-use Rattle.sim_meaning.specs.Closing.{Left, LeftAddress, LeftCell, LeftReference, LeftText, LeftUnbuilt, class_parameters, close, close_parameters, close_place, declared_left, formal_left, home_of, is_text, left_found, left_in, left_variable, match_left, named_left, own_match, reference_place, stream_of}
+use Rattle.sim_meaning.specs.Closing.{Left, LeftAddress, LeftCell, LeftNamed, LeftReference, LeftText, LeftUnbuilt, class_parameters, close, close_parameters, close_place, declared_left, formal_left, home_of, is_text, left_found, left_in, left_variable, match_left, named_left, own_match, reference_place, stream_of}
 use Rattle.sim_meaning.specs.Levels.{has_levels, levels_inside, text_at}
-use Rattle.sim_meaning.specs.Pending.{ActivateOp, Activation, AgainOp, BackOp, BlockOp, BranchOp, ChooseOp, Configuration, ConnectOp, Do, DropOp, ElementsOp, EnterOp, Eval, Exec, Execs, InnerOp, Instances, Item, Key, Op, PrefixedOp, RaiseOp, StepOp, StepTestOp, StoreOp, Target, Term, TestOp, ToAddress, ToCell, ToPlace, ToReference, ToReferenceAt, ToText, ToTextAt, ToTextOf, TwoOp, Val, WhenOp, WhileElementOp}
+use Rattle.sim_meaning.specs.Pending.{ActivateOp, Activation, AgainOp, BackOp, BlockOp, BranchOp, ChooseOp, Configuration, ConnectOp, Do, DropOp, ElementsOp, EnterOp, Eval, Exec, Execs, InnerOp, Instances, Item, Key, Op, PrefixedOp, RaiseOp, StepOp, StepTestOp, StoreOp, Target, Term, TestOp, ToAddress, ToCell, ToNamed, ToPlace, ToReference, ToReferenceAt, ToText, ToTextAt, ToTextOf, TwoOp, Val, WhenOp, WhileElementOp}
 use Rattle.sim_meaning.specs.Statements.{activated, is_again, operand_work, simulation_home, timing, assigned, assigning, begin_of, compound, controlled, controlled_left, dropping, elements, entered_at, exec, execs, finding, first_branch, inner_begun, leaves, lefts, levels_of_instance, looping, prefix_begun, raised, reading, step_tested, while_element}
 use Rattle.sim_meaning.specs.Texts.{text}
 use Rattle.sim_meaning.specs.Virtuals.{text_of_procedure}
-use Rattle.sim_sound.specs.Held.{Holds, In, Refers, Simply, reference_to}
+use Rattle.sim_sound.specs.Held.{Fits, Holds, In, Refers, Simply, reference_to}
 use Rattle.sim_sound.specs.Expressions.{ActualsFit, AreIntegers, AreOf, DotGives, ExprIs, IdentifierGives}
 use Rattle.sim_sound.specs.Statements.{CallIs, CompoundIs, ControlIs, ElementsAre, InnerIs, OrTransferIs, PrefixedIs, SimulationIs, StatementIs, StatementsAre, TimingIs, TransferIs, is_given}
 use Rattle.sim_sound.specs.Typed.{Typed}
@@ -46,22 +46,31 @@ use Rattle.sim_sound.proofs.Cells.{own_level, site_whole, stands_level_of}
 use Rattle.sim_sound.proofs.ClassLevels.{all_levels_of, inside_are, levels_are, levels_fine, process_levels}
 use Rattle.sim_sound.proofs.Lists.{same_some}
 use Rattle.sim_sound.proofs.Calls.{transfer_leaves_none}
-use Rattle.sim_sound.proofs.Closing.{class_fine, detach_fine, dot_fine, expr_fine, given_fine, transfer_fine, transfer_in}
+use Rattle.sim_sound.proofs.Closing.{class_fine, detach_fine, dot_fine, expr_fine, given_fine, transfer_fine}
+use Rattle.sim_sound.proofs.Passed.{transfer_in}
 use Rattle.sim_sound.proofs.Evals.{IsFine, Rest, Work, goes_on, prefix_work}
 use Rattle.sim_sound.proofs.Fitting.{text_there}
-use Rattle.sim_sound.proofs.Lefts.{LeftFine, reference_is, variable_fine}
+use Rattle.sim_sound.proofs.Lefts.{PlainLeft, reference_is, variable_fine}
 use Rattle.sim_sound.proofs.Lifts.{Goes, chosen, had, ran, ticked, truth_popped}
 use Rattle.sim_sound.proofs.Prefixes.{LevelOf, class_has, class_solid, level_is, level_number, level_of_levels}
 use Rattle.sim_sound.proofs.Reach.{Reaches, ReachesText, reaches_in, text_in}
 use Rattle.sim_sound.proofs.Running.{Begun, Operates}
-use Rattle.sim_sound.proofs.Sound.{AddressOf, BlockIn, HandsFine, Kinds, LevelsFine, LinkTo, Marks, OpFine, Site, TermFine, TermsFine, Value, VariableFine, Whole, class_kinds, given, held_kinds, in_instance as at_cell, see, simple, timed, value_stored}
+use Rattle.sim_sound.proofs.Sound.{BlockIn, Leads, LevelsFine, TakesValue, OpFine, Site, TermFine, TermsFine, VariableFine, class_kinds, given, held_kinds, in_instance as at_cell, simple, timed, value_stored}
+use Rattle.sim_sound.proofs.Values.{AddressOf, HandsFine, Kinds, LinkTo, Marks, Whichever, in_text, Value, Whole, see}
 
 -- ---- a variable as a left side is a cell, or is found by a tree
 
 abbrev IsCell : Left → Type 0
 IsCell (LeftReference line x) = ⊥
 IsCell (LeftText line x) = ⊥
+IsCell (LeftNamed class line x) = ⊥
 IsCell _ = Unit {0}
+
+-- where a value goes it can be read
+taken_leads : (s : Source) (k : Kind) (x : Kinds) → TakesValue (Simply k) x → Leads s x (Simply k)
+taken_leads s k (AddressOf h) a = subst (λ z. Fits s z (Simply k)) (sym a) refl
+taken_leads s k (Whichever false h) a = a.0
+taken_leads s k _ a = absurd a
 
 in_cell : (x : Option ℕ) (key : Key) → IsCell (left_in x (λ j. LeftCell j key))
 in_cell None key = tt
@@ -95,7 +104,7 @@ found_cell : (c : Option ℕ) (place : Term) (other : Left) → IsCell other →
 found_cell None place other a = a
 found_cell (Some k) place other a = tt
 
-module _ (s : Source) (ok : Typed s) (l : Limits) (o : World) (marks : Marks) (long : length marks.sights ≡ length o.arrays) (m : Instances) (i t : ℕ) (rest : List Activation) (top : Operates marks.beneath m i rest) (w : List Item) (vals : List Val) (ks : List Kinds) (b : Begun s (see marks o) m i t []) (h : HandsFine s (see marks o) m i ks vals) (work : Work s o marks long m i t rest top w [] ks) (u : ℕ) (site : Site s m i u) where
+module _ (s : Source) (ok : Typed s) (l : Limits) (o : World) (marks : Marks) (long : length marks.sights ≡ length o.arrays) (m : Instances) (i t : ℕ) (rest : List Activation) (top : Operates marks.beneath marks.seat m i rest) (w : List Item) (vals : List Val) (ks : List Kinds) (b : Begun s (see marks o) m i t []) (h : HandsFine s (see marks o) m i ks vals) (work : Work s o marks long m i t rest top w [] ks) (u : ℕ) (site : Site s m i u) where
   abbrev P : World → Configuration → Type 0
   P = IsFine s
 
@@ -115,7 +124,7 @@ module _ (s : Source) (ok : Typed s) (l : Limits) (o : World) (marks : Marks) (l
   goes w x = goes_on s o marks long m i t rest top w vals [] ks b h x
 
   closed : (e : Expression) (g : Holds) → ExprIs s (In u) e g → TermFine s m i t [] (close s m i e) (Some (Value g))
-  closed e g a = expr_fine s ok (see marks o) m b.store i t [] (In u) reach around e g a
+  closed e g a = expr_fine s ok (see marks o) m b.store i t [] (In u) (in_text here) e g a
 
   evals : (e : Expression) (g : Holds) (w : List Item) (ks : List Kinds) → ExprIs s (In u) e g → Wk w (Value g ∷ ks) → Wk (Do (Eval (close s m i e)) ∷ w) ks
   evals e g w ks a x = ([], Value g ∷ ks, (Some (Value g), closed e g a, refl, refl), x)
@@ -147,15 +156,15 @@ module _ (s : Source) (ok : Typed s) (l : Limits) (o : World) (marks : Marks) (l
 
   named_goes : (name : Identifier) (es : Expressions) (x : Option Transfer) → transfer_at s name.token.0 ≡ x → OrTransferIs x (λ c. TransferIs s u c (found_at s name.token.0) es) (NamedIs name es) → Wk (Do (Eval (close s m i (syntax.Named name es))) ∷ dropping (leaves s (syntax.Named name es)) w) ks
   named_goes name es None e a =
-      ([], given (held_kinds a.0) ks, (held_kinds a.0, given_fine s ok (see marks o) m b.store i t [] (In u) reach around name es a.0 a.1, refl, refl), dropped a.0 (leaves s (syntax.Named name es)) a.2)
+      ([], given (held_kinds a.0) ks, (held_kinds a.0, given_fine s ok (see marks o) m b.store i t [] (In u) (in_text here) name es a.0 a.1, refl, refl), dropped a.0 (leaves s (syntax.Named name es)) a.2)
   named_goes name es (Some c) e a =
-      transferred (syntax.Named name es) (transfer_fine s ok (see marks o) m b.store i t [] (In u) reach around name es c e (transfer_in s u c (found_at s name.token.0) es a)) (transfer_leaves_none s name.token.0 c e)
+      transferred (syntax.Named name es) (transfer_fine s ok (see marks o) m b.store i t [] (In u) (in_text here) name es c e (transfer_in s u c (found_at s name.token.0) es a)) (transfer_leaves_none s name.token.0 c e)
 
   dot_goes : (token : ℕ) (x : Expression) (name : Identifier) (es : Expressions) (y : Option Transfer) → transfer_at s name.token.0 ≡ y → OrTransferIs y (λ c. ExprIs s (In u) x (Simply kind.Reference) × AreOf s (In u) es []) (DotIs x name es (leaves s (syntax.Dot token x name es))) → Wk (Do (Eval (close s m i (syntax.Dot token x name es))) ∷ dropping (leaves s (syntax.Dot token x name es)) w) ks
   dot_goes token x name es None e a =
-      ([], given (held_kinds a.0) ks, (held_kinds a.0, dot_fine s ok (see marks o) m b.store i t [] (In u) reach around token x name es a.0 a.1, refl, refl), dropped a.0 (leaves s (syntax.Dot token x name es)) a.2)
+      ([], given (held_kinds a.0) ks, (held_kinds a.0, dot_fine s ok (see marks o) m b.store i t [] (In u) (in_text here) token x name es a.0 a.1, refl, refl), dropped a.0 (leaves s (syntax.Dot token x name es)) a.2)
   dot_goes token x name es (Some c) e a =
-      transferred (syntax.Dot token x name es) (detach_fine s ok (see marks o) m b.store i t [] (In u) reach around token x name es c e a.0) (transfer_leaves_none s name.token.0 c e)
+      transferred (syntax.Dot token x name es) (detach_fine s ok (see marks o) m b.store i t [] (In u) (in_text here) token x name es c e a.0) (transfer_leaves_none s name.token.0 c e)
 
   call_goes : (e : Expression) → CallIs s u e → Wk (Do (Eval (close s m i e)) ∷ dropping (leaves s e) w) ks
   call_goes (syntax.Named name es) a = named_goes name es (transfer_at s name.token.0) refl a
@@ -177,15 +186,16 @@ module _ (s : Source) (ok : Typed s) (l : Limits) (o : World) (marks : Marks) (l
   loops : (x : Target) (k : Kind) (es : List Element) (a : Statement) → VariableFine s m i t x k → ElementsAre s u k es → StatementIs s u a → Wk (Do (ElementsOp x es a) ∷ w) ks
   loops x k es a v y z = ([], ks, (refl, refl, refl, (u, site, (k, v, y, z))), work)
 
-  loop_goes : (text : Bool) (sign : Assignment) (line : ℕ) (x : Left) (k : Kind) (es : List Element) (a : Statement) → (text ≡ true → sign ≡ assignment.Value → k ≡ kind.Text) → (text ≡ false → sign ≡ assignment.Reference → ⊥) → IsCell x → LeftFine s ok (see marks o) m b.store i t u here x k → ElementsAre s u k es → StatementIs s u a → (t' w' : ℕ) → Goes P (looping (ran o t' w') m i w vals rest (controlled text sign line x) es a)
+  loop_goes : (text : Bool) (sign : Assignment) (line : ℕ) (x : Left) (k : Kind) (es : List Element) (a : Statement) → (text ≡ true → sign ≡ assignment.Value → k ≡ kind.Text) → (text ≡ false → sign ≡ assignment.Reference → ⊥) → IsCell x → PlainLeft s ok (see marks o) m b.store i t u here x k → ElementsAre s u k es → StatementIs s u a → (t' w' : ℕ) → Goes P (looping (ran o t' w') m i w vals rest (controlled text sign line x) es a)
   loop_goes true assignment.Value line (LeftCell j key) k es a v n c x y z t' w' = goes (Do (ElementsOp (ToTextOf j key line) es a) ∷ w) (loops (ToTextOf j key line) k es a (x, v refl refl) y z)
   loop_goes true assignment.Reference line (LeftCell j key) k es a v n c x y z t' w' = goes (Do (ElementsOp (ToCell j key) es a) ∷ w) (loops (ToCell j key) k es a x y z)
   loop_goes false assignment.Value line (LeftCell j key) k es a v n c x y z t' w' = goes (Do (ElementsOp (ToCell j key) es a) ∷ w) (loops (ToCell j key) k es a x y z)
   loop_goes true assignment.Value line (LeftAddress r) k es a v n c x y z t' w' = goes (Do (ElementsOp (ToTextAt r line) es a) ∷ w) (loops (ToTextAt r line) k es a (x, v refl refl) y z)
-  loop_goes true assignment.Reference line (LeftAddress r) k es a v n c x y z t' w' = goes (Do (ElementsOp (ToPlace r) es a) ∷ w) (loops (ToPlace r) k es a x y z)
-  loop_goes false assignment.Value line (LeftAddress r) k es a v n c x y z t' w' = goes (Do (ElementsOp (ToPlace r) es a) ∷ w) (loops (ToPlace r) k es a x y z)
+  loop_goes true assignment.Reference line (LeftAddress r) k es a v n c x y z t' w' = goes (Do (ElementsOp (ToPlace r) es a) ∷ w) (loops (ToPlace r) k es a (AddressOf (Simply k), refl, x) y z)
+  loop_goes false assignment.Value line (LeftAddress r) k es a v n c x y z t' w' = goes (Do (ElementsOp (ToPlace r) es a) ∷ w) (loops (ToPlace r) k es a (AddressOf (Simply k), refl, x) y z)
   loop_goes false assignment.Reference line x k es a v n c f y z t' w' = absurd (n refl refl)
   loop_goes text sign line (LeftText q r) k es a v n c x y z t' w' = absurd c
+  loop_goes text sign line (LeftNamed q q' r) k es a v n c x y z t' w' = absurd c
   loop_goes text sign line LeftUnbuilt k es a v n c x y z t' w' = absurd x
   loop_goes text sign line (LeftReference q r) k es a v n c x y z t' w' = absurd c
 
@@ -201,14 +211,14 @@ module _ (s : Source) (ok : Typed s) (l : Limits) (o : World) (marks : Marks) (l
   loop_left : (text : Bool) (sign : Assignment) (line : ℕ) (x : Identifier) (k : Kind) (es : List Element) (a : Statement) → ControlIs text sign s u (syntax.Named x NoMore) k → IsCell (left_variable s m i (syntax.Named x NoMore)) → ElementsAre s u k es → StatementIs s u a → (t' w' : ℕ)
       → Goes P (looping (ran o t' w') m i w vals rest (controlled text sign line (controlled_left text sign s m i (syntax.Named x NoMore))) es a)
   loop_left true assignment.Value line x k es a v c y z t' w' =
-      loop_goes true assignment.Value line (left_variable s m i (syntax.Named x NoMore)) k es a (λ e f. v.0) (λ e f. text_apart e) c (variable_fine s ok (see marks o) m b.store i t u here (syntax.Named x NoMore) k v.1) y z t' w'
+      loop_goes true assignment.Value line (left_variable s m i (syntax.Named x NoMore)) k es a (λ e f. (v.1).0) (λ e f. text_apart e) c (variable_fine s ok (see marks o) m b.store i t u here (syntax.Named x NoMore) k v.0 (v.1).1) y z t' w'
   loop_left true assignment.Reference line x k es a v c y z t' w' =
-      loop_goes true assignment.Reference line (left_variable s m i (syntax.Named x NoMore)) k es a (λ e f. absurd (sign_apart f)) (λ e f. text_apart e) c (variable_fine s ok (see marks o) m b.store i t u here (syntax.Named x NoMore) k v) y z t' w'
+      loop_goes true assignment.Reference line (left_variable s m i (syntax.Named x NoMore)) k es a (λ e f. absurd (sign_apart f)) (λ e f. text_apart e) c (variable_fine s ok (see marks o) m b.store i t u here (syntax.Named x NoMore) k v.0 v.1) y z t' w'
   loop_left false assignment.Value line x k es a v c y z t' w' =
-      loop_goes false assignment.Value line (left_variable s m i (syntax.Named x NoMore)) k es a (λ e f. absurd (text_apart (sym e))) (λ e f. other_apart f) c (variable_fine s ok (see marks o) m b.store i t u here (syntax.Named x NoMore) k v) y z t' w'
+      loop_goes false assignment.Value line (left_variable s m i (syntax.Named x NoMore)) k es a (λ e f. absurd (text_apart (sym e))) (λ e f. other_apart f) c (variable_fine s ok (see marks o) m b.store i t u here (syntax.Named x NoMore) k v.0 v.1) y z t' w'
   loop_left false assignment.Reference line x k es a v c y z t' w' =
-      let r = reference_is s ok (see marks o) m b.store i t u here (syntax.Named x NoMore) v.1 in
-      goes (Do (ElementsOp (ToReferenceAt (reference_place s m i (syntax.Named x NoMore)) line) es a) ∷ w) (loops (ToReferenceAt (reference_place s m i (syntax.Named x NoMore)) line) k es a (v.0, r.0, r.1) y z)
+      let r = reference_is s ok (see marks o) m b.store i t u here (syntax.Named x NoMore) v.0 (v.1).1 in
+      goes (Do (ElementsOp (ToReferenceAt (reference_place s m i (syntax.Named x NoMore)) line) es a) ∷ w) (loops (ToReferenceAt (reference_place s m i (syntax.Named x NoMore)) line) k es a ((v.1).0, r.0, r.1) y z)
 
   single_cell : (x : Identifier) → IsCell (left_variable s m i (syntax.Named x NoMore))
   single_cell x =
@@ -241,7 +251,7 @@ module _ (s : Source) (ok : Typed s) (l : Limits) (o : World) (marks : Marks) (l
       let line = line_at s class.token.0 in
       let fs = class_parameters s (Some a.number) in
       let terms = close_parameters s m i line es fs in
-      let fine : TermsFine s m i t [] terms (class_kinds s fs) = class_fine s ok (see marks o) m b.store i t [] (In u) reach around line es fs a.actuals in
+      let fine : TermsFine s m i t [] terms (class_kinds s fs) = class_fine s ok (see marks o) m b.store i t [] (In u) (in_text here) line es fs a.actuals in
       subst (λ z. Goes P (prefix_begun s (ran o t' w') m i w vals rest class es z)) (sym a.around)
       (goes (each terms (Do (PrefixedOp a.number (count terms) line) ∷ w)) (prefix_work s o marks long m i t rest top a.number terms line u w ks site a.stands_in (record { class = a.class; arguments = a.arguments; declarations = a.declarations; statements = a.statements; is = a.is }) fine work))
 
@@ -330,6 +340,7 @@ module _ (s : Source) (ok : Typed s) (l : Limits) (o : World) (marks : Marks) (l
   found ToAddress ks = ks
   found (ToText line) ks = ks
   found (ToReference line) ks = ks
+  found (ToNamed q line) ks = ks
   found (ToPlace x) ks = ks
   found (ToReferenceAt x line) ks = ks
 
@@ -338,6 +349,7 @@ module _ (s : Source) (ok : Typed s) (l : Limits) (o : World) (marks : Marks) (l
   finds ToAddress k w ks c x = absurd c
   finds (ToText line) k w ks c x = absurd c
   finds (ToReference line) k w ks c x = absurd c
+  finds (ToNamed q line) k w ks c x = absurd c
   finds (ToTextOf j key line) k w ks c x = ([], Value (Simply kind.Text) ∷ ks, (simple kind.Text, (Simply k, (Simply kind.Text, c.1, refl), at_cell c.0), refl, refl), x)
   finds (ToPlace r) k w ks c x = x
   finds (ToTextAt r line) k w ks c x = ([], Value (Simply kind.Text) ∷ ks, (simple kind.Text, (Simply kind.Text, AddressOf (Simply k), c.1, refl, c.0), refl, refl), x)
@@ -348,8 +360,9 @@ module _ (s : Source) (ok : Typed s) (l : Limits) (o : World) (marks : Marks) (l
   stores ToAddress k w ks c x = absurd c
   stores (ToText line) k w ks c x = absurd c
   stores (ToReference line) k w ks c x = absurd c
+  stores (ToNamed q line) k w ks c x = absurd c
   stores (ToTextOf j key line) k w ks c x = ([], ks, value_stored k (Value (Simply kind.Text) ∷ ks) refl (ap Simply c.1, refl) refl refl, x)
-  stores (ToPlace r) k w ks c x = ([], ks, value_stored k ks refl (c, refl) refl refl, x)
+  stores (ToPlace r) k w ks c x = ([], ks, value_stored k ks refl (c.0, c.1, c.2, refl) refl refl, x)
   stores (ToTextAt r line) k w ks c x = ([], ks, value_stored k (Value (Simply kind.Text) ∷ ks) refl (ap Simply c.1, refl) refl refl, x)
   stores (ToReferenceAt r line) k w ks c x = ([], ks, value_stored k ks refl (ap Simply c.0, refl, c.1, c.2) refl refl, x)
 
@@ -366,16 +379,18 @@ module _ (s : Source) (ok : Typed s) (l : Limits) (o : World) (marks : Marks) (l
   stores_integer ToAddress w ks c x = absurd c
   stores_integer (ToText line) w ks c x = absurd c
   stores_integer (ToReference line) w ks c x = absurd c
+  stores_integer (ToNamed q line) w ks c x = absurd c
   stores_integer (ToTextOf j key line) w ks c x = absurd (no_text c.1)
   stores_integer (ToTextAt r line) w ks c x = absurd (no_text c.1)
   stores_integer (ToReferenceAt r line) w ks c x = absurd (no_reference c.0)
 
   reads : (x : Target) (w : List Item) (ks : List Kinds) → VariableFine s m i t x kind.Integer → Wk w (Value (Simply kind.Integer) ∷ ks) → Wk (reading x w) ks
   reads (ToCell j key) w ks c x = ([], Value (Simply kind.Integer) ∷ ks, (simple kind.Integer, (Simply kind.Integer, (Simply kind.Integer, refl, refl), at_cell c), refl, refl), x)
-  reads (ToPlace r) w ks c x = ([], Value (Simply kind.Integer) ∷ ks, (simple kind.Integer, (Simply kind.Integer, AddressOf (Simply kind.Integer), refl, refl, c), refl, refl), x)
+  reads (ToPlace r) w ks c x = ([], Value (Simply kind.Integer) ∷ ks, (simple kind.Integer, (Simply kind.Integer, c.0, taken_leads s kind.Integer c.0 c.1, refl, c.2), refl, refl), x)
   reads ToAddress w ks c x = absurd c
   reads (ToText line) w ks c x = absurd c
   reads (ToReference line) w ks c x = absurd c
+  reads (ToNamed q line) w ks c x = absurd c
   reads (ToTextOf j key line) w ks c x = absurd (no_text c.1)
   reads (ToTextAt r line) w ks c x = absurd (no_text c.1)
   reads (ToReferenceAt r line) w ks c x = absurd (no_reference c.0)
@@ -438,7 +453,7 @@ module _ (s : Source) (ok : Typed s) (l : Limits) (o : World) (marks : Marks) (l
   first_works (Also a more) = ([], ks, (refl, refl), work)
 
 -- what waits for a truth value
-module _ (s : Source) (ok : Typed s) (l : Limits) (o : World) (marks : Marks) (long : length marks.sights ≡ length o.arrays) (m : Instances) (i t : ℕ) (rest : List Activation) (top : Operates marks.beneath m i rest) (w : List Item) (vals : List Val) (ks : List Kinds) (b : Begun s (see marks o) m i t []) (h : HandsFine s (see marks o) m i (Value (Simply kind.Boolean) ∷ ks) vals) (work : Work s o marks long m i t rest top w [] ks) (u : ℕ) (site : Site s m i u) where
+module _ (s : Source) (ok : Typed s) (l : Limits) (o : World) (marks : Marks) (long : length marks.sights ≡ length o.arrays) (m : Instances) (i t : ℕ) (rest : List Activation) (top : Operates marks.beneath marks.seat m i rest) (w : List Item) (vals : List Val) (ks : List Kinds) (b : Begun s (see marks o) m i t []) (h : HandsFine s (see marks o) m i (Value (Simply kind.Boolean) ∷ ks) vals) (work : Work s o marks long m i t rest top w [] ks) (u : ℕ) (site : Site s m i u) where
   pub choose_goes : (a : Statement) (other : Statements) → StatementIs s u a → StatementsAre s u other → Goes (IsFine s) (do_op s l o m i w vals rest (ChooseOp a other))
   choose_goes a other x y =
       truth_popped (IsFine s) s (see marks o) m i ks vals o (λ c vs. choosing c (go o m i (Do (Exec a) ∷ first_branch other w) vs rest) (go o m i (Do (Execs other) ∷ w) vs rest)) h (λ c vs more.

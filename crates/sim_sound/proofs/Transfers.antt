@@ -20,19 +20,20 @@ use Rattle.sim_code.specs.Instances.{going_below, is_object_at, live, system_hea
 use Rattle.sim_code.specs.Outcome.{Run, RunFault, World}
 use Rattle.sim_code.specs.Transfers.{Calling, Detaching, Resuming, Transfer, refused_of_main, transferred, transferring}
 use Rattle.sim_meaning.specs.Meaning.{do_op}
-use Rattle.sim_meaning.specs.Pending.{Activation, Address, ArrayValue, Configuration, Instances, Item, Link, Of, ProcedureValue, TransferOp, Tree, Val, owner, plain}
+use Rattle.sim_meaning.specs.Pending.{Activation, Address, ArrayValue, Configuration, Instances, Item, Link, Of, ProcedureValue, TransferOp, Actual, Val, owner, plain}
 use Rattle.sim_sound.specs.Typed.{Typed}
-use Rattle.sim_sound.proofs.Chains.{here_once}
+use Rattle.sim_sound.proofs.Chains.{own_once}
 use Rattle.sim_sound.proofs.Ends.{goes_below, released, suspended}
-use Rattle.sim_sound.proofs.Evals.{IsFine, Work}
+use Rattle.sim_sound.proofs.Evals.{IsFine, Work, work_owner}
 use Rattle.sim_sound.proofs.Heads.{at_is, head_outer, headed_as, headed_then, stands_as, well_formed}
-use Rattle.sim_sound.proofs.Later.{All, Later, object_later}
+use Rattle.sim_sound.proofs.Later.{All, Later, object_later, owner_is}
 use Rattle.sim_sound.proofs.Lifts.{Goes, any_popped, computed, had, known_popped, stops}
 use Rattle.sim_sound.proofs.Lists.{same_some, set_other, there_get}
 use Rattle.sim_sound.proofs.Moves.{placed_as}
 use Rattle.sim_sound.proofs.Reach.{has_itself}
-use Rattle.sim_sound.proofs.Running.{Begun, ChainFine, Headed, IsRelease, Operates, Placed, StoreFine, is_resumed, parts, resumes}
-use Rattle.sim_sound.proofs.Sound.{Component, DeepFine, HandsFine, Kinds, Marks, ObjectOf, Present, Stays, Suspended, Takes, component_kind, see}
+use Rattle.sim_sound.proofs.Running.{Begun, ChainFine, Headed, IsRelease, Operates, Placed, StoreFine, footing, idle, is_resumed, parts, resumes, seat_on}
+use Rattle.sim_sound.proofs.Sound.{component_kind}
+use Rattle.sim_sound.proofs.Values.{Component, DeepFine, HandsFine, Kinds, Marks, ObjectOf, Present, Stays, Suspended, Takes, see}
 use Rattle.sim_sound.proofs.Standings.{AllFine, Ends, after_one, ends_in_one, joins, keeps_main, kinds_same, later_changed, lets_go, main_on, released_below, then_waits}
 
 -- ---- the transfers
@@ -101,8 +102,8 @@ module _ (s : Source) (ok : Typed s) (o : World) (g : Marks) (long : length g.si
   -- ---- the chain is cut at a system head
 
   module _ (y : ℕ) (k : Cut Activation) (cut : IsCut owner y chain k) where
-    here_is : (k.here).instance ≡ y
-    here_is = let e = cut.here in cc
+    here_is : owner k.here ≡ Some y
+    here_is = cut.here
 
     whole : AllFine s (see g o) m (k.above ++ k.here ∷ k.below) (Takes None)
     whole = subst (λ z. AllFine s (see g o) m z (Takes None)) (sym cut.chain) here_fine
@@ -112,7 +113,7 @@ module _ (s : Source) (ok : Typed s) (o : World) (g : Marks) (long : length g.si
     there x is =
         ⊎_elim
         (λ less. let q = there_get m.standings y less in q.1 ∙ ap (λ z. Some z) (sym (at_is m.standings y q.0 (NoObject None) q.1) ∙ is))
-        (λ more. absurd (let many = placed.as_many in let none = placed.made y (omega (arith, more, many)) in let parts = times-append owner y k.above (k.here ∷ k.below) in let all = ap (times_on owner y) cut.chain in let one = here_once (k.here).instance y here_is in omega (arith, none, parts, all, one)))
+        (λ more. absurd (let many = placed.as_many in let none = placed.made y (omega (arith, more, many)) in let parts = times-append owner y k.above (k.here ∷ k.below) in let all = ap (times_on owner y) cut.chain in let one = own_once y (owner k.here) here_is in omega (arith, none, parts, all, one)))
         (cases_lt y (length m.standings))
 
     -- the resumed object above it lets go
@@ -147,7 +148,7 @@ module _ (s : Source) (ok : Typed s) (o : World) (g : Marks) (long : length g.si
       let_go : AllFine s (see g o) Without (k.here ∷ k.below) Suspended
       let_go =
           let b = released_below s (see g o) m r.object ResumedObject resumed_is tt refl object_stays end.above end.here (k.here ∷ k.below) end.its k.above end.is joined_there in
-          let resumed : resumes m (end.here).instance ≡ true = ap (resumes m) end.its ∙ ap (λ q. is_resumed q) resumed_is in
+          let resumed : resumes m (end.here).instance ≡ true = ap (resumes m) (owner_is end.here r.object end.its) ∙ ap (λ q. is_resumed q) resumed_is in
           subst (AllFine s (see g o) Without (k.here ∷ k.below)) (suspended (end.here).instance b.of_text b.waits (subst (λ q. IsRelease q (end.here).instance b.of_text b.waits) resumed b.release))
           (lets_go s (see g o) m r.object ResumedObject resumed_is tt refl object_stays end.above end.here (k.here ∷ k.below) end.its k.above end.is joined_there)
 
@@ -253,11 +254,12 @@ module _ (s : Source) (ok : Typed s) (o : World) (g : Marks) (long : length g.si
     left_on : slice_get m.standings y ≡ Some AttachedObject → (k : Cut Activation) → IsCut owner y chain k → (d : Components Activation) → with_standing y (DetachedObject (upper k)) (with_operating k.below c) ≡ d → IsWellFormed owner head d → Goes (IsFine s) (After d)
     left_on is k cut d same w =
         let v = see g o in
-        let at = here_is y k cut in
+        let own = here_is y k cut in
+        let at = owner_is k.here y own in
         let f = whole y k cut in
         let n : Instances = record m { standings = slice_set m.standings y (DetachedObject (upper k)) } in
-        let b = released_below s v m y AttachedObject is tt refl stays k.above k.here k.below at (upper k) refl f in
-        let a : AllFine s v n k.below b.waits = lets_go s v m y AttachedObject is tt refl stays k.above k.here k.below at (upper k) refl f in
+        let b = released_below s v m y AttachedObject is tt refl stays k.above k.here k.below own (upper k) refl f in
+        let a : AllFine s v n k.below b.waits = lets_go s v m y AttachedObject is tt refl stays k.above k.here k.below own (upper k) refl f in
         let unresumed : resumes m (k.here).instance ≡ false = ap (resumes m) at ∙ ap (λ q. is_resumed q) is in
         let release : IsRelease false y b.of_text b.waits = subst (λ q. IsRelease false q b.of_text b.waits) at (subst (λ q. IsRelease q (k.here).instance b.of_text b.waits) unresumed b.release) in
         let e : Later s v m v n All = later_changed s v v m y AttachedObject (DetachedObject (upper k)) is refl refl refl refl in
@@ -285,17 +287,23 @@ module _ (s : Source) (ok : Typed s) (o : World) (g : Marks) (long : length g.si
     pub detaches : (line : ℕ) → Goes (IsFine s) (having (transferred owner Detaching head c (Some y)) o (λ r. computing line r o After))
     detaches line = had (IsFine s) (Some (detach owner head c y)) (detach owner head c y) o (λ r. computing line r o After) refl (computed (IsFine s) line (detach owner head c y) o After (λ d e. detach_on d e))
 
-module _ (s : Source) (ok : Typed s) (l : Limits) (o : World) (g : Marks) (long : length g.sights ≡ length o.arrays) (m : Instances) (i t : ℕ) (rest : List Activation) (top : Operates g.beneath m i rest) (w : List Item) (vals : List Val) (todo todo' : List DeclNo) (before behind : List Kinds) (b : Begun s (see g o) m i t todo) (h : HandsFine s (see g o) m i before vals) (work : Work s o g long m i t rest top w todo' behind) where
+module _ (s : Source) (ok : Typed s) (l : Limits) (o : World) (g : Marks) (long : length g.sights ≡ length o.arrays) (m : Instances) (i t : ℕ) (rest : List Activation) (top : Operates g.beneath g.seat m i rest) (w : List Item) (vals : List Val) (todo todo' : List DeclNo) (before behind : List Kinds) (b : Begun s (see g o) m i t todo) (h : HandsFine s (see g o) m i before vals) (work : Work s o g long m i t rest top w todo' behind) where
   abbrev pub Chain : List Val → List Activation
   Chain vs = record { instance = i; work = w; values = vs } ∷ rest
 
   pub waits_fine : todo' ≡ todo → (vs : List Val) → HandsFine s (see g o) m i behind vs → ChainFine s (see g o) m (Chain vs) (Takes None)
-  waits_fine same vs more = record { of_text = t; todo = todo; here = b.here; own = b.own; on = top.on; vals = vs; shown = refl; kinds = behind; hands = more; expected = behind; expects = refl; goes = subst (λ z. Work s o g long m i t rest top w z behind) same work }
+  waits_fine same vs more =
+      let goes = subst (λ z. Work s o g long m i t rest top w z behind) same work in
+      let own = work_owner s o g long m i t rest top w vs todo behind goes in
+      record { of_text = t; todo = todo; here = b.here; own = b.own; stands_on = λ j is. top.stands_on j (sym own ∙ is); seat = g.seat; seated = ap (λ u. seat_on u (footing None rest)) own ∙ top.seated; works = b.works; vals = vs; shown = refl; kinds = behind; hands = more; expected = behind; expects = refl; goes = goes }
+
+  pub own_then : todo' ≡ todo → (vs : List Val) → owner (record { instance = i; work = w; values = vs }) ≡ owner (idle g.seat i)
+  own_then same vs = work_owner s o g long m i t rest top w vs todo behind (subst (λ z. Work s o g long m i t rest top w z behind) same work)
 
   calls : todo' ≡ todo → (line : ℕ) (vs : List Val) → HandsFine s (see g o) m i behind vs → (p : Plain) → kind_of p ≡ kind.Reference → Goes (IsFine s) (transferring owner Calling line o (Chain vs) m p)
   unfolding transferring
-  calls same line vs more (Object j) e = had (IsFine s) (Some (Some j)) (Some j) o _ refl (called s ok o g long m (Chain vs) b.store (placed_as m i w vs rest top.placed) (headed_as m i w vs rest top.headed) (waits_fine same vs more) line (Some j))
-  calls same line vs more Nothing e = had (IsFine s) (Some None) None o _ refl (called s ok o g long m (Chain vs) b.store (placed_as m i w vs rest top.placed) (headed_as m i w vs rest top.headed) (waits_fine same vs more) line None)
+  calls same line vs more (Object j) e = had (IsFine s) (Some (Some j)) (Some j) o _ refl (called s ok o g long m (Chain vs) b.store (placed_as m (idle g.seat i) (record { instance = i; work = w; values = vs }) rest (own_then same vs) top.placed) (headed_as m (idle g.seat i) (record { instance = i; work = w; values = vs }) rest (own_then same vs) top.headed) (waits_fine same vs more) line (Some j))
+  calls same line vs more Nothing e = had (IsFine s) (Some None) None o _ refl (called s ok o g long m (Chain vs) b.store (placed_as m (idle g.seat i) (record { instance = i; work = w; values = vs }) rest (own_then same vs) top.placed) (headed_as m (idle g.seat i) (record { instance = i; work = w; values = vs }) rest (own_then same vs) top.headed) (waits_fine same vs more) line None)
   calls same line vs more (MainOf z) e = stops (IsFine s) (RunFault (refused_of_main Calling) line) o (λ q. cc)
   calls same line vs more (Integer z) e = absurd (cc)
   calls same line vs more (Character z) e = absurd (cc)
@@ -304,8 +312,8 @@ module _ (s : Source) (ok : Typed s) (l : Limits) (o : World) (g : Marks) (long 
 
   resumptions : todo' ≡ todo → (line : ℕ) (vs : List Val) → HandsFine s (see g o) m i behind vs → (p : Plain) → kind_of p ≡ kind.Reference → Goes (IsFine s) (transferring owner Resuming line o (Chain vs) m p)
   unfolding transferring
-  resumptions same line vs more (Object j) e = had (IsFine s) (Some (Some j)) (Some j) o _ refl (resumes_on s ok o g long m (Chain vs) b.store (placed_as m i w vs rest top.placed) (headed_as m i w vs rest top.headed) (waits_fine same vs more) line (Some j))
-  resumptions same line vs more Nothing e = had (IsFine s) (Some None) None o _ refl (resumes_on s ok o g long m (Chain vs) b.store (placed_as m i w vs rest top.placed) (headed_as m i w vs rest top.headed) (waits_fine same vs more) line None)
+  resumptions same line vs more (Object j) e = had (IsFine s) (Some (Some j)) (Some j) o _ refl (resumes_on s ok o g long m (Chain vs) b.store (placed_as m (idle g.seat i) (record { instance = i; work = w; values = vs }) rest (own_then same vs) top.placed) (headed_as m (idle g.seat i) (record { instance = i; work = w; values = vs }) rest (own_then same vs) top.headed) (waits_fine same vs more) line (Some j))
+  resumptions same line vs more Nothing e = had (IsFine s) (Some None) None o _ refl (resumes_on s ok o g long m (Chain vs) b.store (placed_as m (idle g.seat i) (record { instance = i; work = w; values = vs }) rest (own_then same vs) top.placed) (headed_as m (idle g.seat i) (record { instance = i; work = w; values = vs }) rest (own_then same vs) top.headed) (waits_fine same vs more) line None)
   resumptions same line vs more (MainOf z) e = stops (IsFine s) (RunFault (refused_of_main Resuming) line) o (λ q. cc)
   resumptions same line vs more (Integer z) e = absurd (cc)
   resumptions same line vs more (Character z) e = absurd (cc)
@@ -314,7 +322,7 @@ module _ (s : Source) (ok : Typed s) (l : Limits) (o : World) (g : Marks) (long 
 
   leaves : todo' ≡ todo → (line : ℕ) (vs : List Val) → HandsFine s (see g o) m i behind vs → (j c : ℕ) → ObjectOf s m j c → Goes (IsFine s) (transferring owner Detaching line o (Chain vs) m (Object j))
   unfolding transferring
-  leaves same line vs more j c object = had (IsFine s) (Some (Some j)) (Some j) o _ refl (detaches s ok o g long m (Chain vs) b.store (placed_as m i w vs rest top.placed) (headed_as m i w vs rest top.headed) (waits_fine same vs more) j c object line)
+  leaves same line vs more j c object = had (IsFine s) (Some (Some j)) (Some j) o _ refl (detaches s ok o g long m (Chain vs) b.store (placed_as m (idle g.seat i) (record { instance = i; work = w; values = vs }) rest (own_then same vs) top.placed) (headed_as m (idle g.seat i) (record { instance = i; work = w; values = vs }) rest (own_then same vs) top.headed) (waits_fine same vs more) j c object line)
 
   main_leaves_not : (line : ℕ) (vs : List Val) (z : ℕ) → Goes (IsFine s) (transferring owner Detaching line o (Chain vs) m (MainOf z))
   unfolding transferring
@@ -333,7 +341,7 @@ module _ (s : Source) (ok : Typed s) (l : Limits) (o : World) (g : Marks) (long 
   object_in_hand same line vs more (Address z) a = absurd a
   object_in_hand same line vs more (ArrayValue z) a = absurd a
   object_in_hand same line vs more (ProcedureValue z y) a = absurd a
-  object_in_hand same line vs more (Tree z) a = absurd a
+  object_in_hand same line vs more (Actual home z) a = absurd a
 
   pub transfer_op : (x : Transfer) (line : ℕ) → (before ≡ component_kind x ∷ behind) × (todo' ≡ todo) → Goes (IsFine s) (do_op s l o m i w vals rest (TransferOp x line))
   unfolding pop_plain

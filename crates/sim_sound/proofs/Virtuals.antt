@@ -15,14 +15,14 @@ use Rattle.sim_code.specs.Virtuals.{counting, matching}
 use Rattle.sim_meaning.specs.Entries.{formals_of}
 use Rattle.sim_meaning.specs.Levels.{is_class, qualification}
 use Rattle.sim_meaning.specs.Meaning.{do_op, procedure_entered}
-use Rattle.sim_meaning.specs.Pending.{Activation, Address, ArrayValue, CallValueOp, CheckOp, Configuration, Instances, Item, Link, Of, Op, procedure_in, ProcedureValue, Tree, Val, VirtualOp}
+use Rattle.sim_meaning.specs.Pending.{Activation, Address, ArrayValue, CallValueOp, CheckOp, Configuration, Instances, Item, Link, Of, Op, procedure_in, ProcedureValue, Actual, Val, VirtualOp}
 use Rattle.sim_meaning.specs.Steps.{go}
 use Rattle.sim_meaning.specs.Texts.{text}
 use Rattle.sim_meaning.specs.Virtuals.{match_at, match_if, match_in_text, match_of_text}
-use Rattle.sim_sound.specs.Held.{ArrayOf, Fits, FitsIn, Holds, Refers, Simply, given_by, held_by, reference_to}
+use Rattle.sim_sound.specs.Held.{ArrayOf, ByName, Fits, FitsIn, Holds, Refers, Simply, given_by, held_by, reference_to}
 use Rattle.sim_sound.specs.Typed.{Typed}
 use Rattle.sim_sound.proofs.Attributes.{holds_result, procedure_in as declared_in}
-use Rattle.sim_sound.proofs.Closing.{qualified_class}
+use Rattle.sim_sound.proofs.Passed.{qualified_class}
 use Rattle.sim_sound.proofs.Entering.{called_goes}
 use Rattle.sim_sound.proofs.Evals.{IsFine, Work, goes_on}
 use Rattle.sim_sound.proofs.Fitting.{knows_object, text_there}
@@ -32,7 +32,8 @@ use Rattle.sim_sound.proofs.Operators.{bare}
 use Rattle.sim_sound.proofs.Prefixes.{class_solid, level_has, level_is, level_then, levels_solid}
 use Rattle.sim_sound.proofs.References.{object_popped}
 use Rattle.sim_sound.proofs.Running.{Begun, Operates}
-use Rattle.sim_sound.proofs.Sound.{DeepFine, HandsFine, Kinds, LinkTo, Marks, MatchFor, MatchHeld, ObjectOf, OpFine, VirtualIn, formal_kinds, given, held_kinds, onto, own_text, see}
+use Rattle.sim_sound.proofs.Sound.{OpFine, VirtualIn, formal_kinds, given, held_kinds, onto}
+use Rattle.sim_sound.proofs.Values.{DeepFine, HandsFine, Kinds, LinkTo, Marks, MatchFor, MatchHeld, ObjectOf, own_text, see}
 
 module _ (s : Source) (ok : Typed s) where
   -- what fits in a value that fits in another fits in that
@@ -54,6 +55,14 @@ module _ (s : Source) (ok : Typed s) where
   fits_then (ArrayOf x) (Refers y) h class e f = absurd e
   fits_then (ArrayOf x) (ArrayOf y) (Simply z) class e f = absurd f
   fits_then (ArrayOf x) (ArrayOf y) (Refers z) class e f = absurd f
+  fits_then (Simply k) (Simply k') (ByName q) class e f = absurd f
+  fits_then (Simply k) (ByName k') h class e f = absurd e
+  fits_then (Refers c) (Simply k') (ByName q) class e f = absurd f
+  fits_then (Refers c) (Refers c') (ByName q) class e f = absurd f
+  fits_then (Refers c) (ByName k') h class e f = absurd e
+  fits_then (ArrayOf x) (ArrayOf y) (ByName z) class e f = absurd f
+  fits_then (ArrayOf x) (ByName y) h class e f = absurd e
+  fits_then (ByName k) g h class e f = absurd e
 
   -- a reference of a type is qualified by a class
   held_class : (ty : SimType) (c : ℕ) → held_by s ty ≡ Refers c → is_class (text s c) ≡ true
@@ -76,7 +85,7 @@ module _ (s : Source) (ok : Typed s) where
   given_then (Some q) (Some r) None e f = absurd f
   given_then (Some q) (Some r) (Some h) e f = fits_then (held_by s q) (held_by s r) h (λ c same. held_class q c same) e f
 
-module _ (s : Source) (ok : Typed s) (l : Limits) (o : World) (g : Marks) (long : length g.sights ≡ length o.arrays) (m : Instances) (i t : ℕ) (rest : List Activation) (top : Operates g.beneath m i rest) (w : List Item) (vals : List Val) (todo todo' : List DeclNo) (before behind : List Kinds) (b : Begun s (see g o) m i t todo) (h : HandsFine s (see g o) m i before vals) (work : Work s o g long m i t rest top w todo' behind) where
+module _ (s : Source) (ok : Typed s) (l : Limits) (o : World) (g : Marks) (long : length g.sights ≡ length o.arrays) (m : Instances) (i t : ℕ) (rest : List Activation) (top : Operates g.beneath g.seat m i rest) (w : List Item) (vals : List Val) (todo todo' : List DeclNo) (before behind : List Kinds) (b : Begun s (see g o) m i t todo) (h : HandsFine s (see g o) m i before vals) (work : Work s o g long m i t rest top w todo' behind) where
   abbrev Stepped : Op → Type 0
   Stepped op = Goes (IsFine s) (do_op s l o m i w vals rest op)
 
@@ -125,7 +134,7 @@ module _ (s : Source) (ok : Typed s) (l : Limits) (o : World) (g : Marks) (long 
   match_in_hand q (Of z) f d a fine = absurd a
   match_in_hand q (Address z) f d a fine = absurd a
   match_in_hand q (ArrayValue z) f d a fine = absurd a
-  match_in_hand q (Tree z) f d a fine = absurd a
+  match_in_hand q (Actual home z) f d a fine = absurd a
 
   both_ways : (n : ℕ) → (0 == n) ≡ true → (n == 0) ≡ true
   both_ways zero e = refl

@@ -13,7 +13,7 @@ use Rattle.sim_scope.specs.declared.types.Mode.TheVariants as mode
 use Rattle.sim_scope.specs.declared.types.SimType.{SimType}
 use Rattle.sim_scope.specs.Levels.{base, has_level, is_for_prefixing, is_simulation_block}
 use Rattle.sim_scope.specs.Scopes.{entry_of}
-use Rattle.sim_scope.specs.Source.{Source, block_of, denoted, found_at}
+use Rattle.sim_scope.specs.Source.{Source, block_of, denoted, found_at, type_at}
 use Rattle.sim_tree.specs.Syntax.{Expression, Expressions, Literal, NoMore, Then}
 use Rattle.sim_tree.specs.Syntax as syntax
 use Rattle.sim_values.specs.declared.kind.Kind.{Kind}
@@ -28,13 +28,13 @@ use Rattle.sim_code.specs.Running.{name_runs}
 use Rattle.sim_code.specs.Simulations.{is_simulation_name}
 use Rattle.sim_code.specs.Sets.{is_attribute_name}
 use Rattle.sim_meaning.specs.Attributes.{attribute_formals, connection_at, is_connection, own_attribute, is_bare_process}
-use Rattle.sim_meaning.specs.Closing.{Joining, Lazily, Negated, Plainly, Sort, class_parameters, is_text, sort_of, stream_of}
+use Rattle.sim_meaning.specs.Closing.{Joining, Lazily, Negated, Plainly, Sort, class_parameters, is_placed, is_text, sort_of, stream_of, typed_token}
 use Rattle.sim_meaning.specs.Constants.{text_constant}
 use Rattle.sim_meaning.specs.Entries.{formals_of}
-use Rattle.sim_meaning.specs.Levels.{class_at, has_levels, is_class}
+use Rattle.sim_meaning.specs.Levels.{class_at, has_levels, is_class, qualification}
 use Rattle.sim_meaning.specs.Names.{procedure_named}
-use Rattle.sim_meaning.specs.Texts.{constant_of, text}
-use Rattle.sim_sound.specs.Held.{ArrayOf, Fits, FitsIn, Holds, Place, Refers, Sees, SeesConnected, Simply, StandsAround, entry_holds, given_by, held_by, reference_to}
+use Rattle.sim_meaning.specs.Texts.{constant_of, kind_of_type, text}
+use Rattle.sim_sound.specs.Held.{ArrayOf, ByName, Fits, FitsIn, Holds, Place, Refers, Sees, SeesConnected, Simply, StandsAround, entry_names, given_by, held_by, reference_to}
 
 -- ---- operators
 
@@ -92,7 +92,7 @@ abbrev pub HeldNames : Source → (Known : Type 0) → Expressions → (Indices 
 HeldNames s Known es Indices (Some (Simply k)) h = VariableNames s Known es (Simply k) h
 HeldNames s Known es Indices (Some (Refers c)) h = VariableNames s Known es (Refers c) h
 HeldNames s Known es Indices (Some (ArrayOf k)) h = ArrayNames s Known es Indices k h
-HeldNames s Known es Indices None h = ⊥
+HeldNames s Known es Indices _ h = ⊥
 
 -- a call gives what h says, or nothing
 abbrev pub CallGives : Source → (Known : Type 0) → (result : Option SimType) → (text : ℕ) → (Actuals : List Formal → Type 0) → Option Holds → Type 0
@@ -107,6 +107,7 @@ abbrev pub IsReference : Holds → Type 0
 IsReference (Simply k) = kind.Reference ≡ k
 IsReference (Refers class) = Unit {0}
 IsReference (ArrayOf h) = ⊥
+IsReference (ByName k) = ⊥
 
 -- a text constant is one of the program's
 abbrev pub LiteralIs : Source → (token : ℕ) → Literal → Holds → Type 0
@@ -158,7 +159,7 @@ DeclaredGives s Known d es Indices Actuals (Some (entry.Procedure result k)) h =
 DeclaredGives s Known d es Indices Actuals (Some (entry.Virtual result own)) h = VirtualGives s Known result h
 DeclaredGives s Known d es Indices Actuals (Some (entry.Attribute name parameter result)) h = SetGives s Known name parameter result Actuals h
 DeclaredGives s Known d es Indices Actuals (Some (entry.Constant t)) (Some h) = ConstantNames s Known d es h
-DeclaredGives s Known d es Indices Actuals (Some e) (Some h) = HeldNames s Known es Indices (entry_holds s false (Some e)) h
+DeclaredGives s Known d es Indices Actuals (Some e) (Some h) = HeldNames s Known es Indices (entry_names s (Some e)) h
 DeclaredGives s Known d es Indices Actuals _ _ = ⊥
 
 -- An attribute of an object: what is in front of the dot refers to a class that has it in one of its levels.
@@ -221,17 +222,54 @@ IdentifierGives s from token None (Some d) es Indices Operands Actuals h = OwnGi
 IdentifierGives s from token None None es Indices Operands Actuals h = NamedGives s from None (denoted s token) es Indices Operands Actuals h
 IdentifierGives s from token (Some k) own es Indices Operands Actuals h = NamedGives s from (Some k) (denoted s token) es Indices Operands Actuals h
 
+-- ---- where something lies
+
+-- a variable or an element that holds this
+abbrev pub LeftHeld : (Known : Type 0) → Expressions → (Indices : Type 0) → Option Holds → Holds → Type 0
+LeftHeld Known NoMore Indices (Some (Simply k)) h = (Simply k ≡ h) × Known
+LeftHeld Known NoMore Indices (Some (Refers c)) h = (Refers c ≡ h) × Known
+LeftHeld Known (Then e es) Indices (Some (ArrayOf k)) h = (k ≡ h) × Known × Indices
+LeftHeld Known _ Indices _ h = ⊥
+
+-- no procedure as a place
+abbrev pub PlaceDeclared : Source → (Known : Type 0) → Expressions → (Indices : Type 0) → Option Entry → Holds → Type 0
+PlaceDeclared s Known es Indices (Some (entry.Procedure result k)) h = ⊥
+PlaceDeclared s Known es Indices (Some e) h = LeftHeld Known es Indices (entry_names s (Some e)) h
+PlaceDeclared s Known es Indices None h = ⊥
+
+abbrev pub PlaceNamed : Source → Place → (connection : Option ℕ) → Option Denotation → Expressions → (Indices : Type 0) → Holds → Type 0
+PlaceNamed s from connection (Some (denotation.Declared d)) es Indices h = PlaceDeclared s (KnownAt s from connection d) es Indices (entry_of s.tables d) h
+PlaceNamed s from connection _ es Indices h = ⊥
+
+abbrev pub PlaceDot : Source → Option Denotation → (Object : ℕ → Type 0) → Expressions → (Indices : Type 0) → Holds → Type 0
+PlaceDot s (Some (denotation.Declared d)) Object es Indices h = PlaceDeclared s (ObjectHas s Object d) es Indices (entry_of s.tables d) h
+PlaceDot s _ Object es Indices h = ⊥
+
+-- ---- actual parameters
+
 -- A reference is held against the qualification of its formal parameter when it is passed.
 abbrev pub passed : Holds → Holds
 passed (Refers class) = Simply kind.Reference
 passed h = h
 
-abbrev pub ActualFits : Source → Mode → FormalKind → Option SimType → (Is : Holds → Type 0) → Type 0
-ActualFits s mode.ByValue shape.Simple (Some t) Is = Is (passed (held_by s t))
-ActualFits s mode.ByReference shape.Simple (Some t) Is = Is (passed (held_by s t))
-ActualFits s mode.ByValue shape.Array (Some t) Is = Is (ArrayOf (held_by s t))
-ActualFits s mode.ByReference shape.Array (Some t) Is = Is (ArrayOf (held_by s t))
-ActualFits s _ _ _ Is = ⊥
+-- A variable that is passed by name holds what the formal parameter means. A reference has a qualification of its own, and is held against that of the
+-- formal parameter at each use.
+abbrev pub VariablePassed : (class : Option ℕ) → (Lies : Holds → Type 0) → Kind → Type 0
+VariablePassed None Lies k = (k ≡ kind.Reference → ⊥) × Lies (Simply k)
+VariablePassed (Some class) Lies k = (k ≡ kind.Reference) × Lies (Refers class)
+
+-- any other expression gives a value of the kind
+abbrev pub ActualPassed : (placed : Bool) → (class : Option ℕ) → (Is Lies : Holds → Type 0) → Kind → Type 0
+ActualPassed true class Is Lies k = VariablePassed class Lies k
+ActualPassed false class Is Lies k = Is (Simply k)
+
+abbrev pub ActualFits : Source → Mode → FormalKind → Option SimType → (Is : Holds → Type 0) → (Passed : Kind → Type 0) → Type 0
+ActualFits s mode.ByValue shape.Simple (Some t) Is Passed = Is (passed (held_by s t))
+ActualFits s mode.ByReference shape.Simple (Some t) Is Passed = Is (passed (held_by s t))
+ActualFits s mode.ByValue shape.Array (Some t) Is Passed = Is (ArrayOf (held_by s t))
+ActualFits s mode.ByReference shape.Array (Some t) Is Passed = Is (ArrayOf (held_by s t))
+ActualFits s mode.ByName shape.Simple (Some t) Is Passed = Passed (kind_of_type t)
+ActualFits s _ _ _ Is Passed = ⊥
 
 -- ---- classes
 
@@ -289,4 +327,15 @@ abbrev mutual
   ActualsFit s from NoMore [] = Unit {0}
   ActualsFit s from NoMore (f ∷ fs) = ⊥
   ActualsFit s from (Then e es) [] = ⊥
-  ActualsFit s from (Then e es) (f ∷ fs) = ActualFits s f.mode f.kind f.ty (ExprIs s from e) × ActualsFit s from es fs
+  ActualsFit s from (Then e es) (f ∷ fs) =
+      ActualFits s f.mode f.kind f.ty (ExprIs s from e) (ActualPassed (is_placed s e) (qualification s (type_at s (typed_token e))) (ExprIs s from e) (PlaceIs s from e)) × ActualsFit s from es fs
+
+  -- where a variable or an element lies that holds this
+  pub PlaceIs : Source → Place → Expression → Holds → Type 0
+  PlaceIs s from (syntax.Named name es) h = PlaceNamed s from (connection_at s name.token.0) (denoted s name.token.0) es (AreIntegers s from es) h
+  PlaceIs s from (syntax.Dot token a name es) h = PlaceDot s (denoted s name.token.0) (λ c. ExprIs s from a (Refers c)) es (AreIntegers s from es) h
+  PlaceIs s from _ h = ⊥
+
+-- an actual parameter by name, which means values of a kind
+abbrev pub ActualIs : Source → Place → Expression → Kind → Type 0
+ActualIs s from e k = ActualPassed (is_placed s e) (qualification s (type_at s (typed_token e))) (ExprIs s from e) (PlaceIs s from e) k

@@ -24,11 +24,12 @@ use Rattle.sim_meaning.specs.Texts.{kind_of_type, text}
 -- ---- what is held
 
 -- What is held by a cell or named by an expression: a plain value of a kind, which of references is any reference; a reference to an object of
--- a class, by the class's text, or to none; an array of such.
+-- a class, by the class's text, or to none; an array of such; an actual parameter by name, which means values of a kind.
 pub data Holds : Type 0 where
   Simply : Kind → Holds
   Refers : (class : ℕ) → Holds
   ArrayOf : Holds → Holds
+  ByName : Kind → Holds
 
 -- a reference with this qualification
 abbrev pub reference_to : (class : Option ℕ) → Holds
@@ -45,6 +46,7 @@ abbrev pub IsOfKind : Holds → Kind → Type 0
 IsOfKind (Simply k) wanted = k ≡ wanted
 IsOfKind (Refers class) wanted = kind.Reference ≡ wanted
 IsOfKind (ArrayOf h) wanted = ⊥
+IsOfKind (ByName k) wanted = ⊥
 
 -- What holds the first may stand where the second is wanted: a reference to an object of a class is one to an object of each of the class's
 -- levels, and is a reference.
@@ -67,6 +69,7 @@ formal_holds s mode.ByValue shape.Simple (Some type) = Some (held_by s type)
 formal_holds s mode.ByReference shape.Simple (Some type) = Some (held_by s type)
 formal_holds s mode.ByValue shape.Array (Some type) = Some (ArrayOf (held_by s type))
 formal_holds s mode.ByReference shape.Array (Some type) = Some (ArrayOf (held_by s type))
+formal_holds s mode.ByName shape.Simple (Some type) = Some (ByName (kind_of_type type))
 formal_holds s _ _ _ = None
 
 -- a constant of a class is read in its cell from outside, and so has one in a prefixed block
@@ -81,6 +84,15 @@ entry_holds s c (Some (entry.Constant type)) = constant_holds c type
 entry_holds s c (Some (entry.Array element dimensions)) = Some (ArrayOf (held_by s element))
 entry_holds s c (Some (entry.Formal f)) = formal_holds s f.mode f.kind f.ty
 entry_holds s c _ = None
+
+-- What the identifier of a declaration names: of a parameter by name what the actual one means.
+abbrev pub formal_names : Source → Mode → FormalKind → Option SimType → Option Holds
+formal_names s mode.ByName shape.Simple (Some type) = Some (held_by s type)
+formal_names s mode kind type = formal_holds s mode kind type
+
+abbrev pub entry_names : Source → Option Entry → Option Holds
+entry_names s (Some (entry.Formal f)) = formal_names s f.mode f.kind f.ty
+entry_names s e = entry_holds s false e
 
 abbrev pub declared_holds : Source → (text : ℕ) → DeclNo → Option Holds
 declared_holds s t d = entry_holds s (has_levels (text s t)) (entry_of s.tables d)

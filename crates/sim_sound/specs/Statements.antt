@@ -19,28 +19,21 @@ use Rattle.sim_values.specs.declared.kind.Kind.{Kind}
 use Rattle.sim_values.specs.declared.kind.Kind.TheVariants as kind
 use Rattle.sim_code.specs.Transfers.{Calling, Detaching, Resuming, Transfer}
 use Rattle.sim_meaning.specs.Attributes.{connection_at, first_in, own_attribute, transfer_at}
-use Rattle.sim_meaning.specs.Closing.{class_parameters, is_text, left_type, own_match, result_meant, stream_of}
+use Rattle.sim_meaning.specs.Closing.{by_name, class_parameters, is_text, left_type, own_match, result_meant, stream_of}
 use Rattle.sim_meaning.specs.Levels.{class_at, is_class, qualification}
 use Rattle.sim_meaning.specs.Statements.{begin_of, leaves, simulation_around}
 use Rattle.sim_meaning.specs.Texts.{BlockText, ConnectionText, PrefixedText, text}
 use Rattle.sim_meaning.specs.Virtuals.{text_of_procedure}
-use Rattle.sim_sound.specs.Held.{Around, ArrayOf, Holds, In, Refers, Seen, Simply, entry_holds, held_by, reference_to, result_holds}
-use Rattle.sim_sound.specs.Expressions.{ActualsFit, AreIntegers, AreOf, DotGives, ExprIs, IdentifierGives, KnownAt, ObjectHas, ThisFound}
+use Rattle.sim_sound.specs.Held.{Around, Holds, In, Refers, Seen, Simply, entry_names, held_by, reference_to, result_holds}
+use Rattle.sim_sound.specs.Expressions.{ActualsFit, AreIntegers, AreOf, DotGives, ExprIs, IdentifierGives, KnownAt, LeftHeld, ObjectHas, PlaceIs, ThisFound}
 
 -- ---- left sides
-
--- a variable or an element that holds this, or the result of a procedure from its inside
-abbrev pub LeftHeld : (Known : Type 0) → Expressions → (Indices : Type 0) → Option Holds → Holds → Type 0
-LeftHeld Known NoMore Indices (Some (Simply k)) h = (Simply k ≡ h) × Known
-LeftHeld Known NoMore Indices (Some (Refers c)) h = (Refers c ≡ h) × Known
-LeftHeld Known (Then e es) Indices (Some (ArrayOf k)) h = (k ≡ h) × Known × Indices
-LeftHeld Known _ Indices _ h = ⊥
 
 -- `Own` says that the left side stands inside the text of a procedure
 abbrev pub LeftDeclared : Source → (Known : Type 0) → (Own : ℕ → Type 0) → Expressions → (Indices : Type 0) → Option Entry → Holds → Type 0
 LeftDeclared s Known Own NoMore Indices (Some (entry.Procedure (Some type) k)) h = (held_by s type ≡ h) × Own k
 LeftDeclared s Known Own (Then e es) Indices (Some (entry.Procedure result k)) h = ⊥
-LeftDeclared s Known Own es Indices (Some e) h = LeftHeld Known es Indices (entry_holds s false (Some e)) h
+LeftDeclared s Known Own es Indices (Some e) h = LeftHeld Known es Indices (entry_names s (Some e)) h
 LeftDeclared s Known Own es Indices None h = ⊥
 
 -- what is seen through a connection is an attribute of an object, and no result
@@ -79,25 +72,9 @@ abbrev pub TextLeft : Source → ℕ → Expression → (own : Option ℕ) → T
 TextLeft s t e (Some block) = ResultIs s t block (Simply kind.Text)
 TextLeft s t e None = ExprIs s (In t) e (Simply kind.Text)
 
--- no procedure as a place
-abbrev pub PlaceDeclared : Source → (Known : Type 0) → Expressions → (Indices : Type 0) → Option Entry → Holds → Type 0
-PlaceDeclared s Known es Indices (Some (entry.Procedure result k)) h = ⊥
-PlaceDeclared s Known es Indices (Some e) h = LeftHeld Known es Indices (entry_holds s false (Some e)) h
-PlaceDeclared s Known es Indices None h = ⊥
-
-abbrev pub PlaceNamed : Source → ℕ → (connection : Option ℕ) → Option Denotation → Expressions → (Indices : Type 0) → Holds → Type 0
-PlaceNamed s t connection (Some (denotation.Declared d)) es Indices h = PlaceDeclared s (KnownAt s (In t) connection d) es Indices (entry_of s.tables d) h
-PlaceNamed s t connection _ es Indices h = ⊥
-
--- where a variable or an element lies that holds this
-abbrev pub PlaceIs : Source → ℕ → Expression → Holds → Type 0
-PlaceIs s t (syntax.Named name es) h = PlaceNamed s t (connection_at s name.token.0) (denoted s name.token.0) es (AreIntegers s (In t) es) h
-PlaceIs s t (syntax.Dot token a name es) h = LeftIs s t (syntax.Dot token a name es) h
-PlaceIs s t _ h = ⊥
-
 abbrev pub ReferenceAt : Source → ℕ → Expression → (own : Option ℕ) → (class : ℕ) → Type 0
 ReferenceAt s t e (Some block) c = ResultIs s t block (Refers c)
-ReferenceAt s t e None c = PlaceIs s t e (Refers c)
+ReferenceAt s t e None c = PlaceIs s (In t) e (Refers c)
 
 -- A reference that is assigned to: it has a qualification, and each value that is assigned is held against it.
 pub record ReferenceLeft (s : Source) (t : ℕ) (e : Expression) : Type 0 where
@@ -107,8 +84,8 @@ pub record ReferenceLeft (s : Source) (t : ℕ) (e : Expression) : Type 0 where
 
 abbrev pub LeftOf : (text : Bool) → Assignment → Source → ℕ → Expression → Kind → Type 0
 LeftOf true assignment.Value s t e k = (k ≡ kind.Text) × TextLeft s t e (result_meant s e)
-LeftOf true assignment.Reference s t e k = LeftIs s t e (Simply k)
-LeftOf false assignment.Value s t e k = LeftIs s t e (Simply k)
+LeftOf true assignment.Reference s t e k = (k ≡ kind.Reference → ⊥) × LeftIs s t e (Simply k)
+LeftOf false assignment.Value s t e k = (k ≡ kind.Reference → ⊥) × LeftIs s t e (Simply k)
 LeftOf false assignment.Reference s t e k = (k ≡ kind.Reference) × ReferenceLeft s t e
 
 -- left sides of a value of a kind
@@ -128,12 +105,15 @@ abbrev pub ElementsAre : Source → ℕ → Kind → List Element → Type 0
 ElementsAre s t k [] = Unit {0}
 ElementsAre s t k (e ∷ es) = ElementIs s t k e × ElementsAre s t k es
 
--- the variable of a `for` list, to which values of a kind are assigned by a sign
+-- the variable of a `for` list, to which values of a kind are assigned by a sign; no parameter by name
+abbrev pub ControlOf : (text : Bool) → Assignment → Source → ℕ → Expression → Kind → Type 0
+ControlOf true assignment.Value s t e k = (k ≡ kind.Text) × LeftIs s t e (Simply k)
+ControlOf true assignment.Reference s t e k = LeftIs s t e (Simply k)
+ControlOf false assignment.Value s t e k = LeftIs s t e (Simply k)
+ControlOf false assignment.Reference s t e k = (k ≡ kind.Reference) × ReferenceLeft s t e
+
 abbrev pub ControlIs : (text : Bool) → Assignment → Source → ℕ → Expression → Kind → Type 0
-ControlIs true assignment.Value s t e k = (k ≡ kind.Text) × LeftIs s t e (Simply k)
-ControlIs true assignment.Reference s t e k = LeftIs s t e (Simply k)
-ControlIs false assignment.Value s t e k = LeftIs s t e (Simply k)
-ControlIs false assignment.Reference s t e k = (k ≡ kind.Reference) × ReferenceLeft s t e
+ControlIs text sign s t e k = (by_name s e ≡ None) × ControlOf text sign s t e k
 
 -- ---- calls
 

@@ -1,5 +1,4 @@
--- Which programs are typed: what the static rules give, as far as a run rests on it. So far for programs without parameters by name and formal
--- procedures.
+-- Which programs are typed: what the static rules give, as far as a run rests on it. So far for programs without arrays by name and formal procedures.
 use Rattle.std.specs.Prelude.{◌≡◌, ◌<◌, ◌+◌, ℕ, suc, true, false, List, [], ◌∷◌, length, slice_get, Option, Some, None}
 use Rattle.sim_base.specs.declared.numbering.DeclNo.{DeclNo}
 use Rattle.sim_scope.specs.declared.scopes.Declaration.{Declaration}
@@ -18,6 +17,7 @@ use Rattle.sim_scope.specs.Tables.{Tables}
 use Rattle.sim_tree.specs.declared.expr.Identifier.{Identifier}
 use Rattle.sim_tree.specs.declared.stmt.TypeName.{TypeName}
 use Rattle.sim_tree.specs.Syntax.{Arrayed, Arrays, BoundPair, Declarations, DeclareClass, DeclareProcedure, Expressions, Heading, NoDeclaration, NoStatement, Statement, Statements, Variables, With}
+use Rattle.sim_values.specs.declared.kind.Kind.{Kind}
 use Rattle.sim_values.specs.declared.kind.Kind.TheVariants as kind
 use Rattle.sim_values.specs.declared.standard.Owner.{Owner}
 use Rattle.sim_values.specs.declared.standard.Owner.TheVariants as owner
@@ -34,7 +34,7 @@ use Rattle.sim_meaning.specs.Entries.{formals_of, numbers_of}
 use Rattle.sim_meaning.specs.Levels.{has_levels, is_class}
 use Rattle.sim_meaning.specs.Texts.{BlockText, ClassText, ConnectionText, PrefixedText, ProcedureText, StandardText, Text, constant_of, declared_at, is_class_free, kind_named, kind_of_type, text}
 use Rattle.sim_meaning.specs.Virtuals.{match_in_text}
-use Rattle.sim_sound.specs.Held.{Among, ArrayOf, FitsIn, Holds, InBound, IsFormal, IsOfKind, Place, Refers, Simply, entry_holds, formal_holds, given_by, held_by, result_holds}
+use Rattle.sim_sound.specs.Held.{Among, ArrayOf, ByName, FitsIn, Holds, InBound, IsFormal, IsOfKind, Place, Refers, Simply, entry_holds, formal_holds, given_by, held_by, result_holds}
 use Rattle.sim_sound.specs.Expressions.{ExprIs}
 use Rattle.sim_sound.specs.Statements.{StatementIs, StatementsAre}
 
@@ -147,6 +147,8 @@ pub record ClassTyped (s : Source) (k : ℕ) (ds : Declarations) (ss : Statement
   pub formals : FormalsAre s (class_formals s.tables k) (class_parameters s (Some k))
   pub parameters : (d : DeclNo) → Among d (numbers_of s k) → IsFormal (entry_of s.tables d) → Among d (class_formals s.tables k)
   pub different : Distinct (numbers_of s k)
+  -- none of its parameters is by name
+  pub not_by_name : (d : DeclNo) (kind : Kind) → Among d (numbers_of s k) → entry_holds s true (entry_of s.tables d) ≡ Some (ByName kind) → ⊥
   pub constants : (d : DeclNo) (type : SimType) → Among d (numbers_of s k) → entry_of s.tables d ≡ Some (entry.Constant type) → ConstantHas s d type
   pub arrays : ArraysTyped s (InBound k) ds
   pub distinct : Distinct (arrays_of_block s ds)

@@ -25,7 +25,7 @@ pub fn typed_programs_name_objects()
 {}
 
 /// There are typed programs: a `for` list, a procedure that calls itself, a sub-block with arrays, texts, an array by value, classes, one with a prefix,
-/// prefixed blocks, and a link that goes into a set. So no part of what is asked of a program speaks against another.
+/// prefixed blocks, a link that goes into a set, and a sum whose term is passed by name. So no part of what is asked of a program speaks against another.
 #[tactic(auto, using(crate::proofs::WorkedPrograms::worked_programs))]
 pub fn worked_programs_are_typed()
     ensures { WorkedPrograms }

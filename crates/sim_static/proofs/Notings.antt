@@ -35,28 +35,34 @@ use Rattle.sim_scope.specs.declared.types.Position.TheVariants.{ClassBody, Insid
 use Rattle.sim_scope.specs.Runs.{Runs, each, run}
 use Rattle.sim_scope.specs.Walk.{program_events, of_statement, of_branch, of_arm, of_block, of_whole, of_declaration}
 use Rattle.sim_scope.proofs.Walks.{runs_none, runs_one, leads_all, leads_next, leads_end, run_empty, run_block, run_block_of_class, run_body_of_class, run_prefixed, run_inner, run_call, run_assignment, run_if, run_while, run_for, run_for_reference, run_inspect, run_inspect_when, run_activation, run_some, run_no_branch, run_arm, run_compound, run_whole_block, run_whole, run_class_body, run_variables, run_arrays, run_procedure, run_class, run_program}
-use Rattle.sim_static.specs.UnbuiltForms.{HasUnbuiltForm, forms, has_code, has_unbuilt_form, is_by_name, is_name_part, is_of_procedure, is_of_procedure_part, is_of_procedures, is_procedure, names_code, note, yes}
+use Rattle.sim_static.specs.UnbuiltForms.{HasUnbuiltForm, forms, has_code, has_unbuilt_form, is_by_name, is_passed_by_name, is_unbuilt, is_unbuilt_kind, is_unbuilt_part, is_unbuilt_specifier, names_by_name, names_code, note, yes}
 
 -- ---- a heading
 
-same_modes : (l : List ModePart) → list_any is_by_name (map mode_syntax l) ≡ list_any is_name_part l
-same_modes [] = refl
-same_modes (m ∷ ms) = ap (λ z. is_name_part m || z) (same_modes ms)
+same_modes : (x : Identifier) (l : List ModePart) → is_by_name (map mode_syntax l) x ≡ is_passed_by_name l x
+same_modes x [] = refl
+same_modes x (m ∷ ms) = ap (λ z. names_by_name x m.mode m.names.items || z) (same_modes x ms)
 
-same_specifier : (x : Specifier) → is_procedure (specifier_syntax x) ≡ is_of_procedure x
-same_specifier (specifier.Simple t) = refl
-same_specifier (specifier.Array t i) = refl
-same_specifier (specifier.Procedure t i) = refl
+same_names : (l : List ModePart) (xs : List Identifier) → list_any (is_by_name (map mode_syntax l)) xs ≡ list_any (is_passed_by_name l) xs
+same_names l [] = refl
+same_names l (x ∷ xs) = ap (λ z. z || list_any (is_by_name (map mode_syntax l)) xs) (same_modes x l) ∙ ap (λ z. is_passed_by_name l x || z) (same_names l xs)
 
-same_specifications : (l : List Specification) → list_any is_of_procedures (map specification_syntax l) ≡ list_any is_of_procedure_part l
-same_specifications [] = refl
-same_specifications (x ∷ xs) =
-    ap (λ z. z || list_any is_of_procedures (map specification_syntax xs)) (same_specifier x.specifier) ∙ ap (λ z. is_of_procedure_part x || z) (same_specifications xs)
+same_specifier : (x : Specifier) (b : Bool) → is_unbuilt_kind (specifier_syntax x) b ≡ is_unbuilt_specifier x b
+same_specifier (specifier.Simple t) b = refl
+same_specifier (specifier.Array t i) b = refl
+same_specifier (specifier.Procedure t i) b = refl
+
+same_specification : (l : List ModePart) (x : Specification) → is_unbuilt (map mode_syntax l) (specification_syntax x) ≡ is_unbuilt_part l x
+same_specification l x = ap (is_unbuilt_kind (specifier_syntax x.specifier)) (same_names l x.names.items) ∙ same_specifier x.specifier (list_any (is_passed_by_name l) x.names.items)
+
+same_specifications : (l : List ModePart) (xs : List Specification) → list_any (is_unbuilt (map mode_syntax l)) (map specification_syntax xs) ≡ list_any (is_unbuilt_part l) xs
+same_specifications l [] = refl
+same_specifications l (x ∷ xs) =
+    ap (λ z. z || list_any (is_unbuilt (map mode_syntax l)) (map specification_syntax xs)) (same_specification l x) ∙ ap (λ z. is_unbuilt_part l x || z) (same_specifications l xs)
 
 same_heading : (name : Identifier) (formals : List Identifier) (modes : List ModePart) (specifications : List Specification) → has_code (heading_syntax name formals modes specifications) ≡ names_code modes specifications
 unfolding names_code
-same_heading name formals modes specifications =
-    ap (λ z. z || list_any is_of_procedures (map specification_syntax specifications)) (same_modes modes) ∙ ap (λ z. list_any is_name_part modes || z) (same_specifications specifications)
+same_heading name formals modes specifications = same_specifications modes specifications
 
 -- one procedure more
 heading : (b m : Bool) (name : Identifier) (formals : List Identifier) (modes ms : List ModePart) (specifications xs : List Specification) → ms ≡ modes → xs ≡ specifications

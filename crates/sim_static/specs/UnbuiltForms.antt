@@ -1,7 +1,9 @@
--- Which programs have a form that is not built: a parameter by name, and a procedure as a parameter. As long as these are not built, `run` refuses
--- such a program before any rule on names and types.
-use Rattle.std.specs.Prelude.{◌≡◌, Bool, true, false, ◌||◌, List, [], ◌∷◌}
+-- Which programs have a form that is not built: an array as a parameter by name, and a procedure as a parameter. As long as these are not built, `run`
+-- refuses such a program before any rule on names and types.
+use Rattle.std.specs.Prelude.{◌≡◌, Bool, true, false, ◌&&◌, ◌||◌, List, [], ◌∷◌}
 use Rattle.std.specs.List.{list_any}
+use Rattle.std.specs.Str.{bytes_eq}
+use Rattle.sim_tree.specs.declared.expr.Identifier.{Identifier}
 use Rattle.sim_tree.specs.declared.program.Program.{Program as Tree}
 use Rattle.sim_tree.specs.declared.stmt.Mode.{Mode}
 use Rattle.sim_tree.specs.declared.stmt.Mode.TheVariants as mode
@@ -18,20 +20,27 @@ abbrev pub is_name : Mode → Bool
 is_name mode.Name = true
 is_name mode.Value = false
 
-abbrev pub is_by_name : Moded → Bool
-is_by_name m = is_name m.mode
+-- whether a parameter is among those that a part of a heading passes in a mode, and that by name
+abbrev pub is_same : Identifier → Identifier → Bool
+is_same x y = bytes_eq x.name y.name
 
-abbrev pub is_procedure : Specified → Bool
-is_procedure (Simple t) = false
-is_procedure (Array t i) = false
-is_procedure (Procedure t i) = true
+abbrev pub names_by_name : Identifier → Mode → List Identifier → Bool
+names_by_name x m names = is_name m && list_any (is_same x) names
 
-abbrev pub is_of_procedures : Specification → Bool
-is_of_procedures x = is_procedure x.kind
+abbrev pub is_by_name : List Moded → Identifier → Bool
+is_by_name modes x = list_any (λ m. names_by_name x m.mode m.names) modes
 
--- a heading names a parameter by name, or specifies one as a procedure
+abbrev pub is_unbuilt_kind : Specified → (some_by_name : Bool) → Bool
+is_unbuilt_kind (Simple t) some_by_name = false
+is_unbuilt_kind (Array t i) some_by_name = some_by_name
+is_unbuilt_kind (Procedure t i) some_by_name = true
+
+abbrev pub is_unbuilt : List Moded → Specification → Bool
+is_unbuilt modes x = is_unbuilt_kind x.kind (list_any (is_by_name modes) x.names)
+
+-- a heading specifies a parameter as an array that it passes by name, or as a procedure
 abbrev pub has_code : Heading → Bool
-has_code h = list_any is_by_name h.modes || list_any is_of_procedures h.specifications
+has_code h = list_any (is_unbuilt h.modes) h.specifications
 
 -- in the order of the text: of each procedure and each class whether it has such a parameter
 abbrev pub forms : Visit Bool
@@ -76,16 +85,16 @@ unfoldable pub HasUnbuiltForm : Tree → Bool → Type 0
 HasUnbuiltForm tree answer = answer ≡ has_unbuilt_form (program_syntax tree)
 
 -- the same of the parts of a heading in a tree
-abbrev pub is_name_part : ModePart → Bool
-is_name_part m = is_name m.mode
+abbrev pub is_passed_by_name : List ModePart → Identifier → Bool
+is_passed_by_name modes x = list_any (λ m. names_by_name x m.mode m.names.items) modes
 
-abbrev pub is_of_procedure : Specifier → Bool
-is_of_procedure (specifier.Simple t) = false
-is_of_procedure (specifier.Array t i) = false
-is_of_procedure (specifier.Procedure t i) = true
+abbrev pub is_unbuilt_specifier : Specifier → (some_by_name : Bool) → Bool
+is_unbuilt_specifier (specifier.Simple t) some_by_name = false
+is_unbuilt_specifier (specifier.Array t i) some_by_name = some_by_name
+is_unbuilt_specifier (specifier.Procedure t i) some_by_name = true
 
-abbrev pub is_of_procedure_part : SpecificationTree → Bool
-is_of_procedure_part x = is_of_procedure x.specifier
+abbrev pub is_unbuilt_part : List ModePart → SpecificationTree → Bool
+is_unbuilt_part modes x = is_unbuilt_specifier x.specifier (list_any (is_passed_by_name modes) x.names.items)
 
 unfoldable pub names_code : List ModePart → List SpecificationTree → Bool
-names_code modes specifications = list_any is_name_part modes || list_any is_of_procedure_part specifications
+names_code modes specifications = list_any (is_unbuilt_part modes) specifications

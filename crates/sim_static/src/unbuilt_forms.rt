@@ -1,15 +1,17 @@
-//! Programs with a form that is not built: parameters by name and of procedures.
+//! Programs with a form that is not built: arrays as parameters by name, and procedures as parameters.
 ghost use Rattle.std.specs.Prelude.{◌≡◌, ◌||◌};
 ghost use Rattle.std.specs.List.{list_any};
 ghost use Rattle.sim_scope.specs.Runs.{each};
 ghost use Rattle.sim_scope.specs.Walk.{of_arm, of_block, of_branch, of_class_body, of_declaration, of_statement, of_whole};
-ghost use Rattle.sim_static.specs.UnbuiltForms.{HasUnbuiltForm, Notes, forms, is_name, is_name_part, is_of_procedure, is_of_procedure_part, names_code};
+ghost use Rattle.sim_static.specs.UnbuiltForms.{HasUnbuiltForm, Notes, forms, is_name as is_name_mode, is_passed_by_name, is_same as is_same_of, is_unbuilt_part, names_by_name, names_code};
 
 use sim_scope::Position;
-use sim_tree::{Block, Decl, Mode, ModePart, Program, Specification, Specifier, Stmt, When};
+use sim_tree::{
+    Block, Decl, Identifier, Mode, ModePart, Program, Specification, Specifier, Stmt, When,
+};
 
 fn is_name(mode: Mode) -> bool
-    ensures { result ≡ is_name mode }
+    ensures { result ≡ is_name_mode mode }
 {
     match mode {
         Mode::Name => true,
@@ -17,36 +19,62 @@ fn is_name(mode: Mode) -> bool
     }
 }
 
-fn is_of_procedure(specifier: &Specifier) -> bool
-    ensures { result ≡ is_of_procedure specifier.now }
+fn is_same(left: &Identifier, right: &Identifier) -> bool
+    ensures { result ≡ is_same_of left.now right.now }
 {
-    match specifier {
+    left.name.as_bytes() == right.name.as_bytes()
+}
+
+/// Whether a parameter is among these.
+fn is_among(name: &Identifier, names: &[Identifier]) -> bool
+    ensures { result ≡ list_any (is_same_of name.now) names.now }
+{
+    names.iter().any(|other| is_same(name, other))
+}
+
+/// Whether a part of a heading passes a parameter by name.
+fn passes_by_name(name: &Identifier, part: &ModePart) -> bool
+    ensures { result ≡ names_by_name name.now part.now.mode part.now.names.items }
+{
+    if is_name(part.mode) {
+        return is_among(name, &part.names);
+    }
+    false
+}
+
+/// Whether a parameter is passed by name.
+fn is_by_name(modes: &[ModePart], name: &Identifier) -> bool
+    ensures { result ≡ is_passed_by_name modes.now name.now }
+{
+    modes.iter().any(|part| passes_by_name(name, part))
+}
+
+/// Whether one of some parameters is passed by name.
+fn has_name(modes: &[ModePart], names: &[Identifier]) -> bool
+    ensures { result ≡ list_any (is_passed_by_name modes.now) names.now }
+{
+    names.iter().any(|name| is_by_name(modes, name))
+}
+
+/// Whether parameters are arrays, one of which is passed by name, or procedures.
+fn is_unbuilt(modes: &[ModePart], specification: &Specification) -> bool
+    ensures { result ≡ is_unbuilt_part modes.now specification.now }
+{
+    match &specification.specifier {
         Specifier::Simple(_) => false,
-        Specifier::Array { .. } => false,
+        Specifier::Array { .. } => has_name(modes, &specification.names),
         Specifier::Procedure { .. } => true,
     }
 }
 
-fn has_names(modes: &[ModePart]) -> bool
-    ensures { result ≡ list_any is_name_part modes.now }
-{
-    modes.iter().any(|part| is_name(part.mode))
-}
-
-fn has_procedures(specifications: &[Specification]) -> bool
-    ensures { result ≡ list_any is_of_procedure_part specifications.now }
-{
-    specifications
-        .iter()
-        .any(|part| is_of_procedure(&part.specifier))
-}
-
-/// Whether a heading has a parameter by name or a procedure as a parameter.
+/// Whether a heading has an array by name or a procedure as a parameter.
 #[tactic(auto, unfolding(crate::specs::UnbuiltForms::names_code))]
 fn names_code(modes: &[ModePart], specifications: &[Specification]) -> bool
     ensures { result ≡ names_code modes.now specifications.now }
 {
-    has_names(modes) || has_procedures(specifications)
+    specifications
+        .iter()
+        .any(|specification| is_unbuilt(modes, specification))
 }
 
 /// Whether one was met, behind one place more.
@@ -203,7 +231,7 @@ fn declaration(met: bool, decl: &Decl) -> bool
     }
 }
 
-/// Whether a program has a parameter by name or a procedure as a parameter, wherever it stands.
+/// Whether a program has an array by name or a procedure as a parameter, wherever it stands.
 #[tactic(auto, using(crate::proofs::Notings::unbuilt))]
 pub fn has_unbuilt_form(program: &Program) -> bool
     ensures { HasUnbuiltForm program.now result }

@@ -136,6 +136,6 @@ returns-clause-row c line below now before o m s =
     (paid ∙ c.in-Some-take_words.ensures.row l line o then budget s.stores.world.words
     ∙ ap (λ v. on o2 m (activation_at r stack) (v ∷ values_of at stack) (below_of below)) value
     ∙ ap (λ st. on o2 m (activation_at r stack) st (below_of below)) (put_at r.depth at stack slot d c.requires.fits))
-    (depth_goes_on l line p2 below before now r _ stack (set stack at slot) o2 m r.depth s2 (length-set stack at slot) (refl, refl) refl refl
+    (depth_goes_on l line p2 below before now r _ stack (set stack at slot) o2 m r.depth s2 (length-set stack at slot) (refl, refl, refl) refl refl
     (lead_put p.frames.items m stack at slot inside s.top.slots (lead_push p.frames.items m slot c.array.ensures.no_frame))
     (lead_arrays_put c.copy.new.self.regions list stack at slot inside s2.top.arrays_lead (c.array.ensures.leads c.copy.new.self.regions list (c.in-Ok.ensures.here o.arrays x holds))))

@@ -56,5 +56,5 @@ returns-clause-row c l line p below now e1 e2 e3 e4 before o m s =
     along l line p below before now _ _ _ _ _
     (c.in-Some.ensures.row o go ∙ fetched_some o m (F (values_of at stack)) (place_in (value_of (slot_at stack at))) (value_of slot) (c.in-Some-value_at.ensures.value o m now.source h ha ports lead lead2)
     ∙ ap (λ st. on o m (activation_at c.args.regs.now stack) st (below_of below)) (put_at c.args.regs.now.depth at stack slot d c.requires.fits))
-    (depth_goes_on l line p below before now c.args.regs.now _ stack (set stack at slot) o m c.args.regs.now.depth s (length-set stack at slot) (refl, refl) refl refl
+    (depth_goes_on l line p below before now c.args.regs.now _ stack (set stack at slot) o m c.args.regs.now.depth s (length-set stack at slot) (refl, refl, refl) refl refl
     (lead_put p.frames.items m stack at slot below_length s.top.slots here) (lead_arrays_put p.arrays.regions o.arrays stack at slot below_length s.top.arrays_lead here2))

@@ -71,4 +71,4 @@ returns-then-keep-clause-row c l line p p2 below now e ep before o m s =
     let p3 : Storage = record p { arrays = c.keep.new.self } in
     subst (λ x. Leaves flow.On l line x (record r { pc = r.pc + 1 }) stack below before now (popping (values_of r.depth stack) o go)) (sym ep)
     (along l line p3 below before now _ _ _ _ _ (begun ∙ having_some (kept_world o array.stamp) k.world o K (sym k.there) ∙ ap (λ st. on k.world m (activation_at r stack) st (below_of below)) (top_at r.depth at stack c.in-Some.ensures.shallower c.requires.fits))
-    (depth_goes_on l line p3 below before now r _ stack stack k.world m r.depth k.stands refl (refl, refl) refl refl k.stands.top.slots k.stands.top.arrays_lead))
+    (depth_goes_on l line p3 below before now r _ stack stack k.world m r.depth k.stands refl (refl, refl, refl) refl refl k.stands.top.slots k.stands.top.arrays_lead))

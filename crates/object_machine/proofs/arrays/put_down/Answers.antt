@@ -12,7 +12,7 @@ returns-in-Done-clause-row c l line stack below before now o m s la lv =
     let K : World → Frames → Run Machine = λ w m2. on w m2 (activation_at r stack) (values_of c.args.at stack) (below_of below) in
     let placed = c.in-Done.ensures.row l r stack below before now o m s la lv in
     along l line c.place.new.storage below before now _ _ _ _ _ (placed.is K)
-    (depth_goes_on l line c.place.new.storage below before now r _ stack stack placed.world placed.memory c.args.at placed.stands refl (refl, refl) refl refl placed.stands.top.slots placed.stands.top.arrays_lead)
+    (depth_goes_on l line c.place.new.storage below before now r _ stack stack placed.world placed.memory c.args.at placed.stands refl (refl, refl, refl) refl refl placed.stands.top.slots placed.stands.top.arrays_lead)
 
 pub returns-in-NoRule-clause-row : goal.returns-in-NoRule-clause-row
 returns-in-NoRule-clause-row c l line stack below before now o m s la lv =

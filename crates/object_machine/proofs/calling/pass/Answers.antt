@@ -39,6 +39,6 @@ returns-clause-row c l line before now p o m k b g parent cells ef h w others is
     let opens3 : OpensWith l p p3 k b g parent cells c.args.next before now o o2 m = subst (λ x. OpensWith l p p3 k b g parent cells c.args.next before now o x m) same
     (handed l p p2 p3 k b g parent cells c.args.next before now o m opens c.args.next.registers.home.stamp (arrays_by_value c.args.formals.now (values_from c.deref-2.result.now at count)) refl refl refl refl refl refl refl refl refl refl
     (c.hand_over.ensures.holds o opens.stores.arrays lead) (c.hand_over.ensures.leads o opens.stores.arrays lead) (c.hand_over.ensures.elements p2.frames.items (opened_with m k b g parent cells) opens.stores.elements)) in
-    let r2 : Registers = record { home = t.registers.home; pc = t.registers.pc; depth = c.args.actuals.under; stage = t.registers.stage } in
+    let r2 : Registers = record { thunk = t.registers.thunk; home = t.registers.home; pc = t.registers.pc; depth = c.args.actuals.under; stage = t.registers.stage } in
     let w2 : AtWork p o m r2 stack = record { home = w.home; slots = w.slots; arrays_lead = w.arrays_lead } in
     covered_by l line p p3 k b g parent cells c.args.next r2 stack c.args.below.now.items c.cover.new.top c.cover.new.below.items before now o o2 m opens3 (opens3.others r2 stack w2) others c.cover.result c.cover.ensures.row

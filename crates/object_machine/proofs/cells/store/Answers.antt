@@ -61,7 +61,7 @@ returns-then-hold_in-clause-row c l line p p2 below now same e e2 e3 before o m 
     (subst (λ f. HoldsAfter true f p2.cells.items q) (sym e) (subst (λ x. HoldsAfter true c.args.frames.now x q) (sym e3) after))
     (λ f lf. subst (λ w. LeadsAfter w q f) (sym e) (c.hold_in.ensures.leads c.args.frames.now m v f (subst (λ w. Leads w m f) e lf)))
     (subst (λ x. AllLeadArrays p.arrays.regions o.arrays x) (sym e3) (c.hold_in.ensures.arrays p.arrays.regions o.arrays (subst (λ x. AllLeadArrays p.arrays.regions o.arrays x) e2 s.stores.cells) (s.top.arrays_lead c.in-Some.at)))
-    s (refl, refl) refl refl)
+    s (refl, refl, refl) refl refl)
 
 pub returns-clause-row : goal.returns-clause-row
 unfolding Obeys

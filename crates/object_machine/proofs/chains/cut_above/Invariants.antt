@@ -5,8 +5,8 @@ use Rattle.object_machine.specs.Standing.{AllFit}
 use Rattle.object_machine.specs.Transferring.{frame_of, operating}
 use Rattle.object_machine.proofs.chains.cut_above.Given as goal
 
-abbrev pub invariant-loop-top : goal.invariant-loop-top
-invariant-loop-top l = record {
+abbrev pub invariant-loop-below : goal.invariant-loop-below
+invariant-loop-below l = record {
   fits : l.top.registers.depth ≤ length l.top.stack.items;
   others : AllFit l.below.items;
   apart : AllFit l.above.items;
@@ -14,5 +14,5 @@ invariant-loop-top l = record {
   none : stands_on frame_of l.instance l.above.items ≡ false;
 }
 
-abbrev pub decreases-loop-top : goal.decreases-loop-top
-decreases-loop-top l = length l.below.items
+abbrev pub decreases-loop-below : goal.decreases-loop-below
+decreases-loop-below l = length l.below.items

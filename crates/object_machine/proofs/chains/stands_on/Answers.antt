@@ -1,13 +1,15 @@
 use Rattle.std.proofs.Common.{rules, ◌≡◌, ◌-◌, sym, refl, arith}
-use Rattle.std.specs.Prelude.{true, false, ◌==◌, slice_index_or}
+use Rattle.std.specs.Prelude.{true, false, slice_index_or}
+use Rattle.sim_chains.specs.Chains.{is_instance}
+use Rattle.object_machine.specs.Transferring.{frame_of}
 use Rattle.object_machine.proofs.Cutting.{got, none_from, stands_below, stands_nowhere}
 use Rattle.object_machine.proofs.chains.stands_on.Goals as goal
 
-pub returns-then-below-at : goal.returns-then-below-at
-returns-then-below-at c =
+pub returns-then-is_frame_of-2 : goal.returns-then-is_frame_of-2
+returns-then-is_frame_of-2 c =
     let at = c.loop-at.at - 1 in
     let t = slice_index_or c.args.below.now at c.index-below-at.result in
-    let own : (t.registers.home.stamp == c.args.instance) ≡ true = search rules in
+    let own : is_instance c.args.instance (frame_of t) ≡ true = search rules in
     let more = c.loop-at-test.true in
     let within = c.loop-at.invariant.within in
     sym (stands_below c.args.instance c.args.top.now c.args.below.now at t (got c.args.below.now at c.index-below-at.result (omega (arith, more, within))) own)
@@ -15,7 +17,7 @@ returns-then-below-at c =
 pub loop-at-preserved : goal.loop-at-preserved
 loop-at-preserved c =
     let at = c.loop-at.at - 1 in
-    let other : ((slice_index_or c.args.below.now at c.index-below-at.result).registers.home.stamp == c.args.instance) ≡ false = search rules in
+    let other : is_instance c.args.instance (frame_of (slice_index_or c.args.below.now at c.index-below-at.result)) ≡ false = search rules in
     let more = c.loop-at-test.true in
     let within = c.loop-at.invariant.within in
     record {
@@ -25,6 +27,6 @@ loop-at-preserved c =
 
 pub returns : goal.returns
 returns c =
-    let other : (c.args.top.now.registers.home.stamp == c.args.instance) ≡ false = search rules in
+    let other : is_instance c.args.instance (frame_of c.args.top.now) ≡ false = search rules in
     let done = c.loop-at-test.false in
     sym (stands_nowhere c.args.instance c.args.top.now c.args.below.now other (λ k t there. c.loop-at.invariant.none k t (omega (arith, done)) there))

@@ -20,4 +20,4 @@ returns-clause-row c code l line p stack below now e before o m s =
     let ex : to_z w64 (of_z w64 c.args.operand) ≡ c.args.operand = search rules in
     let go : ℕ → Run Machine = λ q. at o m (activation_at c.args.regs.now stack) q (values_of c.args.regs.now.depth stack) (below_of below) in
     along l line p below before now _ _ stack _ _ (ap (λ z. jumping code c.args.regs.now.pc z o go) (sym ex) ∙ c.in-Some.ensures.row code o go e)
-    (jumps_on l line p below before now _ stack _ (goes_on l line p below before now c.args.regs.now _ stack stack o m _ _ _ s (refl, refl) s.top.slots s.top.arrays_lead refl refl refl))
+    (jumps_on l line p below before now _ stack _ (goes_on l line p below before now c.args.regs.now _ stack stack o m _ _ _ s (refl, refl, refl) s.top.slots s.top.arrays_lead refl refl refl))

@@ -2,7 +2,7 @@ use Rattle.std.proofs.Common.{subst}
 use Rattle.object_machine.specs.Running.{Stops, StopsAtRead}
 use Rattle.object_machine.specs.Standing.{outside}
 use Rattle.object_machine.specs.Named.{InputEnds}
-use Rattle.object_machine.proofs.Closings.{cut_before, broken_jump, broken_off, broken_on, broken_write, fault_closing, normal_closing, ticks_closing, words_closing}
+use Rattle.object_machine.proofs.Closings.{cut_before, broken_jump, broken_off, broken_on, broken_write, fault_at_closing, fault_closing, normal_closing, ticks_closing, words_closing}
 use Rattle.object_machine.proofs.Whole.{input_answers}
 use Rattle.object_machine.proofs.ending.answer.Goals as goal
 
@@ -25,6 +25,11 @@ pub returns-in-Fault-clause-ran : goal.returns-in-Fault-clause-ran
 returns-in-Fault-clause-ran g c code from r stack below before source faults faults_now s =
     c.closed-in-Fault.ensures.ran code c.args.limits.now from before source faults faults_now
     (fault_closing code c.args.limits.now from c.args.stop.line.0 c.args.stop.at c.args.storage.now r stack below before _ faults faults_now c.in-Fault.error (subst (λ f. Stops code c.args.limits.now from f c.args.stop.line.0 c.args.stop.at c.args.storage.now r stack below before (outside (g.O.Sink.written c.args.out.now) source)) c.in-Fault.is s.stops))
+
+pub returns-in-FaultAt-clause-ran : goal.returns-in-FaultAt-clause-ran
+returns-in-FaultAt-clause-ran g c code from r stack below before source faults faults_now s =
+    c.closed-in-FaultAt.ensures.ran code c.args.limits.now from before source faults faults_now
+    (fault_at_closing code c.args.limits.now from c.args.stop.line.0 c.args.stop.at c.args.storage.now r stack below before _ faults faults_now c.in-FaultAt.error c.in-FaultAt.line (subst (λ f. Stops code c.args.limits.now from f c.args.stop.line.0 c.args.stop.at c.args.storage.now r stack below before (outside (g.O.Sink.written c.args.out.now) source)) c.in-FaultAt.is s.stops))
 
 pub returns-in-NoRule-clause-ran : goal.returns-in-NoRule-clause-ran
 returns-in-NoRule-clause-ran g c code from r stack below before source faults faults_now s =
@@ -56,6 +61,9 @@ returns-in-Exhausted-clause-input g c before now h = c.closed-in-Exhausted.ensur
 
 pub returns-in-Fault-clause-input : goal.returns-in-Fault-clause-input
 returns-in-Fault-clause-input g c before now h = c.closed-in-Fault.ensures.input before now (subst (λ f. InputEnds before now f) c.in-Fault.is h)
+
+pub returns-in-FaultAt-clause-input : goal.returns-in-FaultAt-clause-input
+returns-in-FaultAt-clause-input g c before now h = c.closed-in-FaultAt.ensures.input before now (subst (λ f. InputEnds before now f) c.in-FaultAt.is h)
 
 pub returns-in-NoRule-clause-input : goal.returns-in-NoRule-clause-input
 returns-in-NoRule-clause-input g c before now h = input_answers before now _ c.without_rule.ensures.read (subst (λ f. InputEnds before now f) c.in-NoRule.is h)

@@ -173,6 +173,6 @@ returns-clause-row c code line now eb ei ec before o m s =
     ap (λ v. pushing (length stack) (values_of x.actuals.under stack) v o go) (sym object) ∙ ap (λ z. pushing (length z) (values_of x.actuals.under z) (value_of c.object.result) o go) (sym deref) ∙ c.in-Some-push.ensures.row o go in
     let top = c.cover.new.top in
     let f = c.cover.result in
-    along l line p4 c.cover.new.below.items before now f top.registers top.stack.items _ _ (ready.is ∙ row ∙ pays.0 _ ∙ ap (λ n. in_object o4 m x.block b x.start x.actuals.parent.stamp ready.cells (act t.registers.home.stamp (suc t.registers.pc) (values_of c.in-Some-push.depth pushed) n t.registers.stage ∷ under)) (sym long))
+    along l line p4 c.cover.new.below.items before now f top.registers top.stack.items _ _ (ready.is ∙ row ∙ pays.0 _ ∙ ap (λ n. in_object o4 m x.block b x.start x.actuals.parent.stamp ready.cells (act t.registers.thunk t.registers.home.stamp (suc t.registers.pc) (values_of c.in-Some-push.depth pushed) n t.registers.stage ∷ under)) (sym long))
     (covered_by l line p1 p4 x.block b g (Some x.actuals.parent) ready.cells next r2 pushed c.args.below.now.items top c.cover.new.below.items before now world o4 m joined w2 others f
     (subst (λ z. Covers f next r2 z c.args.below.now.items top c.cover.new.below.items) items c.cover.ensures.row))

@@ -7,7 +7,7 @@ abbrev pub invariant-loop-at : goal.invariant-loop-at
 invariant-loop-at l = record {
   within : l.at ≤ length l.below;
   stacks : rooms l.frames ≡ rooms l.fn.frames;
-  kept : KeptDown l.fn.frames l.frames l.fn.home l.below l.at;
+  kept : KeptDown l.fn.frames l.frames l.fn.top l.below l.at;
 }
 
 abbrev pub decreases-loop-at : goal.decreases-loop-at

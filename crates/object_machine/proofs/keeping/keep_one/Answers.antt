@@ -1,10 +1,8 @@
-use Rattle.std.proofs.Common.{rules, ◌≡◌, true}
-use Rattle.frame_arena.specs.Frames.{frame_at}
-use Rattle.object_machine.proofs.KeptFrames.{one_kept}
+use Rattle.object_machine.proofs.KeptFrames.{frame_kept, thunk_passed}
 use Rattle.object_machine.proofs.keeping.keep_one.Goals as goal
 
-pub returns-clause-row : goal.returns-clause-row
-returns-clause-row c cells m holds =
-    let fs = c.args.frames.now in
-    let passing : (frame_at fs c.in-Some.place).passing ≡ true = search rules in
-    one_kept fs c.keep.new.frames cells m c.in-Some.place c.args.home.stamp c.in-Some.ensures.there holds passing (c.keep.ensures.holds cells m holds) (λ r led. c.keep.ensures.leads cells m r holds led) c.keep.ensures.chains
+pub returns-in-Some-clause-row : goal.returns-in-Some-clause-row
+returns-in-Some-clause-row c cells m holds = thunk_passed c.args.frames.now cells m c.args.regs c.in-Some.field-0 c.in-Some.is holds
+
+pub returns-in-None-clause-row : goal.returns-in-None-clause-row
+returns-in-None-clause-row c cells m holds = frame_kept c.keep_frame.result c.args.frames.now c.keep_frame.new.frames cells m c.args.regs c.in-None.is (c.keep_frame.ensures.row cells m holds)

@@ -50,6 +50,6 @@ returns-clause-row c l line b before now o m cells s led =
     subst (λ e. Leaves flow.On l line p2 e.registers e.stack.items rest before now (leaving b (below_of c.args.below.now.items) v t.registers.home.stamp o m)) (sym c.replace-ended.ensures.after)
     (subst (λ x. Leaves flow.On l line p2 c.put.new.regs x rest before now (leaving b (below_of c.args.below.now.items) v t.registers.home.stamp o m)) (sym (with_items_is next.stack c.put.new.stack (search (rules, places))))
     (becomes_top l line p p2 b t.registers t.stack.items c.args.below.now.items rest before now o m v s next c.in-Some.ensures.items c.put.new.regs c.put.new.stack
-    (subst (λ e. Ends l p p2 b e.registers.home.stamp before now o m) c.replace-ended.ensures.value (c.give.ensures.row l b before now o m cells s.stores)) (c.put.ensures.home, c.put.ensures.stage) c.put.ensures.place (subst (λ x. length c.put.new.stack ≡ length x) same c.put.ensures.long)
+    (subst (λ e. Ends l p p2 b e.registers.home.stamp before now o m) c.replace-ended.ensures.value (c.give.ensures.row l b before now o m cells s.stores)) (c.put.ensures.home, c.put.ensures.stage, c.put.ensures.thunk) c.put.ensures.place (subst (λ x. length c.put.new.stack ≡ length x) same c.put.ensures.long)
     (c.put.ensures.leads p.frames.items m p.arrays.regions o.arrays (subst (λ x. AllLead p.frames.items m x) (sym same) works.slots) led)
     (c.put.ensures.leads_arrays p.frames.items m p.arrays.regions o.arrays (subst (λ x. AllLeadArrays p.arrays.regions o.arrays x) (sym same) works.arrays_lead) led) row))

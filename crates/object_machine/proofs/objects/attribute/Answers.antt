@@ -72,7 +72,7 @@ returns-else-object-clause-row c l line p below now before o m s =
     along l line p below before now _ _ _ _ _
     (found ∙ having_some (number c.args.cell) c.in-Some-index.number o (put object.stamp rest) (c.in-Some-index.ensures ∙ ap number en)
     ∙ ap (λ k. put object.stamp rest k) n ∙ ap (λ w. K (w ∷ rest)) (sym c.cell.ensures.value) ∙ ap K (put_at r.depth at stack slot d c.requires.fits))
-    (depth_goes_on l line p below before now r _ stack (set stack at slot) o m r.depth s (length-set stack at slot) (refl, refl) refl refl
+    (depth_goes_on l line p below before now r _ stack (set stack at slot) o m r.depth s (length-set stack at slot) (refl, refl, refl) refl refl
     (lead_put p.frames.items m stack at slot inside s.top.slots (c.cell.ensures.leads p.frames.items m leads))
     (lead_arrays_put p.arrays.regions o.arrays stack at slot inside s.top.arrays_lead (λ names. absurd (off (sym c.cell.ensures.no_array ∙ names)))))
 

@@ -33,7 +33,7 @@ returns-in-Object-clause-row c l line p below now before o m s =
     let begun = popping_reference line (values_of r.depth stack) o go ∙ c.in-Some.ensures.row o (reference_of line o go) ∙ reference_popped line o go c.reference_in.result v rest c.reference_in.ensures.is in
     along l line p below before now _ _ _ _ _
     (begun ∙ ap (λ q. with_named q line o (λ v. go v rest)) c.in-Object.is ∙ object_kept K c.reference_in.result _ v rest c.reference_in.ensures.is c.in-Object.is ∙ ap K (top_at r.depth at stack c.in-Some.ensures.shallower c.requires.fits))
-    (depth_goes_on l line p below before now r _ stack stack o m r.depth s refl (refl, refl) refl refl s.top.slots s.top.arrays_lead)
+    (depth_goes_on l line p below before now r _ stack stack o m r.depth s refl (refl, refl, refl) refl refl s.top.slots s.top.arrays_lead)
 
 pub returns-in-Main-clause-row : goal.returns-in-Main-clause-row
 unfolding Obeys
@@ -48,7 +48,7 @@ returns-in-Main-clause-row c l line p below now before o m s =
     let begun = popping_reference line (values_of r.depth stack) o go ∙ c.in-Some.ensures.row o (reference_of line o go) ∙ reference_popped line o go c.reference_in.result v rest c.reference_in.ensures.is in
     along l line p below before now _ _ _ _ _
     (begun ∙ ap (λ q. with_named q line o (λ v. go v rest)) c.in-Main.is ∙ main_kept K c.reference_in.result _ v rest c.reference_in.ensures.is c.in-Main.is ∙ ap K (top_at r.depth at stack c.in-Some.ensures.shallower c.requires.fits))
-    (depth_goes_on l line p below before now r _ stack stack o m r.depth s refl (refl, refl) refl refl s.top.slots s.top.arrays_lead)
+    (depth_goes_on l line p below before now r _ stack stack o m r.depth s refl (refl, refl, refl) refl refl s.top.slots s.top.arrays_lead)
 
 pub returns-in-IsNone-clause-row : goal.returns-in-IsNone-clause-row
 unfolding Obeys

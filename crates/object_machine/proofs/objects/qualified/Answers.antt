@@ -10,7 +10,7 @@ unfolding Obeys
 returns-in-Some-true-clause-row c l line p stack below now before o m s =
     let r = c.args.regs.now in
     along l line p below before now _ _ _ _ _ (qualified_inside line c.args.inside c.in-Some-true.field-0 o _ (sym c.in-Some-true.is) c.in-Some-true.field-0-test)
-    (depth_goes_on l line p below before now r _ stack stack o m r.depth s refl (refl, refl) refl refl s.top.slots s.top.arrays_lead)
+    (depth_goes_on l line p below before now r _ stack stack o m r.depth s refl (refl, refl, refl) refl refl s.top.slots s.top.arrays_lead)
 
 pub returns-in-Some-false-clause-row : goal.returns-in-Some-false-clause-row
 unfolding Obeys

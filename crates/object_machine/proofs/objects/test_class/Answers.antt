@@ -84,6 +84,6 @@ returns-clause-row c code l line p below now e1 e2 e3 before o m s =
     along l line p below before now _ _ _ _ _
     (popped ∙ having_some (tested (F k) (plain v)) holds o (λ b. T b rest) (c.in-Some-test.ensures.row code p.cells.items m e1 e2 h led)
     ∙ ap (λ w. on o m (activation_at r stack) (w ∷ rest) (below_of below)) (sym c.truth.ensures.value) ∙ ap (λ st. on o m (activation_at r stack) st (below_of below)) (put_at r.depth at stack slot d c.requires.fits))
-    (depth_goes_on l line p below before now r _ stack (set stack at slot) o m r.depth s (length-set stack at slot) (refl, refl) refl refl
+    (depth_goes_on l line p below before now r _ stack (set stack at slot) o m r.depth s (length-set stack at slot) (refl, refl, refl) refl refl
     (lead_put p.frames.items m stack at slot inside s.top.slots (scalar_leads p.frames.items m slot (Truth holds) c.truth.ensures.value refl))
     (lead_arrays_put p.arrays.regions o.arrays stack at slot inside s.top.arrays_lead (scalar_leads_array p.arrays.regions o.arrays slot (Truth holds) c.truth.ensures.value refl)))

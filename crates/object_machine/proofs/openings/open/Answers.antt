@@ -1,4 +1,4 @@
-use Rattle.std.proofs.Common.{rules, ◌≡◌, ◌+◌, length, replicate, refl, sym, subst, ap, ◌∙◌}
+use Rattle.std.proofs.Common.{None, rules, ◌≡◌, ◌+◌, length, replicate, refl, sym, subst, ap, ◌∙◌}
 use Rattle.std.specs.Prelude.{Some, map, false}
 use Rattle.sim_code.specs.Code.{BlockOf}
 use Rattle.sim_values.specs.declared.value.FrameRef.{FrameRef}
@@ -43,7 +43,7 @@ returns-clause-row c l before now o m s up =
     let here : Has c.enter.new.frames c.in-Ok-try_from.region p.entered = subst (λ k. Has c.enter.new.frames k p.entered) (let q : c.in_ok-place.place ≡ c.in-Ok-try_from.region = search rules in q) c.enter.ensures.here in
     let room : c.in_ok-stack.stack.items ≡ replicate c.block.inside.room empty_slot = c.in_ok-stack.ensures in
     let p2 : Storage = record { frames = with_items c.reserve.new.frames c.enter.new.frames; cells = with_items c.reserve.new.cells c.fill_first.new.cells; spares = with_items c.reserve.new.spares c.take_stack.new.spares; parks = c.reserve.new.parks; heads = with_items p.heads c.reserve.new.heads; entered = p.entered + 1; arrays = p.arrays; texts = p.texts; image = p.image; members = p.members; simulations = p.simulations; ticks = p.ticks; words = p.words; wanted = p.wanted } in
-    let t : working.Activation = record { registers = record { home = record { frame = c.in-Ok-try_from.region; stamp = p.entered }; pc = c.args.beginning.start; depth = 0; stage = c.args.beginning.stage }; stack = c.in_ok-stack.stack } in
+    let t : working.Activation = record { registers = record { thunk = None; home = record { frame = c.in-Ok-try_from.region; stamp = p.entered }; pc = c.args.beginning.start; depth = 0; stage = c.args.beginning.stage }; stack = c.in_ok-stack.stack } in
     for_block l p p2 c.args.number b c.args.block.now c.args.beginning c.args.parent t before now o m c.block.view_is
     (opens_from l p p2 c.args.number b c.args.beginning c.args.parent t before now o m s c.enter.new.frames c.fill_first.new.cells
     (with_items_is c.reserve.new.frames c.enter.new.frames (search (rules, places))) (with_items_is c.reserve.new.cells c.fill_first.new.cells (search (rules, places))) refl refl refl refl refl refl refl refl h3 later
@@ -52,4 +52,4 @@ returns-clause-row c l before now o m s up =
     (subst (λ x. AllLead c.enter.new.frames (opened m c.args.number b c.args.beginning c.args.parent) x) (sym room) (empty_leads c.block.inside.room c.enter.new.frames (opened m c.args.number b c.args.beginning c.args.parent)))
     (subst (λ x. AllLeadArrays p.arrays.regions o.arrays x) (sym room) (empty_leads_arrays c.block.inside.room p.arrays.regions o.arrays))
     each c.in_ok-place.ensures.parked before_kept
-    (first_activation p.entered (length m.instances) c.in-Ok-try_from.region c.args.beginning.start c.block.inside.room c.args.beginning.stage c.in_ok-stack.stack.items s.entered room))
+    (first_activation None p.entered (length m.instances) c.in-Ok-try_from.region c.args.beginning.start c.block.inside.room c.args.beginning.stage c.in_ok-stack.stack.items s.entered room))

@@ -15,4 +15,4 @@ pub returns-clause-row : goal.returns-clause-row
 returns-clause-row c l line p below before now o m stack stack2 s e slots arrays =
     let go : List Value → Run Machine = λ st. on o m (activation_at c.args.regs.now stack) st (below_of below) in
     along l line p below before now _ _ stack2 _ _ (ap (λ d. with_values d stack2 o go) c.in-Some.is)
-    (depth_goes_on l line p below before now c.args.regs.now _ stack stack2 o m _ s e (refl, refl) refl refl slots arrays)
+    (depth_goes_on l line p below before now c.args.regs.now _ stack stack2 o m _ s e (refl, refl, refl) refl refl slots arrays)

@@ -10,7 +10,7 @@ pub returns-in-Depth-clause-row : goal.returns-in-Depth-clause-row
 returns-in-Depth-clause-row c l line p below before now o m stack stack2 s e slots arrays =
     let go : List Value → Run Machine = λ st. on o m (activation_at c.args.regs.now stack) st (below_of below) in
     along l line p below before now _ _ stack2 _ _ (ap (λ d. with_applied d line stack2 o go) c.in-Depth.is)
-    (depth_goes_on l line p below before now c.args.regs.now _ stack stack2 o m _ s e (refl, refl) refl refl slots arrays)
+    (depth_goes_on l line p below before now c.args.regs.now _ stack stack2 o m _ s e (refl, refl, refl) refl refl slots arrays)
 
 pub returns-in-NoRule-clause-row : goal.returns-in-NoRule-clause-row
 returns-in-NoRule-clause-row c l line p below before now o m stack stack2 s e slots arrays =

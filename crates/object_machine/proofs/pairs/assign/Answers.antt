@@ -28,7 +28,7 @@ returns-in-Ok-clause-row c l line p p2 below now e ep before o m s =
     let st = stands_texts l p r stack below before now o m new s in
     subst (λ z. Leaves flow.On l line z (record r { pc = r.pc + 1; depth = at }) stack below before now (assigning_row line o m r stack below)) (sym ep)
     (along l line p3 below before now _ _ _ _ _ (texts_assigned line o go r.depth stack c.in-Texts.left c.in-Texts.right c.args.texts.now new tt h.0 c.requires.fits h.1.0 h.2.0 (s.stores.world.texts ∙ e) c.in-Ok.ensures.step)
-    (depth_goes_on l line p3 below before now r _ stack stack (with_texts o new) m at st refl (refl, refl) refl refl st.top.slots st.top.arrays_lead))
+    (depth_goes_on l line p3 below before now r _ stack stack (with_texts o new) m at st refl (refl, refl, refl) refl refl st.top.slots st.top.arrays_lead))
 
 pub returns-in-Err-clause-row : goal.returns-in-Err-clause-row
 unfolding Obeys

@@ -33,7 +33,7 @@ returns-in-Texts-clause-row c l line p below now e before o m s =
     (both_related line o (relating_by c.args.relation) (on_texts_by c.args.relation) go r.depth stack left right b h.0 c.requires.fits h.1.0 h.2.0 (ap (λ f. two_of (relating_by c.args.relation) f (Text left) (Text right)) same ∙ c.related.ensures.says)
     ∙ ap (λ v. on o m (activation_at r stack) (v ∷ values_of at stack) (below_of below)) (sym c.truth-slot.ensures.value)
     ∙ ap (λ st. on o m (activation_at r stack) st (below_of below)) (put_at (at + 1) at stack slot refl deep))
-    (depth_goes_on l line p below before now r _ stack (set stack at slot) o m (at + 1) s (length-set stack at slot) (refl, refl) refl refl
+    (depth_goes_on l line p below before now r _ stack (set stack at slot) o m (at + 1) s (length-set stack at slot) (refl, refl, refl) refl refl
     (lead_put p.frames.items m stack at slot within s.top.slots (scalar_leads p.frames.items m slot (Truth b) c.truth-slot.ensures.value refl))
     (lead_arrays_put p.arrays.regions o.arrays stack at slot within s.top.arrays_lead (scalar_leads_array p.arrays.regions o.arrays slot (Truth b) c.truth-slot.ensures.value refl)))
 

@@ -23,7 +23,7 @@ returns-in-Some-clause-row c l line p below before now o m q s tells =
     let go : Plain → Run Machine = λ v. K (Of v ∷ values_of at stack) in
     along l line p below before now _ _ _ _ _
     (told_value line o go q t.0 t.1 ∙ ap (λ z. K (z ∷ values_of at stack)) (sym t.2) ∙ c.in-Some.ensures.row o K)
-    (depth_goes_on l line p below before now r _ stack c.put.new.stack o m c.in-Some.depth s c.put.ensures.long (refl, refl) refl refl
+    (depth_goes_on l line p below before now r _ stack c.put.new.stack o m c.in-Some.depth s c.put.ensures.long (refl, refl, refl) refl refl
     (c.put.ensures.leads p.frames.items m s.top.slots t.3) (c.put.ensures.leads_arrays p.arrays.regions o.arrays s.top.arrays_lead t.4))
 
 pub returns-in-Fault-clause-row : goal.returns-in-Fault-clause-row

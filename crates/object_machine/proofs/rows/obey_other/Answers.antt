@@ -51,22 +51,6 @@ pub returns-in-Param-clause-row : goal.returns-in-Param-clause-row
 returns-in-Param-clause-row c code line below now eb ec =
     for_instr _ code c.args.limits.now line _ _ _ _ _ _ below now c.args.instr _ (c.in-Param.is) (c.no_rule-in-Param.ensures c.args.limits.now line c.args.storage.now c.args.regs.now c.args.stack.now below now)
 
-pub returns-in-Thunk-clause-row : goal.returns-in-Thunk-clause-row
-returns-in-Thunk-clause-row c code line below now eb ec =
-    for_instr _ code c.args.limits.now line _ _ _ _ _ _ below now c.args.instr _ (c.in-Thunk.is) (c.no_rule-in-Thunk.ensures c.args.limits.now line c.args.storage.now c.args.regs.now c.args.stack.now below now)
-
-pub returns-in-NameVal-clause-row : goal.returns-in-NameVal-clause-row
-returns-in-NameVal-clause-row c code line below now eb ec =
-    for_instr _ code c.args.limits.now line _ _ _ _ _ _ below now c.args.instr _ (c.in-NameVal.is) (c.no_rule-in-NameVal.ensures c.args.limits.now line c.args.storage.now c.args.regs.now c.args.stack.now below now)
-
-pub returns-in-NameAddr-clause-row : goal.returns-in-NameAddr-clause-row
-returns-in-NameAddr-clause-row c code line below now eb ec =
-    for_instr _ code c.args.limits.now line _ _ _ _ _ _ below now c.args.instr _ (c.in-NameAddr.is) (c.no_rule-in-NameAddr.ensures c.args.limits.now line c.args.storage.now c.args.regs.now c.args.stack.now below now)
-
-pub returns-in-EndThunk-clause-row : goal.returns-in-EndThunk-clause-row
-returns-in-EndThunk-clause-row c code line below now eb ec =
-    for_instr _ code c.args.limits.now line _ _ _ _ _ _ below now c.args.instr _ (c.in-EndThunk.is) (c.no_rule-in-EndThunk.ensures c.args.limits.now line c.args.storage.now c.args.regs.now c.args.stack.now below now)
-
 pub returns-in-NotNone-clause-row : goal.returns-in-NotNone-clause-row
 returns-in-NotNone-clause-row c code line below now eb ec =
     for_instr _ code c.args.limits.now line _ _ _ _ _ _ below now c.args.instr _ (c.in-NotNone.is) (c.not_none.ensures.row c.args.limits.now line c.args.storage.now below now)

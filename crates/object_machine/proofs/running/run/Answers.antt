@@ -1,4 +1,4 @@
-use Rattle.std.proofs.Common.{rules, ◌≡◌, List, [], sym, subst, refl, ap, ◌∙◌}
+use Rattle.std.proofs.Common.{None, rules, ◌≡◌, List, [], sym, subst, refl, ap, ◌∙◌}
 use Rattle.sim_code.specs.Outcome.{Going, first_world}
 use Rattle.sim_code.specs.Rows.{opening}
 use Rattle.sim_code.specs.Running.{AllRun}
@@ -32,7 +32,7 @@ returns-in-Stopped-clause-ran g c input told =
     let ei : code.instrs ≡ c.deref-3.result.now = ap (λ k. k.instrs) (sym c.code.view_is) ∙ sym c.deref-3.ensures.value in
     let ec : code.classes ≡ c.deref-4.result.now = ap (λ k. k.classes) (sym c.code.view_is) ∙ sym c.deref-4.ensures.value in
     let s : Stores l c.in-Ok.storage b0 w (first_world code.texts l input) empty_memory = subst (λ t. Stores l c.in-Ok.storage b0 w (first_world t l input) empty_memory) et (c.in-Ok.ensures.row b0 input) in
-    let r : Registers = record { home = record { frame = 0; stamp = 0 }; pc = 0; depth = 0; stage = stage.NoStage } in
+    let r : Registers = record { home = record { frame = 0; stamp = 0 }; thunk = None; pc = 0; depth = 0; stage = stage.NoStage } in
     let b = c.in-Stopped.ensures.row code b0 w (first_world code.texts l input) eb ei ec s in
     c.answer.ensures.ran code (opening code l input) r [] [] b0 input (g.I.Source.faults c.args.input.now) (g.I.Source.faults c.args.input.now)
     (record {
@@ -68,8 +68,9 @@ returns-in-WriteFault-clause-ran g c input told =
     let ek2 : code.texts ≡ c.deref-in-Started-3.result.now = ap (λ k. k.texts) (sym c.code.view_is) ∙ sym c.deref-in-Started-3.ensures.value in
     let el2 : code.classes ≡ c.deref-in-Started-4.result.now = ap (λ k. k.classes) (sym c.code.view_is) ∙ sym c.deref-in-Started-4.ensures.value in
     let ea2 : code.actual_lists ≡ c.deref-in-Started-5.result.now = ap (λ k. k.actual_lists) (sym c.code.view_is) ∙ sym c.deref-in-Started-5.ensures.value in
+    let eh2 : code.thunks ≡ c.deref-in-Started-6.result.now = ap (λ k. k.thunks) (sym c.code.view_is) ∙ sym c.deref-in-Started-6.ensures.value in
     let w2 = outside (g.O.Sink.written c.steps-stop.new.out) later.0 in
-    let stops0 = (later.2 code b0 k.world k.memory eb2 ei2 ek2 el2 ea2 stands).stops in
+    let stops0 = (later.2 code b0 k.world k.memory eb2 ei2 ek2 el2 ea2 eh2 stands).stops in
     let stops1 : Stops code l (Going k.world (state_of r stack [] k.memory)) stop.flow stop.line.0 stop.at c.steps-stop.new.storage c.steps-stop.new.top.registers c.steps-stop.new.top.stack.items c.steps-stop.new.below.items b0 w2 =
     subst (λ b. Stops code l (Going k.world (state_of r stack b k.memory)) stop.flow stop.line.0 stop.at c.steps-stop.new.storage c.steps-stop.new.top.registers c.steps-stop.new.top.stack.items c.steps-stop.new.below.items b0 w2) none stops0 in
     let stops = stops_later code l input p r stack b0 w k stop.flow stop.line.0 stop.at c.steps-stop.new.storage c.steps-stop.new.top.registers c.steps-stop.new.top.stack.items c.steps-stop.new.below.items w2 stops1 in
@@ -102,8 +103,9 @@ returns g c = record {
       let ek2 : code.texts ≡ c.deref-in-Started-3.result.now = ap (λ k. k.texts) (sym c.code.view_is) ∙ sym c.deref-in-Started-3.ensures.value in
       let el2 : code.classes ≡ c.deref-in-Started-4.result.now = ap (λ k. k.classes) (sym c.code.view_is) ∙ sym c.deref-in-Started-4.ensures.value in
       let ea2 : code.actual_lists ≡ c.deref-in-Started-5.result.now = ap (λ k. k.actual_lists) (sym c.code.view_is) ∙ sym c.deref-in-Started-5.ensures.value in
+      let eh2 : code.thunks ≡ c.deref-in-Started-6.result.now = ap (λ k. k.thunks) (sym c.code.view_is) ∙ sym c.deref-in-Started-6.ensures.value in
       let w2 = outside (g.O.Sink.written c.steps-stop.new.out) later.0 in
-      let stops0 = later.2 code b0 k.world k.memory eb2 ei2 ek2 el2 ea2 stands in
+      let stops0 = later.2 code b0 k.world k.memory eb2 ei2 ek2 el2 ea2 eh2 stands in
       let Later : List working.Activation → Type 0 =
       λ b. StopsAtRead (g.I.Source.faults c.args.input.now) (g.I.Source.faults c.steps-stop.new.input) code l (Going k.world (state_of r stack b k.memory)) stop.flow stop.line.0 stop.at c.steps-stop.new.storage c.steps-stop.new.top.registers c.steps-stop.new.top.stack.items c.steps-stop.new.below.items b0 w2 in
       let stops1 : Later [] = subst Later none stops0 in
@@ -130,6 +132,7 @@ returns g c = record {
       let ek2 : code.texts ≡ c.deref-in-Started-3.result.now = ap (λ k. k.texts) (sym c.code.view_is) ∙ sym c.deref-in-Started-3.ensures.value in
       let el2 : code.classes ≡ c.deref-in-Started-4.result.now = ap (λ k. k.classes) (sym c.code.view_is) ∙ sym c.deref-in-Started-4.ensures.value in
       let ea2 : code.actual_lists ≡ c.deref-in-Started-5.result.now = ap (λ k. k.actual_lists) (sym c.code.view_is) ∙ sym c.deref-in-Started-5.ensures.value in
+      let eh2 : code.thunks ≡ c.deref-in-Started-6.result.now = ap (λ k. k.thunks) (sym c.code.view_is) ∙ sym c.deref-in-Started-6.ensures.value in
       let p = c.begin-begun.new.storage in
       let r = c.in-Started.top.registers in
       let stack = c.in-Started.top.stack.items in
@@ -137,7 +140,7 @@ returns g c = record {
       let none : c.new-below.result.items ≡ [] = search rules in
       let stands : Stands l p r stack c.new-below.result.items b0 w k.world k.memory = subst (λ b. Stands l p r stack b b0 w k.world k.memory) (sym none) k.stands in
       let still : NeverTakes code l input (Going k.world (state_of r stack c.new-below.result.items k.memory)) = subst (λ b. NeverTakes code l input (Going k.world (state_of r stack b k.memory))) (sym none) (later code l input _ k.is never) in
-      c.steps-stop.ensures.takes input told code b0 k.world k.memory input eb2 ei2 ek2 el2 ea2 stands still;
+      c.steps-stop.ensures.takes input told code b0 k.world k.memory input eb2 ei2 ek2 el2 ea2 eh2 stands still;
 }
 
 pub returns-in-Stopped-clause-input_faults : goal.returns-in-Stopped-clause-input_faults
@@ -162,6 +165,7 @@ returns-in-WriteFault-clause-takes g c input told never =
     let ek2 : code.texts ≡ c.deref-in-Started-3.result.now = ap (λ k. k.texts) (sym c.code.view_is) ∙ sym c.deref-in-Started-3.ensures.value in
     let el2 : code.classes ≡ c.deref-in-Started-4.result.now = ap (λ k. k.classes) (sym c.code.view_is) ∙ sym c.deref-in-Started-4.ensures.value in
     let ea2 : code.actual_lists ≡ c.deref-in-Started-5.result.now = ap (λ k. k.actual_lists) (sym c.code.view_is) ∙ sym c.deref-in-Started-5.ensures.value in
+    let eh2 : code.thunks ≡ c.deref-in-Started-6.result.now = ap (λ k. k.thunks) (sym c.code.view_is) ∙ sym c.deref-in-Started-6.ensures.value in
     let p = c.begin-begun.new.storage in
     let r = c.in-Started.top.registers in
     let stack = c.in-Started.top.stack.items in
@@ -169,4 +173,4 @@ returns-in-WriteFault-clause-takes g c input told never =
     let none : c.new-below.result.items ≡ [] = search rules in
     let stands : Stands l p r stack c.new-below.result.items b0 w k.world k.memory = subst (λ b. Stands l p r stack b b0 w k.world k.memory) (sym none) k.stands in
     let still : NeverTakes code l input (Going k.world (state_of r stack c.new-below.result.items k.memory)) = subst (λ b. NeverTakes code l input (Going k.world (state_of r stack b k.memory))) (sym none) (later code l input _ k.is never) in
-    c.steps-stop.ensures.takes input told code b0 k.world k.memory input eb2 ei2 ek2 el2 ea2 stands still
+    c.steps-stop.ensures.takes input told code b0 k.world k.memory input eb2 ei2 ek2 el2 ea2 eh2 stands still

@@ -139,5 +139,5 @@ returns-clause-row c l line below now before o m s =
     let leads : IfSome value (λ x. SlotLeads p.frames.items m x) = IfSome_then value c.in-Ok-value_in.ensures.leads (λ x f. f p.frames.items m reach) in
     along l line p2 below before now _ _ _ _ _
     (owned ∙ effected N o (λ w v. go w v rest) came _ sets gives.0 is ∙ ap K (value_slot value (value_by came N o.members) rest gives.1) ∙ c.in-Some.ensures.row o K)
-    (depth_goes_on l line p2 below before now r _ stack c.put.new.stack o2 m c.in-Some.depth (stands_sets l p r stack below before now o m k s refl) c.put.ensures.long (refl, refl) refl refl
+    (depth_goes_on l line p2 below before now r _ stack c.put.new.stack o2 m c.in-Some.depth (stands_sets l p r stack below before now o m k s refl) c.put.ensures.long (refl, refl, refl) refl refl
     (c.put.ensures.leads p.frames.items m s.top.slots leads) (c.put.ensures.leads_arrays p.arrays.regions o.arrays s.top.arrays_lead c.in-Ok-value_in.ensures.no_array))

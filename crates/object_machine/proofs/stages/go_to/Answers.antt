@@ -20,4 +20,4 @@ returns-clause-row c code l line p stack below now e before o m s =
     let r2 : Registers = record r { stage = c.args.stage } in
     along l line p below before now _ _ stack _ _
     (leads_there code c.args.start _ o _ (ap (λ v. slice_get v c.args.start) e ∙ get_within c.args.instrs.now c.args.start first_line c.if-start-instrs.false))
-    (jumps_on l line p below before now _ stack _ (goes_on l line p below before now r2 _ stack stack o m _ _ _ (stands_with l line p below before now r r2 stack stack o m s refl s.top.slots s.top.arrays_lead) (refl, refl) s.top.slots s.top.arrays_lead refl refl refl))
+    (jumps_on l line p below before now _ stack _ (goes_on l line p below before now r2 _ stack stack o m _ _ _ (stands_with l line p below before now r r2 stack stack o m s refl s.top.slots s.top.arrays_lead) (refl, refl, refl) s.top.slots s.top.arrays_lead refl refl refl))

@@ -64,4 +64,4 @@ returns-clause-row c code l line p stack below now eb ei ec ef before o m s =
     let r2 = record r { stage = stage.Behind c.in-Some-under_way.here.level } in
     along l line p below before now _ _ stack _ _
     (first ∙ past_inner code l o m a under n c.in-Some-under_way.here.level _ (ap (class_at_level code here.list) e ∙ none) (sym here.number))
-    (depth_goes_on l line p below before now r2 _ stack stack o m r.depth (stands_with l line p below before now r r2 stack stack o m s refl s.top.slots s.top.arrays_lead) refl (refl, refl) refl refl s.top.slots s.top.arrays_lead)
+    (depth_goes_on l line p below before now r2 _ stack stack o m r.depth (stands_with l line p below before now r r2 stack stack o m s refl s.top.slots s.top.arrays_lead) refl (refl, refl, refl) refl refl s.top.slots s.top.arrays_lead)

@@ -17,7 +17,7 @@ returns-in-None-clause-row g c s e =
       w.1,
       (
         w.2.0,
-        λ code line e1 e2 e3 e4 e5.
+        λ code line e1 e2 e3 e4 e5 e6.
             for_instr_in c.standard.result code l line _ _ _ _ _ _ _ _ _ _ c.args.instr (i.Std (to_z w64 (of_z w64 c.in-Std.operand))) (c.in-Std.is ∙ ap i.Std (sym ename))
             (obeys_stacks c.standard.result l line _ _ _ _ _ _ c.args.top.now.stack.items _ _ _ _ _ _ c.deref_mut.ensures.value (with_items_is c.args.top.now.stack c.standard.new.stack (search (rules, places)))
             (w.2.1 code line c.args.below.now.items)),
@@ -42,7 +42,7 @@ returns-in-Some-clause-row g c s e = (
   e,
   (
     still_same c.without_ports.result (g.O.Sink.written c.args.out.now),
-    λ code line e1 e2 e3 e4 e5.
+    λ code line e1 e2 e3 e4 e5 e6.
         let l = c.args.limits.now in
         let ename : to_z w64 (of_z w64 c.in-Std.operand) ≡ c.in-Std.operand = search rules in
         let z = to_z w64 (of_z w64 c.in-Std.operand) in
@@ -64,7 +64,7 @@ returns-in-Act-clause-row g c s e = (
   e,
   (
     still_same c.without_ports-in-Act.result (g.O.Sink.written c.args.out.now),
-    λ code line e1 e2 e3 e4 e5.
+    λ code line e1 e2 e3 e4 e5 e6.
         let l = c.args.limits.now in
         let eoperand : to_z w64 (of_z w64 c.in-Act.operand) ≡ c.in-Act.operand = search rules in
         c.without_ports-in-Act.ensures.row _ _ _ _ _ _ _ _ _ _ _ _ _
@@ -88,7 +88,7 @@ returns-in-AssignT-clause-row g c s e = (
   e,
   (
     still_same c.without_ports-in-AssignT.result (g.O.Sink.written c.args.out.now),
-    λ code line e1 e2 e3 e4 e5.
+    λ code line e1 e2 e3 e4 e5 e6.
         let l = c.args.limits.now in
         c.without_ports-in-AssignT.ensures.row _ _ _ _ _ _ _ _ _ _ _ _ _
         (for_instr_in _ code l line _ _ _ _ _ _ _ _ _ _ c.args.instr i.AssignT c.in-AssignT.is
@@ -109,13 +109,97 @@ returns-in-TextK-clause-row g c s e = (
   e,
   (
     still_same c.without_ports-in-TextK.result (g.O.Sink.written c.args.out.now),
-    λ code line e1 e2 e3 e4 e5.
+    λ code line e1 e2 e3 e4 e5 e6.
         let l = c.args.limits.now in
         let enumber : to_z w64 (of_z w64 c.in-TextK.number) ≡ c.in-TextK.number = search rules in
         c.without_ports-in-TextK.ensures.row _ _ _ _ _ _ _ _ _ _ _ _ _
         (for_instr_in _ code l line _ _ _ _ _ _ _ _ _ _ c.args.instr (i.TextK (to_z w64 (of_z w64 c.in-TextK.number))) (c.in-TextK.is ∙ ap i.TextK (sym enumber))
         (obeys_stacks c.constant-flow.result l line _ _ _ _ _ _ c.args.top.now.stack.items _ _ _ _ _ _ c.deref_mut-in-TextK.ensures.value (with_items_is c.args.top.now.stack c.constant-flow.new.stack (search (rules, places)))
         (c.constant-flow.ensures.row code l line c.args.storage.now c.args.below.now.items (outside (g.O.Sink.written c.args.out.now) s) e3))),
+  ),
+)
+
+pub returns-in-Thunk-clause-ends : goal.returns-in-Thunk-clause-ends
+returns-in-Thunk-clause-ends g c = flow_still g.O.Sink.written g.O.Sink.faults c.args.out.now _ c.without_ports-in-Thunk.ensures.other
+
+pub returns-in-Thunk-clause-read : goal.returns-in-Thunk-clause-read
+returns-in-Thunk-clause-read g c = input_still (g.I.Source.faults c.args.input.now) _ c.without_ports-in-Thunk.ensures.read
+
+pub returns-in-Thunk-clause-row : goal.returns-in-Thunk-clause-row
+returns-in-Thunk-clause-row g c s e = (
+  s,
+  e,
+  (
+    still_same c.without_ports-in-Thunk.result (g.O.Sink.written c.args.out.now),
+    λ code line e1 e2 e3 e4 e5 e6.
+        let l = c.args.limits.now in
+        let enumber : to_z w64 (of_z w64 c.in-Thunk.number) ≡ c.in-Thunk.number = search rules in
+        c.without_ports-in-Thunk.ensures.row _ _ _ _ _ _ _ _ _ _ _ _ _
+        (for_instr_in _ code l line _ _ _ _ _ _ _ _ _ _ c.args.instr (i.Thunk (to_z w64 (of_z w64 c.in-Thunk.number))) (c.in-Thunk.is ∙ ap i.Thunk (sym enumber))
+        (obeys_stacks c.push_thunk-flow.result l line _ _ _ _ _ _ c.args.top.now.stack.items _ _ _ _ _ _ c.deref_mut-in-Thunk.ensures.value (with_items_is c.args.top.now.stack c.push_thunk-flow.new.stack (search (rules, places)))
+        (c.push_thunk-flow.ensures.row code l line c.args.storage.now c.args.below.now.items (outside (g.O.Sink.written c.args.out.now) s) e6))),
+  ),
+)
+
+pub returns-in-NameVal-clause-ends : goal.returns-in-NameVal-clause-ends
+returns-in-NameVal-clause-ends g c = flow_still g.O.Sink.written g.O.Sink.faults c.args.out.now _ c.without_ports-in-NameVal.ensures.other
+
+pub returns-in-NameVal-clause-read : goal.returns-in-NameVal-clause-read
+returns-in-NameVal-clause-read g c = input_still (g.I.Source.faults c.args.input.now) _ c.without_ports-in-NameVal.ensures.read
+
+pub returns-in-NameVal-clause-row : goal.returns-in-NameVal-clause-row
+returns-in-NameVal-clause-row g c s e = (
+  s,
+  e,
+  (
+    still_same c.without_ports-in-NameVal.result (g.O.Sink.written c.args.out.now),
+    λ code line e1 e2 e3 e4 e5 e6.
+        let elevel : to_z w64 (of_z w64 c.in-NameVal.level) ≡ c.in-NameVal.level = search rules in
+        let ecell : to_z w64 (of_z w64 c.in-NameVal.cell) ≡ c.in-NameVal.cell = search rules in
+        c.without_ports-in-NameVal.ensures.row _ _ _ _ _ _ _ _ _ _ _ _ _
+        (for_instr_in _ code c.args.limits.now line _ _ _ _ _ _ _ _ _ _ c.args.instr (i.NameVal (to_z w64 (of_z w64 c.in-NameVal.level)) (to_z w64 (of_z w64 c.in-NameVal.cell)) c.in-NameVal.class)
+        (c.in-NameVal.is ∙ ap (λ z. i.NameVal z c.in-NameVal.cell c.in-NameVal.class) (sym elevel) ∙ ap (λ z. i.NameVal (to_z w64 (of_z w64 c.in-NameVal.level)) z c.in-NameVal.class) (sym ecell))
+        (c.use_name-flow.ensures.row code line (outside (g.O.Sink.written c.args.out.now) s) e6 e2)),
+  ),
+)
+
+pub returns-in-NameAddr-clause-ends : goal.returns-in-NameAddr-clause-ends
+returns-in-NameAddr-clause-ends g c = flow_still g.O.Sink.written g.O.Sink.faults c.args.out.now _ c.without_ports-in-NameAddr.ensures.other
+
+pub returns-in-NameAddr-clause-read : goal.returns-in-NameAddr-clause-read
+returns-in-NameAddr-clause-read g c = input_still (g.I.Source.faults c.args.input.now) _ c.without_ports-in-NameAddr.ensures.read
+
+pub returns-in-NameAddr-clause-row : goal.returns-in-NameAddr-clause-row
+returns-in-NameAddr-clause-row g c s e = (
+  s,
+  e,
+  (
+    still_same c.without_ports-in-NameAddr.result (g.O.Sink.written c.args.out.now),
+    λ code line e1 e2 e3 e4 e5 e6.
+        let elevel : to_z w64 (of_z w64 c.in-NameAddr.level) ≡ c.in-NameAddr.level = search rules in
+        let ecell : to_z w64 (of_z w64 c.in-NameAddr.cell) ≡ c.in-NameAddr.cell = search rules in
+        c.without_ports-in-NameAddr.ensures.row _ _ _ _ _ _ _ _ _ _ _ _ _
+        (for_instr_in _ code c.args.limits.now line _ _ _ _ _ _ _ _ _ _ c.args.instr (i.NameAddr (to_z w64 (of_z w64 c.in-NameAddr.level)) (to_z w64 (of_z w64 c.in-NameAddr.cell)) c.in-NameAddr.value)
+        (c.in-NameAddr.is ∙ ap (λ z. i.NameAddr z c.in-NameAddr.cell c.in-NameAddr.value) (sym elevel) ∙ ap (λ z. i.NameAddr (to_z w64 (of_z w64 c.in-NameAddr.level)) z c.in-NameAddr.value) (sym ecell))
+        (c.use_name-flow-in-NameAddr.ensures.row code line (outside (g.O.Sink.written c.args.out.now) s) e6 e2)),
+  ),
+)
+
+pub returns-in-EndThunk-clause-ends : goal.returns-in-EndThunk-clause-ends
+returns-in-EndThunk-clause-ends g c = flow_still g.O.Sink.written g.O.Sink.faults c.args.out.now _ c.without_ports-in-EndThunk.ensures.other
+
+pub returns-in-EndThunk-clause-read : goal.returns-in-EndThunk-clause-read
+returns-in-EndThunk-clause-read g c = input_still (g.I.Source.faults c.args.input.now) _ c.without_ports-in-EndThunk.ensures.read
+
+pub returns-in-EndThunk-clause-row : goal.returns-in-EndThunk-clause-row
+returns-in-EndThunk-clause-row g c s e = (
+  s,
+  e,
+  (
+    still_same c.without_ports-in-EndThunk.result (g.O.Sink.written c.args.out.now),
+    λ code line e1 e2 e3 e4 e5 e6.
+        c.without_ports-in-EndThunk.ensures.row _ _ _ _ _ _ _ _ _ _ _ _ _
+        (for_instr_in _ code c.args.limits.now line _ _ _ _ _ _ _ _ _ _ c.args.instr i.EndThunk c.in-EndThunk.is (c.end_thunk-flow.ensures.row code c.args.limits.now line (outside (g.O.Sink.written c.args.out.now) s) e1 e2 e4)),
   ),
 )
 
@@ -131,7 +215,7 @@ returns-in-Leave-clause-row g c s e = (
   e,
   (
     still_same c.without_ports-in-Leave.result (g.O.Sink.written c.args.out.now),
-    λ code line e1 e2 e3 e4 e5.
+    λ code line e1 e2 e3 e4 e5 e6.
         c.without_ports-in-Leave.ensures.row _ _ _ _ _ _ _ _ _ _ _ _ _
         (for_instr_in _ code c.args.limits.now line _ _ _ _ _ _ _ _ _ _ c.args.instr i.Leave c.in-Leave.is (c.leave-flow.ensures.row code c.args.limits.now line (outside (g.O.Sink.written c.args.out.now) s) e1)),
   ),
@@ -149,7 +233,7 @@ returns-in-Return-clause-row g c s e = (
   e,
   (
     still_same c.without_ports-in-Return.result (g.O.Sink.written c.args.out.now),
-    λ code line e1 e2 e3 e4 e5.
+    λ code line e1 e2 e3 e4 e5 e6.
         c.without_ports-in-Return.ensures.row _ _ _ _ _ _ _ _ _ _ _ _ _
         (for_instr_in _ code c.args.limits.now line _ _ _ _ _ _ _ _ _ _ c.args.instr i.Return c.in-Return.is (c.give_result-flow.ensures.row code c.args.limits.now line (outside (g.O.Sink.written c.args.out.now) s) e1)),
   ),
@@ -167,7 +251,7 @@ returns-in-Detach-clause-row g c s e = (
   e,
   (
     still_same c.without_ports-in-Detach.result (g.O.Sink.written c.args.out.now),
-    λ code line e1 e2 e3 e4 e5.
+    λ code line e1 e2 e3 e4 e5 e6.
         c.without_ports-in-Detach.ensures.row _ _ _ _ _ _ _ _ _ _ _ _ _
         (for_instr_in _ code c.args.limits.now line _ _ _ _ _ _ _ _ _ _ c.args.instr i.Detach c.in-Detach.is (c.detach-flow.ensures.row c.args.limits.now line (outside (g.O.Sink.written c.args.out.now) s))),
   ),
@@ -185,7 +269,7 @@ returns-in-Attach-clause-row g c s e = (
   e,
   (
     still_same c.without_ports-in-Attach.result (g.O.Sink.written c.args.out.now),
-    λ code line e1 e2 e3 e4 e5.
+    λ code line e1 e2 e3 e4 e5 e6.
         c.without_ports-in-Attach.ensures.row _ _ _ _ _ _ _ _ _ _ _ _ _
         (for_instr_in _ code c.args.limits.now line _ _ _ _ _ _ _ _ _ _ c.args.instr i.Attach c.in-Attach.is (c.attach-flow.ensures.row c.args.limits.now line (outside (g.O.Sink.written c.args.out.now) s))),
   ),
@@ -203,7 +287,7 @@ returns-in-Resume-clause-row g c s e = (
   e,
   (
     still_same c.without_ports-in-Resume.result (g.O.Sink.written c.args.out.now),
-    λ code line e1 e2 e3 e4 e5.
+    λ code line e1 e2 e3 e4 e5 e6.
         c.without_ports-in-Resume.ensures.row _ _ _ _ _ _ _ _ _ _ _ _ _
         (for_instr_in _ code c.args.limits.now line _ _ _ _ _ _ _ _ _ _ c.args.instr i.Resume c.in-Resume.is (c.resume-flow.ensures.row c.args.limits.now line (outside (g.O.Sink.written c.args.out.now) s))),
   ),
@@ -225,7 +309,7 @@ returns-in_default g c =
         e,
         (
           still_same c.without_ports-in_default.result (g.O.Sink.written c.args.out.now),
-          λ code line e1 e2 e3 e4 e5.
+          λ code line e1 e2 e3 e4 e5 e6.
               c.without_ports-in_default.ensures.row _ _ _ _ _ _ _ _ _ _ _ _ _
               (obeys_stacks c.obey_other-flow.result l line _ _ _ _ _ _ c.args.top.now.stack.items _ _ _ _ _ _ c.deref_mut-in_default.ensures.value is
               (c.obey_other-flow.ensures.row code line c.args.below.now.items (outside (g.O.Sink.written c.args.out.now) s) e1 e4)),
@@ -245,7 +329,7 @@ returns-in-Enter-clause-row g c s e = (
   e,
   (
     still_same c.without_ports-in-Enter.result (g.O.Sink.written c.args.out.now),
-    λ code line e1 e2 e3 e4 e5.
+    λ code line e1 e2 e3 e4 e5 e6.
         let eblock : to_z w64 (of_z w64 c.in-Enter.block) ≡ c.in-Enter.block = search rules in
         c.without_ports-in-Enter.ensures.row _ _ _ _ _ _ _ _ _ _ _ _ _
         (for_instr_in _ code c.args.limits.now line _ _ _ _ _ _ _ _ _ _ c.args.instr (i.Enter (to_z w64 (of_z w64 c.in-Enter.block))) (c.in-Enter.is ∙ ap i.Enter (sym eblock)) (c.enter-flow.ensures.row code line (outside (g.O.Sink.written c.args.out.now) s) e1 e2)),
@@ -264,7 +348,7 @@ returns-in-Call-clause-row g c s e = (
   e,
   (
     still_same c.without_ports-in-Call.result (g.O.Sink.written c.args.out.now),
-    λ code line e1 e2 e3 e4 e5.
+    λ code line e1 e2 e3 e4 e5 e6.
         let eblock : to_z w64 (of_z w64 c.in-Call.block) ≡ c.in-Call.block = search rules in
         let evalues : to_z w64 (of_z w64 c.in-Call.values) ≡ c.in-Call.values = search rules in
         c.without_ports-in-Call.ensures.row _ _ _ _ _ _ _ _ _ _ _ _ _
@@ -286,7 +370,7 @@ returns-in-Check-clause-row g c s e = (
   e,
   (
     still_same c.without_ports-in-Check.result (g.O.Sink.written c.args.out.now),
-    λ code line e1 e2 e3 e4 e5.
+    λ code line e1 e2 e3 e4 e5 e6.
         let l = c.args.limits.now in
         let elist : to_z w64 (of_z w64 c.in-Check.list) ≡ c.in-Check.list = search rules in
         c.without_ports-in-Check.ensures.row _ _ _ _ _ _ _ _ _ _ _ _ _
@@ -308,7 +392,7 @@ returns-in-CallV-clause-row g c s e = (
   e,
   (
     still_same c.without_ports-in-CallV.result (g.O.Sink.written c.args.out.now),
-    λ code line e1 e2 e3 e4 e5.
+    λ code line e1 e2 e3 e4 e5 e6.
         let evalues : to_z w64 (of_z w64 c.in-CallV.values) ≡ c.in-CallV.values = search rules in
         c.without_ports-in-CallV.ensures.row _ _ _ _ _ _ _ _ _ _ _ _ _
         (for_instr_in _ code c.args.limits.now line _ _ _ _ _ _ _ _ _ _ c.args.instr (i.CallV (to_z w64 (of_z w64 c.in-CallV.values))) (c.in-CallV.is ∙ ap i.CallV (sym evalues))
@@ -328,7 +412,7 @@ returns-in-NextDecl-clause-row g c s e = (
   e,
   (
     still_same c.without_ports-in-NextDecl.result (g.O.Sink.written c.args.out.now),
-    λ code line e1 e2 e3 e4 e5.
+    λ code line e1 e2 e3 e4 e5 e6.
         let elevel : to_z w64 (of_z w64 c.in-NextDecl.level) ≡ c.in-NextDecl.level = search rules in
         c.without_ports-in-NextDecl.ensures.row _ _ _ _ _ _ _ _ _ _ _ _ _
         (for_instr_in _ code c.args.limits.now line _ _ _ _ _ _ _ _ _ _ c.args.instr (i.NextDecl (to_z w64 (of_z w64 c.in-NextDecl.level))) (c.in-NextDecl.is ∙ ap i.NextDecl (sym elevel)) (c.next_declarations-flow.ensures.row code c.args.limits.now line c.args.storage.now c.args.top.now.stack.items c.args.below.now.items (outside (g.O.Sink.written c.args.out.now) s) e1 e2 e4 (sym c.deref-in-NextDecl.ensures.value))),
@@ -347,7 +431,7 @@ returns-in-Inner-clause-row g c s e = (
   e,
   (
     still_same c.without_ports-in-Inner.result (g.O.Sink.written c.args.out.now),
-    λ code line e1 e2 e3 e4 e5.
+    λ code line e1 e2 e3 e4 e5 e6.
         let elevel : to_z w64 (of_z w64 c.in-Inner.level) ≡ c.in-Inner.level = search rules in
         c.without_ports-in-Inner.ensures.row _ _ _ _ _ _ _ _ _ _ _ _ _
         (for_instr_in _ code c.args.limits.now line _ _ _ _ _ _ _ _ _ _ c.args.instr (i.Inner (to_z w64 (of_z w64 c.in-Inner.level))) (c.in-Inner.is ∙ ap i.Inner (sym elevel)) (c.inner-flow.ensures.row code c.args.limits.now line c.args.storage.now c.args.top.now.stack.items c.args.below.now.items (outside (g.O.Sink.written c.args.out.now) s) e1 e2 e4 (sym c.deref-in-Inner.ensures.value))),
@@ -366,7 +450,7 @@ returns-in-EndLevel-clause-row g c s e = (
   e,
   (
     still_same c.without_ports-in-EndLevel.result (g.O.Sink.written c.args.out.now),
-    λ code line e1 e2 e3 e4 e5.
+    λ code line e1 e2 e3 e4 e5 e6.
         let elevel : to_z w64 (of_z w64 c.in-EndLevel.level) ≡ c.in-EndLevel.level = search rules in
         c.without_ports-in-EndLevel.ensures.row _ _ _ _ _ _ _ _ _ _ _ _ _
         (for_instr_in _ code c.args.limits.now line _ _ _ _ _ _ _ _ _ _ c.args.instr (i.EndLevel (to_z w64 (of_z w64 c.in-EndLevel.level))) (c.in-EndLevel.is ∙ ap i.EndLevel (sym elevel)) (c.end_level-flow.ensures.row code line (outside (g.O.Sink.written c.args.out.now) s) e1 e2 e4)),
@@ -385,7 +469,7 @@ returns-in-New-clause-row g c s e = (
   e,
   (
     still_same c.without_ports-in-New.result (g.O.Sink.written c.args.out.now),
-    λ code line e1 e2 e3 e4 e5.
+    λ code line e1 e2 e3 e4 e5 e6.
         let eclass : to_z w64 (of_z w64 c.in-New.class) ≡ c.in-New.class = search rules in
         let evalues : to_z w64 (of_z w64 c.in-New.values) ≡ c.in-New.values = search rules in
         c.without_ports-in-New.ensures.row _ _ _ _ _ _ _ _ _ _ _ _ _
@@ -407,7 +491,7 @@ returns-in-Pref-clause-row g c s e = (
   e,
   (
     still_same c.without_ports-in-Pref.result (g.O.Sink.written c.args.out.now),
-    λ code line e1 e2 e3 e4 e5.
+    λ code line e1 e2 e3 e4 e5 e6.
         let eblock : to_z w64 (of_z w64 c.in-Pref.block) ≡ c.in-Pref.block = search rules in
         let evalues : to_z w64 (of_z w64 c.in-Pref.values) ≡ c.in-Pref.values = search rules in
         c.without_ports-in-Pref.ensures.row _ _ _ _ _ _ _ _ _ _ _ _ _

@@ -21,4 +21,4 @@ unfolding Obeys
 returns-clause-row c l line p stack below now before o m s =
     let r = c.args.regs.now in
     along l line p below before now _ _ _ _ _ (counted line c.args.formals c.args.actuals o _ c.if-formals-actuals.false ∙ none_left line c.args.formals c.args.actuals o _ c.if-actuals-ne0.false)
-    (depth_goes_on l line p below before now r _ stack stack o m r.depth s refl (refl, refl) refl refl s.top.slots s.top.arrays_lead)
+    (depth_goes_on l line p below before now r _ stack stack o m r.depth s refl (refl, refl, refl) refl refl s.top.slots s.top.arrays_lead)

@@ -70,7 +70,7 @@ returns-in-Block-clause-row c code l line p below now eb ec ef before o m s =
     along l line p below before now _ _ _ _ _
     (found ∙ match_there line (match_found code m v object.stamp) o (λ k. K (ProcedureValue k object.stamp ∷ rest)) block (c.in-Block.ensures.row code p.cells.items m eb ec h led)
     ∙ ap (λ w. K (w ∷ rest)) (sym c.procedure.ensures.value) ∙ ap K (put_at r.depth at stack slot d c.requires.fits))
-    (depth_goes_on l line p below before now r _ stack (set stack at slot) o m r.depth s (length-set stack at slot) (refl, refl) refl refl
+    (depth_goes_on l line p below before now r _ stack (set stack at slot) o m r.depth s (length-set stack at slot) (refl, refl, refl) refl refl
     (lead_put p.frames.items m stack at slot inside s.top.slots (c.procedure.ensures.leads p.frames.items m leads))
     (lead_arrays_put p.arrays.regions o.arrays stack at slot inside s.top.arrays_lead (λ names. absurd (off (sym c.procedure.ensures.no_array ∙ names)))))
 

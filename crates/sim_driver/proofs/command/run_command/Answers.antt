@@ -4,13 +4,14 @@ use Rattle.command_line.specs.Words.{Request, texts}
 use Rattle.sim_base.specs.declared.limits.Limits.{Limits}
 use Rattle.sim_run.specs.RunEnds.{TakesNothing}
 use Rattle.sim_driver.specs.Answer.{Answer, IsAnswerFor}
+use Rattle.sim_driver.specs.Output.{Exactly}
 use Rattle.sim_driver.specs.declared.status.Status.TheVariants.{Usage}
 use Rattle.sim_driver.proofs.Requests.{answer_of, cut_of, limits_of_request, tells_file}
 use Rattle.sim_driver.proofs.command.run_command.Goals as goal
 
 pub returns-in-None-clause-answered : goal.returns-in-None-clause-answered
 returns-in-None-clause-answered g c source given tells told is =
-    let usage : Answer = record { status = Usage; output = [] } in
+    let usage : Answer = record { status = Usage; output = Exactly [] } in
     (usage, subst (λ (request : Option Request). IsAnswerFor request source given usage) c.in-None.ensures refl)
 
 pub returns-in-Some-clause-answered : goal.returns-in-Some-clause-answered

@@ -1,4 +1,5 @@
-use Rattle.std.proofs.Common.{inl, inr, ◌≡◌, true, false}
+use Rattle.std.proofs.Common.{inl, inr, ◌≡◌, true, false, ◌∙◌, sym, ap}
+use Rattle.sim_driver.specs.Status.{is_answer}
 use Rattle.sim_driver.specs.declared.status.Status.TheVariants.{Memory}
 use Rattle.sim_driver.proofs.top.simula.Goals as goal
 
@@ -28,4 +29,16 @@ returns-clause-line_part g c =
         },
         memory,
       )
+    ]
+
+pub returns-clause-answer : goal.returns-clause-answer
+returns-clause-answer g c source given answer tells told means is =
+    elim c.write_status_line.ensures.ends [
+      | inl same ↦
+          let gives = c.run_command-status.ensures.answer source given answer tells told means (sym (ap is_answer same) ∙ is) in
+          record { ends = same ∙ gives.ends; writes = gives.writes }
+      | inr other ↦ elim other [
+        | inl memory ↦ let no : false ≡ true = sym (ap is_answer memory) ∙ is in cc no
+        | inr fault ↦ let no : false ≡ true = sym (ap is_answer fault.0) ∙ is in cc no
+      ]
     ]
