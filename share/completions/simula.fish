@@ -5,7 +5,9 @@ complete -c simula -n '__fish_use_subcommand' -a check -d 'Name the first rule t
 complete -c simula -n '__fish_use_subcommand' -a compile -d 'Write its code as a code file'
 complete -c simula -n '__fish_use_subcommand' -a list -d 'Write its code as text'
 complete -c simula -n '__fish_use_subcommand' -a print -d 'Write it in one layout'
-complete -c simula -n '__fish_seen_subcommand_from run check compile list print' -a '(__fish_complete_suffix .sim)'
+complete -c simula -n '__fish_use_subcommand' -a gen -d 'Run a generated simulation of so many processes'
+complete -c simula -n '__fish_use_subcommand' -a xref -d 'Say where each identifier is used'
+complete -c simula -n '__fish_seen_subcommand_from run check compile list print xref' -a '(__fish_complete_suffix .sim)'
 complete -c simula-show -f
 complete -c simula-show -n '__fish_use_subcommand' -a run -d 'Run a program, with the cause of a message'
 complete -c simula-show -n '__fish_use_subcommand' -a check -d 'Check a program, with the cause of a message'

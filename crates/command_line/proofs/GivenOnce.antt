@@ -2,9 +2,8 @@
 use Rattle.std.proofs.Common.{◌≡◌, ℕ, List, [], ◌∷◌, Option, Some, None, refl, sym, ◌∙◌, ap}
 use Rattle.std.specs.Prelude.{option_and_then}
 use Rattle.command_line.specs.Given.{nothing, with_parts}
-use Rattle.command_line.specs.Words.{Given, Names, Part, Sets, at_most_one, files, given_by, request_with, together, values}
+use Rattle.command_line.specs.Words.{Given, Names, Part, Sets, at_most_one, files, given_by, together, values}
 use Rattle.command_line.specs.declared.options.Setting.TheVariants.{Storage, Ticks, InLength, OutLength}
-use Rattle.command_line.specs.declared.words.Command.{Command}
 
 -- the only one of what was given so far and of a list
 abbrev more : {A : Type 0} → Option A → List A → Option (Option A)
@@ -69,7 +68,7 @@ gives_all (Sets InLength number ∷ rest) = of_in_length number rest (gives_all 
 gives_all (Sets OutLength number ∷ rest) = of_out_length number rest (gives_all rest)
 gives_all (Names file ∷ rest) = of_file file rest (gives_all rest)
 
--- so the request of the parts is that of what was given word by word
-pub request_of_parts : (command : Command) (parts : Option (List Part)) → option_and_then (λ ps. option_and_then (request_with command) (given_by ps)) parts ≡ option_and_then (request_with command) (option_and_then (with_parts nothing) parts)
-request_of_parts command None = refl
-request_of_parts command (Some parts) = ap (option_and_then (request_with command)) (sym (gives_all parts None None None None None))
+-- so what is asked by the parts is asked by what was given word by word
+pub asked_by_parts : {A : Type 0} (ask : Given → Option A) (parts : Option (List Part)) → option_and_then (λ ps. option_and_then ask (given_by ps)) parts ≡ option_and_then ask (option_and_then (with_parts nothing) parts)
+asked_by_parts ask None = refl
+asked_by_parts ask (Some parts) = ap (option_and_then ask) (sym (gives_all parts None None None None None))

@@ -1,3 +1,4 @@
+pub mod Disjoint
 pub mod GivenOnce
 pub mod Numbers
 pub mod WordSteps

@@ -1,13 +1,15 @@
 -- What words give, one word further.
 use Rattle.std.proofs.Common.{◌≤◌, ◌<◌, ◌-◌, suc, get_or, take, take_all, drop, String, string_bytes, length, arith, ◌≡◌, ℕ, List, [], ◌∷◌, Option, Some, None, map, refl, sym, ◌∙◌, ap}
-use Rattle.std.specs.Prelude.{option_and_then}
+use Rattle.std.specs.Prelude.{Bool, codes, false, not, option_and_then, true}
 use Rattle.std.specs.declared.alloc.Global.{Global}
+use Rattle.std.specs.Str.{bytes_eq}
+use Rattle.command_line.specs.Generated.{generated_of, processes_with}
 use Rattle.command_line.specs.Given.{nothing, with_files, with_part, with_parts, with_value, with_words}
 use Rattle.command_line.specs.Options.{value_of}
 use Rattle.command_line.specs.Words.{Awaits, EndsOptions, Given, Gives, Kind, Names, NamesFile, Part, Sets, Unknown, command_of, followed_by, kind_of, given_by, parts_by, parts_from, request_of, request_with, texts}
 use Rattle.command_line.specs.declared.options.Setting.{Setting}
 use Rattle.command_line.specs.declared.words.Command.{Command}
-use Rattle.command_line.proofs.GivenOnce.{request_of_parts}
+use Rattle.command_line.proofs.GivenOnce.{asked_by_parts}
 
 -- a part, and then the rest
 abbrev then_rest : Option Given → Option (List Part) → Option Given
@@ -133,6 +135,18 @@ request_words word rest command given asked words =
     each_command : (c : Option Command) → option_and_then (λ k. option_and_then (λ ps. option_and_then (request_with k) (given_by ps)) (parts_from None rest)) c
         ≡ option_and_then (λ k. option_and_then (request_with k) (option_and_then (with_parts nothing) (parts_from None rest))) c
     each_command None = refl
-    each_command (Some k) = request_of_parts k (parts_from None rest)
+    each_command (Some k) = asked_by_parts (request_with k) (parts_from None rest)
+
+-- ---- a generated program
+
+equal : (differs same : Bool) → differs ≡ not same → differs ≡ false → same ≡ true
+equal differs true is none = refl
+equal differs false is none = let no : true ≡ false = sym is ∙ none in absurd (cc no)
+
+pub generated_words : (word : List ℕ) (rest : List (List ℕ)) (given : Option Given) → given ≡ with_words nothing None rest
+    → (differs : Bool) → differs ≡ not (bytes_eq word (codes "gen")) → differs ≡ false → option_and_then processes_with given ≡ generated_of (word ∷ rest)
+unfolding with_words
+generated_words word rest given words differs is none =
+    rw (equal differs (bytes_eq word (codes "gen")) is none) (ap (option_and_then processes_with) words ∙ sym (asked_by_parts processes_with (parts_from None rest)))
 
 pub ruleset word_steps = (awaited_some, awaited_none, gives_some, gives_none, file_some, file_none, files_step, awaits_step, unknown_step, awaited_end, last_end)

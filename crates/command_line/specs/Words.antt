@@ -10,7 +10,7 @@ use Rattle.command_line.specs.Options.{default_limits, setting_of, value_of}
 use Rattle.command_line.specs.declared.options.Setting.{Setting}
 use Rattle.command_line.specs.declared.options.Setting.TheVariants.{Storage, Ticks, InLength, OutLength}
 use Rattle.command_line.specs.declared.words.Command.{Command}
-use Rattle.command_line.specs.declared.words.Command.TheVariants.{Run, Check, Compile, Listing, Print}
+use Rattle.command_line.specs.declared.words.Command.TheVariants.{Run, Check, Compile, Listing, Print, References}
 
 -- the bytes of each word
 abbrev pub texts : List (String Global) → List (List ℕ)
@@ -24,6 +24,7 @@ command_of word =
     else if bytes_eq word (codes "compile") then Some Compile
     else if bytes_eq word (codes "list") then Some Listing
     else if bytes_eq word (codes "print") then Some Print
+    else if bytes_eq word (codes "xref") then Some References
     else None
 
 -- ---- the words behind the command
@@ -149,6 +150,7 @@ takes_options Check = false
 takes_options Compile = false
 takes_options Listing = false
 takes_options Print = false
+takes_options References = false
 
 -- a command, its limits and its FILE
 pub record Request : Type 0 where
@@ -163,7 +165,7 @@ request_with command given =
     then option_map (λ file. record { command = command; limits = limits_of given; file = file }) given.file
     else None
 
--- What the words ask for: `run` with options in any order and a FILE, or `check`, `compile`, `list` or `print` with a FILE. Other words are no command.
+-- What the words ask for: `run` with options in any order and a FILE, or `check`, `compile`, `list`, `print` or `xref` with a FILE. Other words are no command.
 abbrev pub request_of : List (List ℕ) → Option Request
 request_of [] = None
 request_of (word ∷ rest) =

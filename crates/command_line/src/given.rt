@@ -14,7 +14,7 @@ pub struct Given<'a> {
     ticks: Option<u64>,
     in_length: Option<u16>,
     out_length: Option<u16>,
-    /// The name of the file.
+    /// The name of the file; behind `gen` the number.
     pub file: Option<&'a str>,
 }
 

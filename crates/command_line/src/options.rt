@@ -64,8 +64,8 @@ impl Setting {
     }
 }
 
-// The number that 1 to 19 decimal digits write.
-fn number_of(word: &str) -> Option<u64>
+/// The number that 1 to 19 decimal digits write.
+pub fn number_of(word: &str) -> Option<u64>
     ensures { result ≡ number_of word.now }
 {
     let digits = word.as_bytes();

@@ -20,6 +20,8 @@ pub enum Command {
     Listing,
     /// `print`: to write its canonical text, and to run nothing.
     Print,
+    /// `xref`: to write its cross references, and to run nothing.
+    References,
 }
 
 /// A command, its limits and the name of its file.
@@ -64,7 +66,11 @@ impl Command {
     {
         match self {
             Command::Run => true,
-            Command::Check | Command::Compile | Command::Listing | Command::Print => false,
+            Command::Check
+            | Command::Compile
+            | Command::Listing
+            | Command::Print
+            | Command::References => false,
         }
     }
 }
@@ -79,6 +85,7 @@ fn command_of(word: &str) -> Option<Command>
         "compile" => Some(Command::Compile),
         "list" => Some(Command::Listing),
         "print" => Some(Command::Print),
+        "xref" => Some(Command::References),
         _ => None,
     }
 }

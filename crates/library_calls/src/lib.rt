@@ -5,6 +5,8 @@
 #[cfg(test)]
 mod code_files;
 #[cfg(test)]
+mod code_runs;
+#[cfg(test)]
 mod images;
 #[cfg(test)]
 mod scheduling;

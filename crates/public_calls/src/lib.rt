@@ -9,10 +9,16 @@ mod ample_memory;
 #[cfg(test)]
 mod code_commands;
 #[cfg(test)]
+mod failing_ends;
+#[cfg(test)]
+mod generated;
+#[cfg(test)]
 mod limited_runs;
 #[cfg(test)]
 mod matches;
 #[cfg(test)]
 mod nesting;
+#[cfg(test)]
+mod references;
 #[cfg(test)]
 mod top_call;

@@ -74,3 +74,30 @@ fn nesting(rt: HostRuntime) {
         );
     }
 }
+
+// The value of the innermost expression comes out through as many parentheses as there may be.
+#[test]
+fn parentheses(rt: HostRuntime) {
+    let deep = b"line 1: Y2 nested too deeply\n".as_slice();
+    let rows = [
+        (198, 0, b" 1\n".as_slice(), b"".as_slice()),
+        (199, 1, b"", deep),
+    ];
+    for (row, (count, status, out, diag)) in rows.into_iter().enumerate() {
+        let mut source = Vec::new(rt.alloc());
+        add(&rt, &mut source, b"begin integer i; i := ");
+        add_repeated(&rt, &mut source, b"(", count);
+        add(&rt, &mut source, b"1");
+        add_repeated(&rt, &mut source, b")", count);
+        add(&rt, &mut source, b"; outint(i,2) end");
+        let wanted = Wanted { status, out, diag };
+        check(
+            &rt,
+            rt.alloc(),
+            row,
+            &["run", "source.sim"],
+            sound(&source),
+            wanted,
+        );
+    }
+}

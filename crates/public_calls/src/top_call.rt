@@ -9,7 +9,11 @@ use std::alloc::Global;
 use std::process::Abort;
 use std::test::Fail;
 
-// What is done to a command: the source in the file `source.sim`, the input, and the calls that fail.
+// The line of words that are no command.
+pub const USAGE: &[u8] =
+    b"usage: simula run [--storage W] [--ticks N] [--in-length N] [--out-length N] FILE, check|compile|list|print|xref FILE, gen N\n";
+
+// What is done to a command: the source in the file `source.sim`, the input, the calls that fail, and the most bytes that one call moves.
 #[derive(Clone, Copy)]
 pub struct Setting<'a> {
     pub source: &'a [u8],
@@ -20,6 +24,7 @@ pub struct Setting<'a> {
     pub out_room: usize,
     pub diag_failing: &'a [u64],
     pub diag_room: usize,
+    pub piece: usize,
 }
 
 // What a command is to answer: its status, its output and its line.
@@ -30,7 +35,15 @@ pub struct Wanted<'a> {
     pub diag: &'a [u8],
 }
 
-// Nothing fails.
+// What a command answered.
+#[derive(Drop)]
+pub struct Answer {
+    pub status: u8,
+    pub out: MemSink,
+    pub diag: MemSink,
+}
+
+// Nothing fails, and each call moves as much as there is.
 pub fn sound(source: &[u8]) -> Setting<'_> {
     Setting {
         source,
@@ -41,6 +54,7 @@ pub fn sound(source: &[u8]) -> Setting<'_> {
         out_room: 4096,
         diag_failing: &[],
         diag_room: 4096,
+        piece: usize::MAX,
     }
 }
 
@@ -60,6 +74,36 @@ fn file(rt: &impl Abort, alloc: Global, source: &[u8]) -> (String, Vec<u8>) {
     (name, source)
 }
 
+// Does the command of these words in such a setting.
+pub fn answer_of(rt: &impl Abort, alloc: Global, words: &[&str], setting: Setting) -> Answer {
+    assert!(rt; setting.piece > 0);
+    let words = texts(rt, alloc, words);
+    let file = file(rt, alloc, setting.source);
+    let files = MemFiles::new(alloc, &[file], setting.files_failing).expect(rt, "memory is ample");
+    let input = MemSource::new(alloc, setting.input, setting.input_failing).expect(
+        rt,
+        "memory is ample",
+    );
+    let out = MemSink::new(alloc, setting.out_failing, setting.out_room).expect(
+        rt,
+        "memory is ample",
+    );
+    let diag = MemSink::new(alloc, setting.diag_failing, setting.diag_room).expect(
+        rt,
+        "memory is ample",
+    );
+    let mut files = files.in_pieces(setting.piece);
+    let mut input = input.in_pieces(setting.piece);
+    let mut out = out.in_pieces(setting.piece);
+    let mut diag = diag.in_pieces(setting.piece);
+    let status: Status = simula(alloc, &words, &mut files, &mut input, &mut out, &mut diag);
+    Answer {
+        status: status.number(),
+        out,
+        diag,
+    }
+}
+
 // Does the command of these words in such a setting, and compares what it answers.
 pub fn check(
     rt: &impl Abort,
@@ -69,34 +113,15 @@ pub fn check(
     setting: Setting,
     wanted: Wanted,
 ) {
-    let words = texts(rt, alloc, words);
-    let file = file(rt, alloc, setting.source);
-    let mut files = MemFiles::new(alloc, &[file], setting.files_failing).expect(
-        rt,
-        "memory is ample",
-    );
-    let mut input = MemSource::new(alloc, setting.input, setting.input_failing).expect(
-        rt,
-        "memory is ample",
-    );
-    let mut out = MemSink::new(alloc, setting.out_failing, setting.out_room).expect(
-        rt,
-        "memory is ample",
-    );
-    let mut diag = MemSink::new(alloc, setting.diag_failing, setting.diag_room).expect(
-        rt,
-        "memory is ample",
-    );
-    let status: Status = simula(alloc, &words, &mut files, &mut input, &mut out, &mut diag);
-    assert!(rt; status.number() == wanted.status, "status of row {row}");
-    assert!(rt; out.bytes() == wanted.out, "output of row {row}");
-    assert!(rt; diag.bytes() == wanted.diag, "line of row {row}");
+    let answer = answer_of(rt, alloc, words, setting);
+    assert!(rt; answer.status == wanted.status, "status of row {row}");
+    assert!(rt; answer.out.bytes() == wanted.out, "output of row {row}");
+    assert!(rt; answer.diag.bytes() == wanted.diag, "line of row {row}");
 }
 
 #[test]
 fn words(rt: HostRuntime) {
-    let usage =
-        b"usage: simula run [--storage W] [--ticks N] [--in-length N] [--out-length N] FILE, check|compile|list|print FILE\n".as_slice();
+    let usage = USAGE;
     let unread = b"cannot read the file\n".as_slice();
     let rows = [
         ([].as_slice(), 5, b"".as_slice(), usage),
@@ -112,6 +137,8 @@ fn words(rt: HostRuntime) {
         ),
         (&["run", "--storage", "999", "source.sim"], 5, b"", usage),
         (&["print", "--storage=1000", "source.sim"], 5, b"", usage),
+        (&["xref", "--ticks=5", "source.sim"], 5, b"", usage),
+        (&["xref"], 5, b"", usage),
         (&["compile", "--ticks=5", "source.sim"], 5, b"", usage),
         (&["list"], 5, b"", usage),
         (&["run", "--", "--ticks=5", "source.sim"], 5, b"", usage),

@@ -32,7 +32,7 @@ use Rattle.sim_driver.specs.Compiling.{AllowedCompiles, AllowedCompilesIf, Answe
 use Rattle.sim_driver.specs.declared.compiling.Refusal.{Refusal}
 use Rattle.sim_driver.specs.declared.compiling.Refusal.TheVariants as refusal
 use Rattle.command_line.specs.declared.words.Command.{Command}
-use Rattle.command_line.specs.declared.words.Command.TheVariants.{Check, Compile, Listing, Print, Run}
+use Rattle.command_line.specs.declared.words.Command.TheVariants.{Check, Compile, Listing, Print, References, Run}
 
 -- what holds, holds of an Ok
 pub holds_on_ok : {T E P : Type 0} (r : Result T E) → P → OnOk r P
@@ -102,6 +102,7 @@ move_whole one Run tokens p q x y c is = move_tree one Run tokens p q x y c is
 move_whole one Check tokens p q x y c is = move_tree one Check tokens p q x y c is
 move_whole one Compile tokens p q x y c is = move_tree one Compile tokens p q x y c is
 move_whole one Listing tokens p q x y c is = move_tree one Listing tokens p q x y c is
+move_whole one References tokens p q x y c is = move_tree one References tokens p q x y c is
 move_whole one Print tokens p q x y c is = is ∙ ap (λ s. Printed (canonical_text s)) (one tokens p q x y)
 
 -- The steps.
@@ -124,6 +125,7 @@ whole_tree Run tokens tree c asks = itself (TreeCompiles Run tokens tree c)
 whole_tree Check tokens tree c asks = itself (TreeCompiles Check tokens tree c)
 whole_tree Compile tokens tree c asks = itself (TreeCompiles Compile tokens tree c)
 whole_tree Listing tokens tree c asks = itself (TreeCompiles Listing tokens tree c)
+whole_tree References tokens tree c asks = itself (TreeCompiles References tokens tree c)
 whole_tree Print tokens tree c asks = absurd (asks refl)
 
 -- tokens that the parser refuses

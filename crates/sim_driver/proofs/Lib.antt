@@ -1,4 +1,6 @@
 pub mod Answering
+pub mod AtTheEnd
+pub mod Generated
 pub mod Known
 pub mod Limits
 pub mod Meant

@@ -1,5 +1,5 @@
 -- What a program means, from how it was run.
-use Rattle.std.proofs.Common.{◌≡◌, ◌⊎◌, inl, inr, ℕ, false, List, [], Option, OnOk, Result, Ok, Err, refl, sym, ap, ◌∙◌, subst}
+use Rattle.std.proofs.Common.{◌≡◌, ◌⊎◌, inl, inr, ℕ, Bool, true, false, List, [], Option, OnOk, Result, Ok, Err, refl, sym, ap, ◌∙◌, subst}
 use Rattle.std.proofs.KnownBytes.{Appends-nil}
 use Rattle.std.specs.Io.KnownBytes.{Appends}
 use Rattle.sim_base.specs.declared.limits.Limits.{Limits}
@@ -11,8 +11,9 @@ use Rattle.sim_run.specs.declared.running.RunFailure.{RunFailure as NotRun}
 use Rattle.sim_run.specs.declared.running.RunEnd.{RunEnd}
 use Rattle.sim_run.specs.RunEnds.{BeforeARead, Begins as BeginsRun, Broken, Ran, TakesNothing}
 use Rattle.sim_run.proofs.OneEnd.{one_end}
+use Rattle.sim_xref.specs.Text.{references_text}
 use Rattle.sim_scope.specs.Source.{Source}
-use Rattle.sim_driver.specs.Compiling.{BoundCompiles, Coded, Compiled, Listed, Printed, Rejected, Runnable, Sound, SourceBinds, SourceCompiles, SourcePrints, SourceRejects, needs_code}
+use Rattle.sim_driver.specs.Compiling.{BoundCompiles, Coded, Compiled, Listed, Printed, Rejected, Runnable, Sound, SourceBinds, SourceCompiles, SourcePrints, SourceRejects}
 use Rattle.sim_driver.specs.OutputAfter.{InputAfter}
 use Rattle.sim_driver.specs.declared.failure.RunFailure.{RunFailure}
 use Rattle.sim_driver.specs.declared.failure.RunFailure.TheVariants.{Input, Memory, Output}
@@ -20,7 +21,7 @@ use Rattle.sim_driver.specs.SourceMeaning.{BoundMeans, Does, IsCutOff, Meaning, 
 use Rattle.sim_driver.specs.declared.status.Ending.{Ending}
 use Rattle.sim_driver.specs.declared.status.Ending.TheVariants.{Normal, Refused}
 use Rattle.command_line.specs.declared.words.Command.{Command}
-use Rattle.command_line.specs.declared.words.Command.TheVariants.{Check, Compile, Listing, Print, Run}
+use Rattle.command_line.specs.declared.words.Command.TheVariants.{Check, Compile, Listing, Print, References, Run}
 
 -- ---- a run
 
@@ -55,9 +56,15 @@ broken_by faults now l s input old new e f is broken = subst (λ x. Broken fault
 
 -- ---- what is checked and not run
 
-pub no_code : (command : Command) → (command ≡ Check) ⊎ (command ≡ Print) → needs_code command ≡ false
-no_code command (inl is) = ap needs_code is
-no_code command (inr is) = ap needs_code is
+-- a program that breaks no rule is all that is asked for
+abbrev writes_nothing : Command → Bool
+writes_nothing Check = true
+writes_nothing Print = true
+writes_nothing command = false
+
+pub only_checked : (command : Command) → (command ≡ Check) ⊎ (command ≡ Print) → writes_nothing command ≡ true
+only_checked command (inl is) = ap writes_nothing is
+only_checked command (inr is) = ap writes_nothing is
 
 abbrev says_nothing : Meaning
 says_nothing = record { ending = Normal; output = Exactly [] }
@@ -66,21 +73,23 @@ says_nothing = record { ending = Normal; output = Exactly [] }
 nothing_more : (old : Option (List ℕ)) → Writes old old (Exactly [])
 nothing_more old = ([], refl, Appends-nil old)
 
-pub checked_means : (command : Command) (l : Limits) (s : Source) (input : List ℕ) → needs_code command ≡ false → (meaning : Meaning) × BoundMeans command l s input meaning
+pub checked_means : (command : Command) (l : Limits) (s : Source) (input : List ℕ) → writes_nothing command ≡ true → (meaning : Meaning) × BoundMeans command l s input meaning
 checked_means Run l s input idle = absurd (cc idle)
 checked_means Compile l s input idle = absurd (cc idle)
 checked_means Listing l s input idle = absurd (cc idle)
+checked_means References l s input idle = absurd (cc idle)
 checked_means Check l s input idle = (says_nothing, record { compiled = Sound; compiles = refl; means = refl })
 checked_means Print l s input idle = (says_nothing, record { compiled = Sound; compiles = refl; means = refl })
 
-sound_of : (command : Command) (s : Source) (c : Compiled) → needs_code command ≡ false → BoundCompiles command s c → c ≡ Sound
+sound_of : (command : Command) (s : Source) (c : Compiled) → writes_nothing command ≡ true → BoundCompiles command s c → c ≡ Sound
 sound_of Run s c idle is = absurd (cc idle)
 sound_of Compile s c idle is = absurd (cc idle)
 sound_of Listing s c idle is = absurd (cc idle)
+sound_of References s c idle is = absurd (cc idle)
 sound_of Check s c idle is = is
 sound_of Print s c idle is = is
 
-pub checked_does : (command : Command) (l : Limits) (s : Source) (input : List ℕ) (old : Option (List ℕ)) (meaning : Meaning) → needs_code command ≡ false → BoundMeans command l s input meaning → (Normal ≡ meaning.ending) × Writes old old meaning.output
+pub checked_does : (command : Command) (l : Limits) (s : Source) (input : List ℕ) (old : Option (List ℕ)) (meaning : Meaning) → writes_nothing command ≡ true → BoundMeans command l s input meaning → (Normal ≡ meaning.ending) × Writes old old meaning.output
 checked_does command l s input old meaning idle is =
     let sound : Means l input Sound meaning = subst (λ (c : Compiled). Means l input c meaning) (sound_of command s is.compiled idle is.compiles) is.means in
     subst (λ (m : Meaning). (Normal ≡ m.ending) × Writes old old m.output) (sym sound) (refl, nothing_more old)
@@ -103,6 +112,18 @@ pub listed_does : {E : Type 0} (l : Limits) (s : Source) (input : List ℕ) (old
     → (meaning : Meaning) → BoundMeans Listing l s input meaning → Does meaning old new r
 listed_does l s input old new r does meaning is =
     let means : Means l input (Listed s) meaning = subst (λ (c : Compiled). Means l input c meaning) is.compiles is.means in
+    subst (λ (m : Meaning). Does m old new r) (sym means) does
+
+-- ---- cross references
+
+pub references_means : (l : Limits) (s : Source) (input : List ℕ) → (meaning : Meaning) × BoundMeans References l s input meaning
+references_means l s input =
+    (record { ending = Normal; output = Exactly (references_text s) }, record { compiled = Printed (references_text s); compiles = refl; means = refl })
+
+pub references_does : {E : Type 0} (l : Limits) (s : Source) (input : List ℕ) (old new : Option (List ℕ)) (r : Result Ending E) → Does (record { ending = Normal; output = Exactly (references_text s) }) old new r
+    → (meaning : Meaning) → BoundMeans References l s input meaning → Does meaning old new r
+references_does l s input old new r does meaning is =
+    let means : Means l input (Printed (references_text s)) meaning = subst (λ (c : Compiled). Means l input c meaning) is.compiles is.means in
     subst (λ (m : Meaning). Does m old new r) (sym means) does
 
 -- ---- what is printed
@@ -141,6 +162,7 @@ untouched_by Run source s rule line binds idle compiles = absurd (not_rejected s
 untouched_by Check source s rule line binds idle compiles = idle (λ is. cc is)
 untouched_by Compile source s rule line binds idle compiles = idle (λ is. cc is)
 untouched_by Listing source s rule line binds idle compiles = idle (λ is. cc is)
+untouched_by References source s rule line binds idle compiles = idle (λ is. cc is)
 untouched_by Print source s rule line binds idle compiles = idle (λ is. cc is)
 
 -- and one that runs a program does what is known of the run of that program
@@ -152,6 +174,7 @@ takes_by Run l source input s t binds idle takes compiles never = takes (subst (
 takes_by Check l source input s t binds idle takes compiles never = idle (λ is. cc is)
 takes_by Compile l source input s t binds idle takes compiles never = idle (λ is. cc is)
 takes_by Listing l source input s t binds idle takes compiles never = idle (λ is. cc is)
+takes_by References l source input s t binds idle takes compiles never = idle (λ is. cc is)
 takes_by Print l source input s t binds idle takes compiles never = idle (λ is. cc is)
 
 pub cut_by : {E P : Type 0} (faults now : ℕ) (command : Command) (l : Limits) (source input : List ℕ) (s : Source) (old new : Option (List ℕ)) (r : Result Ending E) (e : E) → SourceBinds command source s → ((command ≡ Run → ⊥) → (r ≡ Err e → ⊥) × P) → r ≡ Err e → BeforeARead faults now s l input old new
@@ -160,6 +183,7 @@ cut_by faults now Run l source input s old new r e binds idle is at = (refl, s, 
 cut_by faults now Check l source input s old new r e binds idle is at = absurd ((idle (λ same. cc same)).0 is)
 cut_by faults now Compile l source input s old new r e binds idle is at = absurd ((idle (λ same. cc same)).0 is)
 cut_by faults now Listing l source input s old new r e binds idle is at = absurd ((idle (λ same. cc same)).0 is)
+cut_by faults now References l source input s old new r e binds idle is at = absurd ((idle (λ same. cc same)).0 is)
 cut_by faults now Print l source input s old new r e binds idle is at = absurd ((idle (λ same. cc same)).0 is)
 
 -- ---- a source

@@ -2,6 +2,7 @@
 use Rattle.std.proofs.Common.{◌≡◌, ℕ, List, Option, Some, sym, subst}
 use Rattle.std.specs.Prelude.{MatchOption, ⊤}
 use Rattle.std.specs.Option.{option_map}
+use Rattle.command_line.specs.Generated.{generated_of}
 use Rattle.command_line.specs.Words.{Request, request_of}
 use Rattle.command_line.specs.declared.words.Command.TheVariants.{Run}
 use Rattle.sim_base.specs.declared.limits.Limits.{Limits}
@@ -16,7 +17,7 @@ tells_file content words source request is tells = subst (λ (o : Option Request
 -- an answer to a request is one to the words
 pub answer_of : (words : List (List ℕ)) (source given : List ℕ) (request : Request) → Some request ≡ request_of words
     → (answer : Answer) × IsSourceAnswer request.command request.limits source given answer → (answer : Answer) × IsAnswer words source given answer
-answer_of words source given request is (answer, means) = (answer, subst (λ (o : Option Request). IsAnswerFor o source given answer) is means)
+answer_of words source given request is (answer, means) = (answer, subst (λ (o : Option Request). IsAnswerFor o (generated_of words) source given answer) is means)
 
 -- a request was cut off as the words say
 pub cut_of : (faults now : ℕ) (words : List (List ℕ)) (source given : List ℕ) (request : Request) (old new : Option (List ℕ)) → Some request ≡ request_of words → IsCutOff faults now request.command request.limits source given old new → WasCutOff faults now words source given old new

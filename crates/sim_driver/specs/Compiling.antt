@@ -1,6 +1,6 @@
 -- What a command makes of a source: for `run` a program that can be run, for `compile` and `list` one whose code is written, for `check` that no
--- rule refuses it, for `print` its canonical text, and for each the rule that refuses it, with the line. `print` asks the rules of spelling and
--- of the grammar alone.
+-- rule refuses it, for `print` its canonical text, for `xref` its cross references, and for each the rule that refuses it, with the line. `print`
+-- asks the rules of spelling and of the grammar alone.
 use Rattle.std.specs.Prelude.{◌≡◌, ℕ, Bool, true, false, ◌&&◌, ◌||◌, List, Result, Ok, Err, Option, slice_index_or, ⊤}
 use Rattle.sim_base.specs.Place.{line_at}
 use Rattle.sim_base.specs.declared.numbering.Line.{Line}
@@ -26,10 +26,11 @@ use Rattle.sim_static.specs.UnbuiltNames.{has_unbuilt_name}
 use Rattle.sim_allowed.specs.MatchParameters.{has_match_with_parameters}
 use Rattle.sim_built.specs.Allowed.{IsChecked}
 use Rattle.sim_run.specs.RunEnds.{IsRunnable}
+use Rattle.sim_xref.specs.Text.{references_text}
 use Rattle.sim_driver.specs.declared.compiling.Refusal.{Refusal}
 use Rattle.sim_driver.specs.declared.compiling.Refusal.TheVariants as refusal
 use Rattle.command_line.specs.declared.words.Command.{Command}
-use Rattle.command_line.specs.declared.words.Command.TheVariants.{Compile, Listing, Print, Run}
+use Rattle.command_line.specs.declared.words.Command.TheVariants.{Compile, Listing, Print, References, Run}
 
 pub data Compiled : Type 0 where
   Runnable : Source → Compiled
@@ -38,7 +39,7 @@ pub data Compiled : Type 0 where
   Listed : Source → Compiled
   -- no rule refuses it
   Sound : Compiled
-  -- its canonical text
+  -- a text is written: its canonical text, or its cross references
   Printed : List ℕ → Compiled
   Rejected : Rule → Line → Compiled
 
@@ -61,6 +62,7 @@ abbrev pub BoundCompiles : Command → Source → Compiled → Type 0
 BoundCompiles Run s compiled = compiled ≡ Runnable s
 BoundCompiles Compile s compiled = compiled ≡ Coded s
 BoundCompiles Listing s compiled = compiled ≡ Listed s
+BoundCompiles References s compiled = compiled ≡ Printed (references_text s)
 BoundCompiles command s compiled = compiled ≡ Sound
 
 -- It is not built that a procedure with parameters matches a virtual.

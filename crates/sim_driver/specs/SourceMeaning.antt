@@ -31,8 +31,8 @@ pub record RunMeans (l : Limits) (s : Source) (input : List ℕ) (meaning : Mean
   pub ends : RunEnds s l input end output
   pub same : meaning ≡ record { ending = ending_of l end; output = Exactly output }
 
--- The meaning of what a command makes of a source. One that is checked runs nothing. Of one that is printed the text is written, and of a
--- program that is compiled or listed what is said of its code.
+-- The meaning of what a command makes of a source. One that is checked runs nothing. Of one that is printed, or whose cross references are asked
+-- for, the text is written, and of a program that is compiled or listed what is said of its code.
 abbrev pub Means : Limits → (input : List ℕ) → Compiled → Meaning → Type 0
 Means l input (Rejected rule line) meaning = meaning ≡ record { ending = Refused rule line; output = Exactly [] }
 Means l input Sound meaning = meaning ≡ record { ending = Normal; output = Exactly [] }

@@ -3,7 +3,7 @@ ghost use Rattle.std.specs.Prelude.{◌≡◌, Err, IfOk};
 ghost use Rattle.sim_run.specs.RunEnds.{IsRunnable};
 ghost use Rattle.sim_scope.specs.Source.{source_of};
 ghost use Rattle.sim_driver.specs.Output.{Holds, IsCodeFile, IsListing, Output};
-ghost use Rattle.sim_driver.specs.OutputAfter.{OutputAfter};
+ghost use Rattle.sim_driver.specs.OutputAfter.{OutputAfter, WritesAtTheEnd};
 ghost use Rattle.sim_driver.specs.SourceMeaning.{Does};
 
 use crate::failure::RunFailure;
@@ -42,6 +42,7 @@ pub fn write_made<O: Sink>(made: Result<Vec<u8>, Memory>, out: &mut O) -> Result
     ensures does { (output : Output) → IfOk made (λ bytes. Holds output bytes.items)
         → Does (record { ending = Ending.Normal; output = output }) (O.written out.old) (O.written out.new) result }
     ensures no_input { result ≡ Err RunFailure.Input → ⊥ }
+    ensures at_the_end { WritesAtTheEnd out.old out.new result }
     ensures output { OutputAfter O.written O.faults out.old out.new result }
 {
     match made {

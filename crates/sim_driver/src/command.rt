@@ -1,6 +1,7 @@
 // Does what the words ask for, but for the line on the diagnostic output.
-ghost use Rattle.std.specs.Prelude.{◌≡◌, ◌≤◌, ◌<◌, ◌+◌, ◌^◌, ◌-◌, ◌⊎◌, Err, Ok, length, None, Some, true, IfSome, IsSome, OnOk, List, Option, ℕ};
+ghost use Rattle.std.specs.Prelude.{◌≡◌, ◌≤◌, ◌<◌, ◌+◌, ◌^◌, ◌-◌, ◌⊎◌, Err, Ok, length, None, Some, true, IfSome, IsSome, OnOk, List, ℕ};
 ghost use Rattle.std.specs.Io.KnownBytes.{Keeps};
+ghost use Rattle.command_line.specs.Generated.{generated_of};
 ghost use Rattle.command_line.specs.Words.{texts};
 ghost use Rattle.sim_base.specs.declared.limits.Limits.{Limits as AnyLimits};
 ghost use Rattle.sim_base.specs.declared.numbering.Line.{Line as AnyLine};
@@ -9,27 +10,30 @@ ghost use Rattle.sim_ports.specs.Faults.{Rose, StopsAt};
 ghost use Rattle.sim_ports.specs.Named.{IsOpen};
 ghost use Rattle.sim_run.specs.RunEnds.{BeforeARead, IsRunnable, TakesNothing};
 ghost use Rattle.sim_scope.specs.Source.{Source as AnySource, source_of};
-ghost use Rattle.sim_driver.specs.Answer.{Answer, Gives, IsAnswer, IsSourceAnswer};
+ghost use Rattle.sim_driver.specs.Answer.{Answer, Gives, IsAnswer, IsSourceAnswer, RunsGenerated};
 ghost use Rattle.sim_driver.specs.Compiling.{Rejected, Runnable, SourceCompiles, needs_code};
 ghost use Rattle.sim_driver.specs.Output.{Begins};
-ghost use Rattle.sim_driver.specs.OutputAfter.{InputAfter, OutputAfter};
+ghost use Rattle.sim_driver.specs.OutputAfter.{InputAfter, OutputAfter, WritesAtTheEnd, WrittenAtTheEnd};
 ghost use Rattle.sim_driver.specs.Reading.{TakesAtMost};
 ghost use Rattle.sim_driver.specs.SourceMeaning.{BoundMeans, Does, IsCutOff, Meaning, SourceMeans, ending_of as ending_of_run};
 ghost use Rattle.sim_driver.specs.Status.{is_answer};
-ghost use Rattle.sim_driver.specs.Words.{AsksRun, AsksRunWith, TellsFile, WasCutOff, file_of};
+ghost use Rattle.sim_driver.specs.Words.{AsksRun, AsksRunWith, IsNoCommand, RunsNothing, TellsFile, WasCutOff, file_of};
 
 use crate::coding::{code_file_of, listing_of, write_made};
 use crate::compiling::{Refusal, bind};
 use crate::failure::RunFailure;
+use crate::no_input::NoInput;
 use crate::printing::print_source;
 use crate::reading::{ReadFailure, read_source};
 use crate::status::{Ending, Status};
-use command_line::{Command, Request, request_of};
-use sim_base::Limits;
+use command_line::{Command, Request, generated_of, request_of};
+use generated_program::generated_program;
+use sim_base::{Limits, Memory};
 use sim_lexer::SOURCE_LIMIT;
 use sim_ports::{Files, Sink, Source};
 use sim_run::{RunEnd, RunFailure as NotRun, compile_and_run};
 use sim_scope::Bound;
+use sim_xref::cross_references;
 use std::alloc::Global;
 
 /// Does what the words ask for, and says how that ended.
@@ -41,7 +45,7 @@ pub fn run_command<F: Files, I: Source, O: Sink>(
     out: &mut O,
 ) -> Status
     requires { F.selected files.old ≡ None }
-    ensures usage { result ≡ Status.Usage → file_of (texts words.now) ≡ None }
+    ensures usage { result ≡ Status.Usage → IsNoCommand (texts words.now) }
     ensures file_fault { result ≡ Status.FileFault → Rose (F.faults files.old) (F.faults files.new) × Keeps (O.written out.old) (O.written out.new) × IsSome (F.selected files.new) }
     ensures input_fault { result ≡ Status.InputFault → Rose (I.faults input.old) (I.faults input.new) }
     ensures write_fault { result ≡ Status.WriteFault → Rose (O.faults out.old) (O.faults out.new) }
@@ -61,6 +65,9 @@ pub fn run_command<F: Files, I: Source, O: Sink>(
     ensures cut { (source given : List ℕ) → TellsFile (F.content files.old) (texts words.now) source → I.left input.old ≡ Some given → result ≡ Status.InputFault
         → WasCutOff (I.faults input.old) (I.faults input.new) (texts words.now) source given (O.written out.old) (O.written out.new) }
     ensures only_run { (AsksRun (texts words.now) → ⊥) → input.new ≡ input.old }
+    ensures unread { (AsksRun (texts words.now) → ⊥) → result ≡ Status.InputFault → ⊥ }
+    ensures at_the_end { RunsNothing (texts words.now) → WrittenAtTheEnd out.old out.new result }
+    ensures generated { (processes : ℕ) → generated_of (texts words.now) ≡ Some processes → RunsGenerated processes result (O.written out.old) (O.written out.new) }
     ensures untouched { (source : List ℕ) (rule : AnyRule) (line : AnyLine) → TellsFile (F.content files.old) (texts words.now) source
         → SourceCompiles Command.Run source (Rejected rule line) → input.new ≡ input.old }
     ensures takes { (l : AnyLimits) (source given : List ℕ) (s : AnySource) → AsksRunWith (texts words.now) l → TellsFile (F.content files.old) (texts words.now) source
@@ -76,7 +83,34 @@ pub fn run_command<F: Files, I: Source, O: Sink>(
                 file,
             },
         ) => answer_request(alloc, command, &limits, file, files, input, out),
-        None => Status::Usage,
+        None => match generated_of(words) {
+            Some(processes) => run_generated(alloc, processes, out),
+            None => Status::Usage,
+        },
+    }
+}
+
+// Runs the generated program of so many processes, with no options and no input.
+fn run_generated<O: Sink>(alloc: Global, processes: u32, out: &mut O) -> Status
+    requires { processes ≤ 20000 }
+    ensures no_usage { result ≡ Status.Usage → ⊥ }
+    ensures no_file_fault { result ≡ Status.FileFault → ⊥ }
+    ensures no_input_fault { result ≡ Status.InputFault → ⊥ }
+    ensures write_fault { result ≡ Status.WriteFault → Rose (O.faults out.old) (O.faults out.new) }
+    ensures stops { (O.faults out.new ≡ O.faults out.old) ⊎ StopsAt O.written O.faults out.old out.new }
+    ensures runs { RunsGenerated processes result (O.written out.old) (O.written out.new) }
+    ensures later { O.faults out.old ≤ O.faults out.new }
+{
+    match generated_program(alloc, processes) {
+        Ok(source) => answer_source(
+            alloc,
+            Command::Run,
+            &Limits::without_options(),
+            &source,
+            &mut NoInput,
+            out,
+        ),
+        Err(Memory) => Status::Memory,
     }
 }
 
@@ -109,6 +143,8 @@ fn answer_request<F: Files, I: Source, O: Sink>(
     ensures cut { (source given : List ℕ) → F.content files.old file.now ≡ Some source → I.left input.old ≡ Some given → result ≡ Status.InputFault
         → IsCutOff (I.faults input.old) (I.faults input.new) command limits.now source given (O.written out.old) (O.written out.new) }
     ensures only_run { (command ≡ Command.Run → ⊥) → input.new ≡ input.old }
+    ensures unread { (command ≡ Command.Run → ⊥) → result ≡ Status.InputFault → ⊥ }
+    ensures at_the_end { (command ≡ Command.Run → ⊥) → WrittenAtTheEnd out.old out.new result }
     ensures untouched { (source : List ℕ) (rule : AnyRule) (line : AnyLine) → F.content files.old file.now ≡ Some source
         → SourceCompiles Command.Run source (Rejected rule line) → input.new ≡ input.old }
     ensures takes { (source given : List ℕ) (s : AnySource) → F.content files.old file.now ≡ Some source → I.left input.old ≡ Some given
@@ -144,6 +180,8 @@ fn answer_source<I: Source, O: Sink>(
     ensures prefix { (given : List ℕ) (answer : Answer) → I.left input.old ≡ Some given → IsSourceAnswer command limits.now source.now given answer → Begins (O.written out.old) (O.written out.new) answer.output }
     ensures cut { (given : List ℕ) → I.left input.old ≡ Some given → result ≡ Status.InputFault → IsCutOff (I.faults input.old) (I.faults input.new) command limits.now source.now given (O.written out.old) (O.written out.new) }
     ensures only_run { (command ≡ Command.Run → ⊥) → input.new ≡ input.old }
+    ensures unread { (command ≡ Command.Run → ⊥) → result ≡ Status.InputFault → ⊥ }
+    ensures at_the_end { (command ≡ Command.Run → ⊥) → WrittenAtTheEnd out.old out.new result }
     ensures untouched { (rule : AnyRule) (line : AnyLine) → SourceCompiles Command.Run source.now (Rejected rule line) → input.new ≡ input.old }
     ensures takes { (given : List ℕ) (s : AnySource) → I.left input.old ≡ Some given → SourceCompiles Command.Run source.now (Runnable s) → TakesNothing s limits.now given → input.new ≡ input.old }
     ensures later { O.faults out.old ≤ O.faults out.new }
@@ -171,6 +209,8 @@ fn do_command<I: Source, O: Sink>(
     ensures does { (given : List ℕ) (meaning : Meaning) → I.left input.old ≡ Some given → SourceMeans command limits.now source.now given meaning → Does meaning (O.written out.old) (O.written out.new) result }
     ensures cut { (given : List ℕ) → I.left input.old ≡ Some given → result ≡ Err RunFailure.Input → IsCutOff (I.faults input.old) (I.faults input.new) command limits.now source.now given (O.written out.old) (O.written out.new) }
     ensures only_run { (command ≡ Command.Run → ⊥) → input.new ≡ input.old }
+    ensures unread { (command ≡ Command.Run → ⊥) → result ≡ Err RunFailure.Input → ⊥ }
+    ensures at_the_end { (command ≡ Command.Run → ⊥) → WritesAtTheEnd out.old out.new result }
     ensures untouched { (rule : AnyRule) (line : AnyLine) → SourceCompiles Command.Run source.now (Rejected rule line) → input.new ≡ input.old }
     ensures takes { (given : List ℕ) (s : AnySource) → I.left input.old ≡ Some given → SourceCompiles Command.Run source.now (Runnable s) → TakesNothing s limits.now given → input.new ≡ input.old }
     ensures output { OutputAfter O.written O.faults out.old out.new result }
@@ -178,9 +218,8 @@ fn do_command<I: Source, O: Sink>(
 {
     match command {
         Command::Print => print_source(alloc, source, out),
-        Command::Run | Command::Check | Command::Compile | Command::Listing => bind_and_do(
-            alloc, command, limits, source, input, out,
-        ),
+        Command::Run | Command::Check | Command::Compile | Command::Listing | Command::References =>
+            bind_and_do(alloc, command, limits, source, input, out),
     }
 }
 
@@ -199,6 +238,8 @@ fn bind_and_do<I: Source, O: Sink>(
     ensures does { (given : List ℕ) (meaning : Meaning) → I.left input.old ≡ Some given → SourceMeans command limits.now source.now given meaning → Does meaning (O.written out.old) (O.written out.new) result }
     ensures cut { (given : List ℕ) → I.left input.old ≡ Some given → result ≡ Err RunFailure.Input → IsCutOff (I.faults input.old) (I.faults input.new) command limits.now source.now given (O.written out.old) (O.written out.new) }
     ensures only_run { (command ≡ Command.Run → ⊥) → input.new ≡ input.old }
+    ensures unread { (command ≡ Command.Run → ⊥) → result ≡ Err RunFailure.Input → ⊥ }
+    ensures at_the_end { (command ≡ Command.Run → ⊥) → WritesAtTheEnd out.old out.new result }
     ensures untouched { (rule : AnyRule) (line : AnyLine) → SourceCompiles Command.Run source.now (Rejected rule line) → input.new ≡ input.old }
     ensures takes { (given : List ℕ) (s : AnySource) → I.left input.old ≡ Some given → SourceCompiles Command.Run source.now (Runnable s) → TakesNothing s limits.now given → input.new ≡ input.old }
     ensures output { OutputAfter O.written O.faults out.old out.new result }
@@ -225,6 +266,7 @@ fn do_bound<I: Source, O: Sink>(
     ensures does { (given : List ℕ) (meaning : Meaning) → I.left input.old ≡ Some given → BoundMeans command limits.now (source_of bound.now) given meaning → Does meaning (O.written out.old) (O.written out.new) result }
     ensures cut { (given : List ℕ) → I.left input.old ≡ Some given → result ≡ Err RunFailure.Input → BeforeARead (I.faults input.old) (I.faults input.new) (source_of bound.now) limits.now given (O.written out.old) (O.written out.new) }
     ensures only_run { (command ≡ Command.Run → ⊥) → (result ≡ Err RunFailure.Input → ⊥) × (input.new ≡ input.old) }
+    ensures at_the_end { (command ≡ Command.Run → ⊥) → WritesAtTheEnd out.old out.new result }
     ensures takes { (given : List ℕ) → I.left input.old ≡ Some given → TakesNothing (source_of bound.now) limits.now given → input.new ≡ input.old }
     ensures output { OutputAfter O.written O.faults out.old out.new result }
     ensures input { InputAfter (I.faults input.old) (I.faults input.new) result }
@@ -233,6 +275,7 @@ fn do_bound<I: Source, O: Sink>(
         Command::Run => run(alloc, limits, bound, input, out),
         Command::Compile => write_made(code_file_of(alloc, bound), out),
         Command::Listing => write_made(listing_of(alloc, bound), out),
+        Command::References => write_made(cross_references(alloc, bound), out),
         Command::Check | Command::Print => Ok(Ending::Normal),
     }
 }

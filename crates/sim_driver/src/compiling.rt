@@ -112,7 +112,7 @@ fn needs_code(command: Command) -> bool
 {
     match command {
         Command::Run | Command::Compile | Command::Listing => true,
-        Command::Check | Command::Print => false,
+        Command::Check | Command::Print | Command::References => false,
     }
 }
 

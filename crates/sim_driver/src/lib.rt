@@ -5,6 +5,7 @@ mod coding;
 mod command;
 mod compiling;
 mod failure;
+mod no_input;
 mod printing;
 mod reading;
 mod speaking;

@@ -1,7 +1,7 @@
 // Writes the canonical text of a source.
 ghost use Rattle.std.specs.Prelude.{◌≡◌, ◌<◌, ◌^◌, ◌-◌, length, Err, OnOk, List, ℕ};
 ghost use Rattle.sim_base.specs.declared.limits.Limits.{Limits as AnyLimits};
-ghost use Rattle.sim_driver.specs.OutputAfter.{OutputAfter};
+ghost use Rattle.sim_driver.specs.OutputAfter.{OutputAfter, WritesAtTheEnd};
 ghost use Rattle.sim_driver.specs.SourceMeaning.{Does, Meaning, SourceMeans};
 
 use crate::compiling::{Refusal, text_of};
@@ -21,6 +21,7 @@ pub fn print_source<O: Sink>(
     ensures known { (l : AnyLimits) (given : List ℕ) → OnOk result ((meaning : Meaning) × SourceMeans Command.Print l source.now given meaning) }
     ensures does { (l : AnyLimits) (given : List ℕ) (meaning : Meaning) → SourceMeans Command.Print l source.now given meaning → Does meaning (O.written out.old) (O.written out.new) result }
     ensures no_input { result ≡ Err RunFailure.Input → ⊥ }
+    ensures at_the_end { WritesAtTheEnd out.old out.new result }
     ensures output { OutputAfter O.written O.faults out.old out.new result }
 {
     match text_of(alloc, source) {

@@ -137,7 +137,7 @@ impl fmt::Display for Status {
             ),
             Status::TickLimit { ticks } => write!(f, "tick limit {ticks} reached"),
             Status::Usage => f.write_str(
-                "usage: simula run [--storage W] [--ticks N] [--in-length N] [--out-length N] FILE, check|compile|list|print FILE",
+                "usage: simula run [--storage W] [--ticks N] [--in-length N] [--out-length N] FILE, check|compile|list|print|xref FILE, gen N",
             ),
             Status::FileFault => f.write_str("cannot read the file"),
             Status::InputFault => f.write_str("input fault"),

@@ -3,7 +3,7 @@ ghost use Rattle.std.specs.Prelude.{◌≡◌, ◌+◌, ◌⊎◌, List, ℕ, No
 ghost use Rattle.std.specs.Io.KnownBytes.{Appends, Keeps};
 ghost use Rattle.sim_ports.specs.Faults.{Rose, Steady, StopsAt};
 ghost use Rattle.sim_ports.specs.Named.{IsOpen};
-ghost use Rattle.sim_driver.specs.Answer.{Answer, Gives, IsAnswer};
+ghost use Rattle.sim_driver.specs.Answer.{Answer, Gives, IsAnswer, RunsGenerated};
 ghost use Rattle.sim_run.specs.RunEnds.{TakesNothing};
 ghost use Rattle.sim_scope.specs.Source.{Source as AnySource};
 ghost use Rattle.sim_driver.specs.Compiling.{Rejected, Runnable, SourceCompiles};
@@ -11,7 +11,8 @@ ghost use Rattle.sim_driver.specs.Output.{Begins};
 ghost use Rattle.sim_driver.specs.Reading.{TakesAtMost};
 ghost use Rattle.sim_driver.specs.Speaking.{HasItsCause, Says};
 ghost use Rattle.sim_driver.specs.Status.{is_answer, is_told, line_text};
-ghost use Rattle.sim_driver.specs.Words.{AsksRun, AsksRunWith, TellsFile, WasCutOff, file_of};
+ghost use Rattle.sim_driver.specs.Words.{AsksRun, AsksRunWith, IsNoCommand, RunsNothing, TellsFile, WasCutOff, file_of};
+ghost use Rattle.command_line.specs.Generated.{generated_of};
 ghost use Rattle.command_line.specs.Words.{texts};
 ghost use Rattle.sim_base.specs.declared.limits.Limits.{Limits as AnyLimits};
 ghost use Rattle.sim_base.specs.declared.numbering.Line.{Line as AnyLine};
@@ -28,7 +29,7 @@ use std::alloc::Global;
 
 /// Does what the words of the command line ask for. `run FILE` runs the source in the file, under the limits that its options set, and its
 /// output goes to `out`; `compile FILE` and `list FILE` write its code there, as a code file and as text; `print FILE` writes its canonical text
-/// there; `check FILE` writes nothing. Of these only `run` runs anything. One line to `diag` says how it ended, but for a normal end.
+/// there, and `xref FILE` its cross references; `check FILE` writes nothing. Of these only `run` runs anything. `gen N` runs the generated program of N processes. One line to `diag` says how it ended, but for a normal end.
 pub fn simula<F: Files, I: Source, O: Sink, D: Sink>(
     alloc: Global,
     words: &[String],
@@ -49,7 +50,7 @@ pub fn simula<F: Files, I: Source, O: Sink, D: Sink>(
         × Appends (D.written diag.old) (D.written diag.new) (line_text result) }
 
     // The cause of each status that the answer doesn't give.
-    ensures usage { result ≡ Status.Usage → file_of (texts words.now) ≡ None }
+    ensures usage { result ≡ Status.Usage → IsNoCommand (texts words.now) }
     ensures file_fault { result ≡ Status.FileFault → Rose (F.faults files.old) (F.faults files.new) × Keeps (O.written out.old) (O.written out.new) × IsSome (F.selected files.new) }
     ensures input_fault { result ≡ Status.InputFault → Rose (I.faults input.old) (I.faults input.new) }
     ensures write_fault { result ≡ Status.WriteFault → Rose (O.faults out.old) (O.faults out.new) ⊎ Rose (D.faults diag.old) (D.faults diag.new) }
@@ -91,8 +92,15 @@ pub fn simula<F: Files, I: Source, O: Sink, D: Sink>(
     ensures cut { (source given : List ℕ) → TellsFile (F.content files.old) (texts words.now) source → I.left input.old ≡ Some given → result ≡ Status.InputFault
         → WasCutOff (I.faults input.old) (I.faults input.new) (texts words.now) source given (O.written out.old) (O.written out.new) }
 
-    // The input is as it was where no run is asked for, and where a rule refuses the source.
+    // `gen` runs the generated program with no options and no input, whatever files and the input are.
+    ensures generated { (processes : ℕ) → generated_of (texts words.now) ≡ Some processes → RunsGenerated processes result (O.written out.old) (O.written out.new) }
+
+    // Where nothing is run, want of memory leaves the output as it was.
+    ensures none_written { RunsNothing (texts words.now) → result ≡ Status.Memory → out.new ≡ out.old }
+
+    // The input is as it was where no run of a file is asked for, and where a rule refuses the source.
     ensures only_run { (AsksRun (texts words.now) → ⊥) → input.new ≡ input.old }
+    ensures unread { (AsksRun (texts words.now) → ⊥) → result ≡ Status.InputFault → ⊥ }
     ensures untouched { (source : List ℕ) (rule : AnyRule) (line : AnyLine) → TellsFile (F.content files.old) (texts words.now) source
         → SourceCompiles Run source (Rejected rule line) → input.new ≡ input.old }
 

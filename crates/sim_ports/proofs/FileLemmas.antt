@@ -42,21 +42,21 @@ pub record IsRead (old new : Option (List ℕ)) (into : List ℕ) (n : ℕ) : Ty
   pub consumes : Consumes old new (take n into)
   pub ends : n ≡ 0 → 0 < length into → IsAtEnd new
 
-found_read : (found : Option (List ℕ)) (into rest : List ℕ) (place n : ℕ) → IfSome (option_map (drop place) found) (λ left. rest ≡ left)
-    → n ≡ min (length rest) (length into) → take n into ≡ take n rest
+found_read : (found : Option (List ℕ)) (into rest : List ℕ) (place most n : ℕ) → IfSome (option_map (drop place) found) (λ left. rest ≡ left)
+    → n ≡ min (min (length rest) (length into)) most → 0 < most → take n into ≡ take n rest
     → IsRead (option_map (drop place) found) (option_map (drop (place + n)) found) into n
-found_read None into rest place n is counts same = record { consumes = tt; ends = λ none room. tt }
-found_read (Some bytes) into rest place n is counts same = record {
+found_read None into rest place most n is counts moves same = record { consumes = tt; ends = λ none room. tt }
+found_read (Some bytes) into rest place most n is counts moves same = record {
   consumes = reads_next bytes into place n (rw is at same);
-  ends = λ none room. reads_none bytes place (length into) n (rw is at counts) room none;
+  ends = λ none room. reads_none bytes place (length into) most n (rw is at counts) room moves none;
 }
 
 -- a read of the open file
-pub open_read : (files : List (List ℕ × List ℕ)) (selected : Option (String Global)) (is_open : Bool) (into rest : List ℕ) (place n : ℕ)
+pub open_read : (files : List (List ℕ × List ℕ)) (selected : Option (String Global)) (is_open : Bool) (into rest : List ℕ) (place most n : ℕ)
     → IsOpen (selected_of selected is_open) → IfSome (left_of files selected is_open place) (λ left. rest ≡ left)
-    → n ≡ min (length rest) (length into) → take n into ≡ take n rest
+    → n ≡ min (min (length rest) (length into)) most → 0 < most → take n into ≡ take n rest
     → IsRead (left_of files selected is_open place) (left_of files selected is_open (place + n)) into n
-open_read files None is_open into rest place n opened is counts same = absurd opened
-open_read files (Some name) false into rest place n opened is counts same = cc
-open_read files (Some name) true into rest place n opened is counts same =
-    found_read (bytes_named files (string_bytes name)) into rest place n is counts same
+open_read files None is_open into rest place most n opened is counts moves same = absurd opened
+open_read files (Some name) false into rest place most n opened is counts moves same = cc
+open_read files (Some name) true into rest place most n opened is counts moves same =
+    found_read (bytes_named files (string_bytes name)) into rest place most n is counts moves same

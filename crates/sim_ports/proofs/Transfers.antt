@@ -20,6 +20,6 @@ empty_if [] none = refl
 empty_if (x ∷ xs) none = absurd (omega arith)
 
 -- nothing is read into a piece with room only at the end
-pub reads_none : (bytes : List ℕ) (place room n : ℕ) → n ≡ min (length (drop place bytes)) room → 0 < room → n ≡ 0 → drop (place + n) bytes ≡ []
-reads_none bytes place room n is some none =
+pub reads_none : (bytes : List ℕ) (place room most n : ℕ) → n ≡ min (min (length (drop place bytes)) room) most → 0 < room → 0 < most → n ≡ 0 → drop (place + n) bytes ≡ []
+reads_none bytes place room most n is some moves none =
     let here : place + n ≡ place = omega arith in rw here (empty_if (drop place bytes) (omega arith))

@@ -3,7 +3,7 @@ ghost use Rattle.std.specs.Prelude.{◌≡◌, ◌+◌, ◌<◌, ◌^◌, ℕ, [
 ghost use Rattle.std.specs.Io.{ReadsAtMost};
 ghost use Rattle.std.specs.Io.KnownBytes.{ReadConsumes};
 ghost use Rattle.std.specs.Option.{option_map};
-ghost use Rattle.sim_ports.specs.Calls.{fails_next, after_call, after_piece};
+ghost use Rattle.sim_ports.specs.Calls.{calls_in_pieces, fails_next, after_call, after_piece};
 ghost use Rattle.sim_ports.specs.Faults.{HasCause};
 ghost use Rattle.sim_ports.specs.Memory.{bytes_named, fresh_files, kept_named, left_of, plain};
 ghost use Rattle.sim_ports.specs.Named.{IsOpen};
@@ -62,6 +62,18 @@ impl MemFiles {
             place: 0,
             calls: Calls::new(alloc, failing)?,
         })
+    }
+
+    /// The same files, of which each later call moves at most `size` bytes.
+    pub fn in_pieces(mut self, size: usize) -> Self
+        requires { 0 < size }
+        ensures files { result.files ≡ self.files }
+        ensures selected { result.selected ≡ self.selected }
+        ensures left { result.left ≡ self.left }
+        ensures pieces { result.calls ≡ calls_in_pieces size self.calls }
+    {
+        self.calls.move_in_pieces(size);
+        self
     }
 }
 
@@ -142,9 +154,9 @@ impl Files for MemFiles {
         ensures steady { OnOk result (self.new.calls.faults ≡ self.old.calls.faults) }
         ensures sound { self.old.calls.failing ≡ [] → (self.new.calls.failing ≡ []) × IsOk result }
 
-        // Exactly the listed calls fail, and the others give as much as there is room for.
+        // Exactly the listed calls fail, and the others give as much as there is room for, in a piece.
         ensures fails { 0 < length into.old → is_ok result ≡ not (fails_next self.old.calls) }
-        ensures count { IfOk result (λ count. IfSome self.old.left (λ left. count ≡ min (length into.old) (length left))) }
+        ensures count { IfOk result (λ count. IfSome self.old.left (λ left. count ≡ min (min (length into.old) (length left)) self.old.calls.most)) }
         ensures calls { self.new.calls ≡ after_piece (length into.old) (is_ok result) self.old.calls }
         ensures files { self.new.files ≡ self.old.files }
     {
@@ -156,7 +168,7 @@ impl Files for MemFiles {
             return Err(Failed);
         }
         let rest = rest_of(&self.files, &self.selected, self.is_open, self.place);
-        let count = copy_front(rest, into);
+        let count = copy_front(rest, into, self.calls.most());
         self.place += count;
         self.calls.count(true);
         Ok(count)

@@ -1,7 +1,7 @@
 //! An output in memory.
 ghost use Rattle.std.specs.Prelude.{◌≡◌, ◌+◌, ◌-◌, ◌<◌, ◌≤◌, ℕ, Some, length, min, not, ◌&&◌, nat_lt, is_ok, IfOk, OnOk, OnErr, Ok, IsOk};
 ghost use Rattle.std.specs.Io.KnownBytes.{WriteAppends};
-ghost use Rattle.sim_ports.specs.Calls.{fails_next, after_piece};
+ghost use Rattle.sim_ports.specs.Calls.{calls_in_pieces, fails_next, after_piece};
 ghost use Rattle.sim_ports.specs.Faults.{HasCause};
 ghost use Rattle.sim_ports.specs.Memory.{fresh_output, sure_room};
 
@@ -43,6 +43,17 @@ impl MemSink {
         })
     }
 
+    /// The same output, of which each later call moves at most `size` bytes.
+    pub fn in_pieces(mut self, size: usize) -> Self
+        requires { 0 < size }
+        ensures written { result.written ≡ self.written }
+        ensures room { result.room ≡ self.room }
+        ensures pieces { result.calls ≡ calls_in_pieces size self.calls }
+    {
+        self.calls.move_in_pieces(size);
+        self
+    }
+
     /// What was written.
     pub fn bytes(&self) -> &[u8]
         ensures same { result.now ≡ self.now.written }
@@ -69,9 +80,10 @@ impl Sink for MemSink {
         ensures room { IfOk result (λ count.
             sure_room self.old.calls.failing self.old.room ≤ sure_room self.new.calls.failing self.new.room + count) }
 
-        // Exactly the listed calls fail and those without room, and the others take as much as there is room for.
+        // Exactly the listed calls fail and those without room, and the others take as much as there is room for, in
+        // a piece.
         ensures fails { 0 < length piece.now → is_ok result ≡ (not (fails_next self.old.calls) && nat_lt 0 self.old.room) }
-        ensures count { IfOk result (λ count. count ≡ min (length piece.now) self.old.room) }
+        ensures count { IfOk result (λ count. count ≡ min (min (length piece.now) self.old.room) self.old.calls.most) }
         ensures left { IfOk result (λ count. self.old.room ≡ self.new.room + count) }
         ensures kept { OnErr result ((self.new.written ≡ self.old.written) × (self.new.room ≡ self.old.room)) }
         ensures calls { self.new.calls ≡ after_piece (length piece.now) (is_ok result) self.old.calls }
@@ -83,7 +95,7 @@ impl Sink for MemSink {
             self.calls.count(false);
             return Err(Failed);
         }
-        let count = piece.len().min(self.room);
+        let count = piece.len().min(self.room).min(self.calls.most());
         self.bytes.extend_from_slice(&piece[..count]).unwrap();
         self.room -= count;
         self.calls.count(true);

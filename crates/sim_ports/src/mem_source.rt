@@ -2,7 +2,7 @@
 ghost use Rattle.std.specs.Prelude.{◌≡◌, ◌+◌, ◌<◌, ℕ, [], Some, drop, length, min, not, is_ok, IfOk, OnOk, OnErr, Ok, IsOk};
 ghost use Rattle.std.specs.Io.{ReadsAtMost};
 ghost use Rattle.std.specs.Io.KnownBytes.{ReadConsumes};
-ghost use Rattle.sim_ports.specs.Calls.{fails_next, after_piece};
+ghost use Rattle.sim_ports.specs.Calls.{calls_in_pieces, fails_next, after_piece};
 ghost use Rattle.sim_ports.specs.Faults.{HasCause};
 ghost use Rattle.sim_ports.specs.Memory.{fresh_input};
 
@@ -45,6 +45,16 @@ impl MemSource {
         })
     }
 
+    /// The same input, of which each later call moves at most `size` bytes.
+    pub fn in_pieces(mut self, size: usize) -> Self
+        requires { 0 < size }
+        ensures left { result.left ≡ self.left }
+        ensures pieces { result.calls ≡ calls_in_pieces size self.calls }
+    {
+        self.calls.move_in_pieces(size);
+        self
+    }
+
     // The bytes left.
     fn rest(&self) -> &[u8]
         ensures same { result.now ≡ self.now.left }
@@ -72,9 +82,9 @@ impl Source for MemSource {
         ensures steady { OnOk result (self.new.calls.faults ≡ self.old.calls.faults) }
         ensures sound { self.old.calls.failing ≡ [] → (self.new.calls.failing ≡ []) × IsOk result }
 
-        // Exactly the listed calls fail, and the others give as much as there is room for.
+        // Exactly the listed calls fail, and the others give as much as there is room for, in a piece.
         ensures fails { 0 < length into.old → is_ok result ≡ not (fails_next self.old.calls) }
-        ensures count { IfOk result (λ count. count ≡ min (length into.old) (length self.old.left)) }
+        ensures count { IfOk result (λ count. count ≡ min (min (length into.old) (length self.old.left)) self.old.calls.most) }
         ensures calls { self.new.calls ≡ after_piece (length into.old) (is_ok result) self.old.calls }
     {
         if into.is_empty() {
@@ -84,7 +94,7 @@ impl Source for MemSource {
             self.calls.count(false);
             return Err(Failed);
         }
-        let count = copy_front(self.rest(), into);
+        let count = copy_front(self.rest(), into, self.calls.most());
         self.place += count;
         self.calls.count(true);
         Ok(count)

@@ -3,33 +3,35 @@
 
 use sim_driver::{Status, simula};
 use sim_ends::{Input, Output, RealFiles};
-use std::alloc::{AllocError, Global};
+use std::alloc::AllocError;
 use std::env;
-use std::env::Args;
+use std::io::ErrorKind;
 use std::process::ExitCode;
 
 fn main(rt: HostRuntime) -> ExitCode {
-    let alloc = rt.alloc();
-    let words = match env::args(&rt) {
-        // Words that are no text are no command.
-        Err(_) => Ok(Vec::new(alloc)),
-        Ok(args) => words_of(alloc, args),
-    };
-    let status = match words {
+    let status = match words(&rt) {
         Ok(words) => simula(
-            alloc,
+            rt.alloc(),
             &words,
             &mut RealFiles::new(&rt),
             &mut Input::new(rt.stdin()),
             &mut Output::new(rt.stdout()),
             &mut Output::new(rt.stderr()),
         ),
-        Err(AllocError) => Status::Memory,
+        Err(AllocError) => {
+            // The line is tried once.
+            let _ = eprintln!(rt; "{}", Status::Memory);
+            Status::Memory
+        }
     };
     ExitCode::from(status.number())
 }
 
-// The words after the program's name.
-fn words_of(alloc: Global, args: Args) -> Result<Vec<String>, AllocError> {
-    args.skip(1).collect(alloc)
+// The words after the program's name. Where one of them is no text there are none, since such words are no command.
+fn words(rt: &HostRuntime) -> Result<Vec<String>, AllocError> {
+    match env::args(rt) {
+        Ok(args) => args.skip(1).collect(rt.alloc()),
+        Err(error) if error.kind() == ErrorKind::OutOfMemory => Err(AllocError),
+        Err(_) => Ok(Vec::new(rt.alloc())),
+    }
 }

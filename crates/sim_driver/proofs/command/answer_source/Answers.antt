@@ -1,3 +1,4 @@
+use Rattle.sim_driver.proofs.AtTheEnd.{ended}
 use Rattle.sim_driver.proofs.Answering.{answered, given, begun, begun_whole}
 use Rattle.sim_driver.proofs.command.answer_source.Goals as goal
 
@@ -19,3 +20,6 @@ returns-in-Err-Output-clause-prefix g c input answer told means = begun c.args.c
 
 pub returns-in-Err-Memory-clause-prefix : goal.returns-in-Err-Memory-clause-prefix
 returns-in-Err-Memory-clause-prefix g c input answer told means = begun c.args.command c.args.limits.now c.args.source.now input _ _ answer (λ meaning. c.in-Err-Memory.ensures.does input meaning told) means
+
+pub returns-in-Ok-clause-at_the_end : goal.returns-in-Ok-clause-at_the_end
+returns-in-Ok-clause-at_the_end g c idle = ended c.args.out.now _ c.in-Ok.ending c.status.result c.status.ensures (c.in-Ok.ensures.at_the_end idle)

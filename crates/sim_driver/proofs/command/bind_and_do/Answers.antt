@@ -32,3 +32,6 @@ returns-in-Ok-clause-untouched g c rule line compiles =
 pub returns-in-Ok-clause-takes : goal.returns-in-Ok-clause-takes
 returns-in-Ok-clause-takes g c given s told compiles never =
     takes_by c.args.command c.args.limits.now c.args.source.now given s (source_of c.in-Ok.bound) c.in-Ok.ensures.0 (λ idle. (c.do_bound.ensures.only_run idle).1) (c.do_bound.ensures.takes given told) compiles never
+
+pub returns-in-Ok-clause-unread : goal.returns-in-Ok-clause-unread
+returns-in-Ok-clause-unread g c idle = (c.do_bound.ensures.only_run idle).0

@@ -1,6 +1,8 @@
 use Rattle.std.proofs.Common.{inl, inr, ◌≡◌, true, false, ◌∙◌, sym, ap}
 use Rattle.sim_driver.specs.Status.{is_answer}
-use Rattle.sim_driver.specs.declared.status.Status.TheVariants.{Memory}
+use Rattle.sim_driver.specs.declared.status.Status.TheVariants.{InputFault, Memory, WriteFault}
+use Rattle.sim_driver.proofs.AtTheEnd.{unwritten}
+use Rattle.sim_driver.proofs.Generated.{ran_so, same_answer}
 use Rattle.sim_driver.proofs.top.simula.Goals as goal
 
 pub returns-clause-line_part : goal.returns-clause-line_part
@@ -40,5 +42,23 @@ returns-clause-answer g c source given answer tells told means is =
       | inr other ↦ elim other [
         | inl memory ↦ let no : false ≡ true = sym (ap is_answer memory) ∙ is in cc no
         | inr fault ↦ let no : false ≡ true = sym (ap is_answer fault.0) ∙ is in cc no
+      ]
+    ]
+
+pub returns-clause-generated : goal.returns-clause-generated
+returns-clause-generated g c processes asks =
+    ran_so processes c.write_status_line.result c.run_command-status.result _ _ (λ is. same_answer c.write_status_line.result c.run_command-status.result is c.write_status_line.ensures.ends) (c.run_command-status.ensures.generated processes asks)
+
+pub returns-clause-none_written : goal.returns-clause-none_written
+returns-clause-none_written g c nothing is =
+    unwritten c.args.out.now c.run_command-status.new.out c.run_command-status.result (c.write_status_line.ensures.wants is) (c.run_command-status.ensures.at_the_end nothing)
+
+pub returns-clause-unread : goal.returns-clause-unread
+returns-clause-unread g c idle is =
+    elim c.write_status_line.ensures.ends [
+      | inl same ↦ c.run_command-status.ensures.unread idle (sym same ∙ is)
+      | inr other ↦ elim other [
+        | inl memory ↦ let no : Memory ≡ InputFault = sym memory ∙ is in cc no
+        | inr fault ↦ let no : WriteFault ≡ InputFault = sym fault.0 ∙ is in cc no
       ]
     ]

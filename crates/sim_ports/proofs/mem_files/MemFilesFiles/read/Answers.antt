@@ -12,9 +12,10 @@ returns-clause-bytes c =
     let place = c.self.inside.place in
     let chosen : c.args.self.now.selected ≡ selected_of selected is_open = cc in
     let left : c.args.self.now.left ≡ left_of files selected is_open place = cc in
-    let done = open_read files selected is_open c.copy_front-count.new.into c.rest_of-rest.result.now place c.copy_front-count.result
+    let done = open_read files selected is_open c.copy_front-count.new.into c.rest_of-rest.result.now place c.most.result c.copy_front-count.result
     (rw chosen at c.requires)
     (rw c.deref.ensures.value at c.rest_of-rest.ensures.same)
     (omega arith)
+    c.most.ensures.some
     c.copy_front-count.ensures.same in
     (rw left done.consumes, done.ends)

@@ -10,5 +10,5 @@ returns-clause-bytes c =
     let rest : c.rest.result.now ≡ drop place bytes = cc in
     let left : c.args.self.now.left ≡ drop place bytes = cc in (
       rw left (reads_next bytes c.copy_front-count.new.into place count (rw rest at c.copy_front-count.ensures.same)),
-      λ none room. reads_none bytes place (length c.args.into.now) count (rw rest at c.copy_front-count.ensures.count) (omega arith) none,
+      λ none room. reads_none bytes place (length c.args.into.now) c.most.result count (rw rest at c.copy_front-count.ensures.count) (omega arith) c.most.ensures.some none,
     )

@@ -1,0 +1,4 @@
+pub mod Ended
+mod Names
+mod SameRows
+mod SameTables

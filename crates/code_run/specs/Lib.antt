@@ -1,0 +1,2 @@
+pub mod CodeEnds
+pub mod Settling

@@ -1,0 +1,2 @@
+mod Activations
+mod Sizes

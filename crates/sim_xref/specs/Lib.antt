@@ -1,0 +1,4 @@
+pub mod Rows
+pub mod Text
+pub mod Filling
+pub mod Laws
