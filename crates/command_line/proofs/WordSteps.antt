@@ -3,6 +3,7 @@ use Rattle.std.proofs.Common.{◌≤◌, ◌<◌, ◌-◌, suc, get_or, take, ta
 use Rattle.std.specs.Prelude.{Bool, codes, false, not, option_and_then, true}
 use Rattle.std.specs.declared.alloc.Global.{Global}
 use Rattle.std.specs.Str.{bytes_eq}
+use Rattle.command_line.specs.Executed.{code_request_of, code_with}
 use Rattle.command_line.specs.Generated.{generated_of, processes_with}
 use Rattle.command_line.specs.Given.{nothing, with_files, with_part, with_parts, with_value, with_words}
 use Rattle.command_line.specs.Options.{value_of}
@@ -148,5 +149,13 @@ pub generated_words : (word : List ℕ) (rest : List (List ℕ)) (given : Option
 unfolding with_words
 generated_words word rest given words differs is none =
     rw (equal differs (bytes_eq word (codes "gen")) is none) (ap (option_and_then processes_with) words ∙ sym (asked_by_parts processes_with (parts_from None rest)))
+
+-- ---- a run of code
+
+pub code_words : (word : List ℕ) (rest : List (List ℕ)) (given : Option Given) → given ≡ with_words nothing None rest
+    → (differs : Bool) → differs ≡ not (bytes_eq word (codes "exec")) → differs ≡ false → option_and_then code_with given ≡ code_request_of (word ∷ rest)
+unfolding with_words
+code_words word rest given words differs is none =
+    rw (equal differs (bytes_eq word (codes "exec")) is none) (ap (option_and_then code_with) words ∙ sym (asked_by_parts code_with (parts_from None rest)))
 
 pub ruleset word_steps = (awaited_some, awaited_none, gives_some, gives_none, file_some, file_none, files_step, awaits_step, unknown_step, awaited_end, last_end)

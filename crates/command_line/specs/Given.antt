@@ -7,6 +7,8 @@ use Rattle.command_line.specs.Words.{Given, Names, Part, Sets, parts_from}
 use Rattle.command_line.specs.declared.given.Given.{Given as Held}
 use Rattle.command_line.specs.declared.given.Kind.{Kind}
 use Rattle.command_line.specs.declared.given.Kind.TheVariants.{EndsOptions, NamesFile, Gives, Awaits, Unknown}
+use Rattle.command_line.specs.Executed as executed
+use Rattle.command_line.specs.declared.executed.CodeRequest.{CodeRequest}
 use Rattle.command_line.specs.declared.words.Request.{Request}
 use Rattle.command_line.specs.declared.options.Setting.{Setting}
 use Rattle.command_line.specs.declared.options.Setting.TheVariants.{Storage, Ticks, InLength, OutLength}
@@ -60,3 +62,7 @@ said Unknown = words.Unknown
 -- what is asked, by the bytes of the file's name
 abbrev pub asked : Request → words.Request
 asked request = record { command = request.command; limits = request.limits; file = request.file.now }
+
+-- the same of a run of code
+abbrev pub run_asked : CodeRequest → executed.CodeRequest
+run_asked request = record { limits = request.limits; file = request.file.now }

@@ -1,3 +1,4 @@
+pub mod Executed
 pub mod Generated
 pub mod Given
 pub mod Options

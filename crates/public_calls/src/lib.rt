@@ -9,6 +9,8 @@ mod ample_memory;
 #[cfg(test)]
 mod code_commands;
 #[cfg(test)]
+mod executed;
+#[cfg(test)]
 mod failing_ends;
 #[cfg(test)]
 mod generated;

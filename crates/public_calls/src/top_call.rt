@@ -11,7 +11,7 @@ use std::test::Fail;
 
 // The line of words that are no command.
 pub const USAGE: &[u8] =
-    b"usage: simula run [--storage W] [--ticks N] [--in-length N] [--out-length N] FILE, check|compile|list|print|xref FILE, gen N\n";
+    b"usage: simula run|exec [--storage W] [--ticks N] [--in-length N] [--out-length N] FILE, check|compile|list|print|xref FILE, gen N\n";
 
 // What is done to a command: the source in the file `source.sim`, the input, the calls that fail, and the most bytes that one call moves.
 #[derive(Clone, Copy)]

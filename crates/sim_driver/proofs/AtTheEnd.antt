@@ -30,3 +30,5 @@ unwritten old new Status.Usage needs is = is
 unwritten old new Status.FileFault needs is = is
 unwritten old new Status.InputFault needs is = is
 unwritten old new Status.Memory needs is = is
+unwritten old new (Status.BadCode at) needs is = is
+unwritten old new (Status.CodeRefused rule place) needs is = is

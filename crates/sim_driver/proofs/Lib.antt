@@ -1,5 +1,7 @@
+pub mod AllWordsOf
 pub mod Answering
 pub mod AtTheEnd
+pub mod CodeAnswers
 pub mod Generated
 pub mod Known
 pub mod Limits

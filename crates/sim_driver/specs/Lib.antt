@@ -1,4 +1,6 @@
+pub mod AllWords
 pub mod Answer
+pub mod CodeAnswer
 pub mod Compiling
 pub mod Output
 pub mod OutputAfter

@@ -3,9 +3,10 @@ use Rattle.std.specs.Prelude.{ℕ, List, [], ◌∷◌, ◌++◌, codes, Bool, t
 use Rattle.std.specs.Fmt.{decimal}
 use Rattle.sim_base.specs.Rule.{rule_text}
 use Rattle.sim_base.specs.RunError.{run_error_text}
+use Rattle.code_file.specs.Rules.{code_rule_text}
 use Rattle.sim_driver.specs.declared.status.Ending.{Ending}
 use Rattle.sim_driver.specs.declared.status.Status.{Status}
-use Rattle.sim_driver.specs.declared.status.Status.TheVariants.{Normal, Refused, RunFault, StorageExhausted, TickLimit, Usage, FileFault, InputFault, WriteFault, Memory}
+use Rattle.sim_driver.specs.declared.status.Status.TheVariants.{Normal, Refused, RunFault, StorageExhausted, TickLimit, Usage, FileFault, InputFault, WriteFault, Memory, BadCode, CodeRefused}
 
 -- the status of each ending
 abbrev pub status_of : Ending → Status
@@ -27,6 +28,8 @@ status_number FileFault = 6
 status_number InputFault = 7
 status_number WriteFault = 8
 status_number Memory = 9
+status_number (BadCode at) = 10
+status_number (CodeRefused rule place) = 11
 
 -- what is said of a line of the source
 abbrev pub at_line : ℕ → List ℕ → List ℕ
@@ -44,11 +47,13 @@ status_text (Refused rule line) = at_line line.0 (rule_text rule)
 status_text (RunFault error line) = at_line line.0 (run_error_text error)
 status_text (StorageExhausted line used budget wanted) = at_line line.0 (storage_text used budget wanted)
 status_text (TickLimit ticks) = codes "tick limit " ++ (decimal ticks ++ codes " reached")
-status_text Usage = codes "usage: simula run [--storage W] [--ticks N] [--in-length N] [--out-length N] FILE, check|compile|list|print|xref FILE, gen N"
+status_text Usage = codes "usage: simula run|exec [--storage W] [--ticks N] [--in-length N] [--out-length N] FILE, check|compile|list|print|xref FILE, gen N"
 status_text FileFault = codes "cannot read the file"
 status_text InputFault = codes "input fault"
 status_text WriteFault = codes "output fault"
 status_text Memory = codes "want of memory"
+status_text (BadCode at) = codes "code " ++ (decimal at ++ codes ": no rule")
+status_text (CodeRefused rule place) = codes "code byte " ++ (decimal place ++ (codes ": " ++ code_rule_text rule))
 
 -- the line that a status writes, with its line feed; none at the normal end
 abbrev pub line_text : Status → List ℕ

@@ -1,9 +1,11 @@
 //! The top call: from the words of the command line to a status.
 #![tactic(auto)]
 
+mod all_words;
 mod coding;
 mod command;
 mod compiling;
+mod executing;
 mod failure;
 mod no_input;
 mod printing;

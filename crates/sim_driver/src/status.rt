@@ -2,6 +2,7 @@
 ghost use Rattle.std.specs.Prelude.{◌≡◌, Some};
 ghost use Rattle.sim_driver.specs.Status.{status_number, status_of, status_text};
 
+use code_file::CodeRule;
 use sim_base::{Line, Rule, RunError};
 use std::fmt;
 
@@ -41,6 +42,15 @@ pub enum Status {
     WriteFault,
     /// The program was refused memory.
     Memory,
+    /// The run of code came to this instruction, for which the machine has no rule.
+    BadCode {
+        at: u32,
+    },
+    /// The code file breaks this rule, first at this place in bytes from 0. Nothing ran.
+    CodeRefused {
+        rule: CodeRule,
+        place: u64,
+    },
 }
 
 /// How a source ends by its own meaning.
@@ -112,6 +122,8 @@ impl Status {
             Status::InputFault => 7,
             Status::WriteFault => 8,
             Status::Memory => 9,
+            Status::BadCode { .. } => 10,
+            Status::CodeRefused { .. } => 11,
         }
     }
 }
@@ -137,12 +149,14 @@ impl fmt::Display for Status {
             ),
             Status::TickLimit { ticks } => write!(f, "tick limit {ticks} reached"),
             Status::Usage => f.write_str(
-                "usage: simula run [--storage W] [--ticks N] [--in-length N] [--out-length N] FILE, check|compile|list|print|xref FILE, gen N",
+                "usage: simula run|exec [--storage W] [--ticks N] [--in-length N] [--out-length N] FILE, check|compile|list|print|xref FILE, gen N",
             ),
             Status::FileFault => f.write_str("cannot read the file"),
             Status::InputFault => f.write_str("input fault"),
             Status::WriteFault => f.write_str("output fault"),
             Status::Memory => f.write_str("want of memory"),
+            Status::BadCode { at } => write!(f, "code {at}: no rule"),
+            Status::CodeRefused { rule, place } => write!(f, "code byte {place}: {rule}"),
         }
     }
 }

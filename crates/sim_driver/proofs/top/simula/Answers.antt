@@ -7,10 +7,10 @@ use Rattle.sim_driver.proofs.top.simula.Goals as goal
 
 pub returns-clause-line_part : goal.returns-clause-line_part
 returns-clause-line_part g c =
-    let ran = c.run_command-status.ensures in
+    let ran = c.do_words-status.ensures in
     elim c.write_status_line.ensures.says [
       | inl own ↦ (
-        c.run_command-status.result,
+        c.do_words-status.result,
         (λ is source given answer tells told means. (ran.answer source given answer tells told means is).ends),
         record {
           usage = ran.usage;
@@ -37,7 +37,7 @@ pub returns-clause-answer : goal.returns-clause-answer
 returns-clause-answer g c source given answer tells told means is =
     elim c.write_status_line.ensures.ends [
       | inl same ↦
-          let gives = c.run_command-status.ensures.answer source given answer tells told means (sym (ap is_answer same) ∙ is) in
+          let gives = c.do_words-status.ensures.answer source given answer tells told means (sym (ap is_answer same) ∙ is) in
           record { ends = same ∙ gives.ends; writes = gives.writes }
       | inr other ↦ elim other [
         | inl memory ↦ let no : false ≡ true = sym (ap is_answer memory) ∙ is in cc no
@@ -47,16 +47,16 @@ returns-clause-answer g c source given answer tells told means is =
 
 pub returns-clause-generated : goal.returns-clause-generated
 returns-clause-generated g c processes asks =
-    ran_so processes c.write_status_line.result c.run_command-status.result _ _ (λ is. same_answer c.write_status_line.result c.run_command-status.result is c.write_status_line.ensures.ends) (c.run_command-status.ensures.generated processes asks)
+    ran_so processes c.write_status_line.result c.do_words-status.result _ _ (λ is. same_answer c.write_status_line.result c.do_words-status.result is c.write_status_line.ensures.ends) (c.do_words-status.ensures.generated processes asks)
 
 pub returns-clause-none_written : goal.returns-clause-none_written
 returns-clause-none_written g c nothing is =
-    unwritten c.args.out.now c.run_command-status.new.out c.run_command-status.result (c.write_status_line.ensures.wants is) (c.run_command-status.ensures.at_the_end nothing)
+    unwritten c.args.out.now c.do_words-status.new.out c.do_words-status.result (c.write_status_line.ensures.wants is) (c.do_words-status.ensures.at_the_end nothing)
 
 pub returns-clause-unread : goal.returns-clause-unread
 returns-clause-unread g c idle is =
     elim c.write_status_line.ensures.ends [
-      | inl same ↦ c.run_command-status.ensures.unread idle (sym same ∙ is)
+      | inl same ↦ c.do_words-status.ensures.unread idle (sym same ∙ is)
       | inr other ↦ elim other [
         | inl memory ↦ let no : Memory ≡ InputFault = sym memory ∙ is in cc no
         | inr fault ↦ let no : WriteFault ≡ InputFault = sym fault.0 ∙ is in cc no
