@@ -1,4 +1,5 @@
 pub mod Ended
 mod Names
+mod SameFormals
 mod SameRows
 mod SameTables

@@ -8,6 +8,8 @@ use Rattle.sim_values.specs.Plain.{Plain, Truth, Object}
 use Rattle.sim_chains.specs.Components.{NoObject}
 use Rattle.sim_code.specs.declared.code.BlockKind.{BlockKind}
 use Rattle.sim_code.specs.declared.code.BlockKind.TheVariants as block
+use Rattle.sim_code.specs.declared.code.CodeActual.{CodeActual}
+use Rattle.sim_code.specs.declared.code.CodeFormal.{CodeFormal}
 use Rattle.sim_code.specs.declared.instr.Instr.{Instr}
 use Rattle.sim_code.specs.declared.instr.Instr.TheVariants as i
 use Rattle.sim_code.specs.declared.instr.Lined.{Lined}
@@ -17,18 +19,20 @@ use Rattle.sim_code.specs.Code.{BlockOf, ClassOf, CodeOf}
 use Rattle.sim_code.specs.Outcome.{Going, Run, World, after}
 use Rattle.sim_code.specs.Events.{choosing, entering, having, performing, pop_many, pop_object, pop_plain, pop_reference, pop_truth, popping, ticking, when}
 use Rattle.sim_code.specs.Arrays.{finding_element, handed_over}
+use Rattle.sim_code.specs.Formals.{all_fit, class_held, copied_for, copying_value, each, formal_in_hand, is_by_name, passing, running_thunk, runs_inside, suiting, thunk_for}
 use Rattle.sim_code.specs.Instances.{CellPlace, ElementPlace, encloser_of, is_live}
-use Rattle.sim_code.specs.Machine.{Activation, Address, Frames, Machine, Of, ProcedureValue, Value, array_in, arrays_among, at, block_at, cell, cell_at, first_cells, frame_in, in_frame, in_new, in_object, in_prefixed, index, is_there, is_tick, jumping, leaving, link_in, on, operand, own_block, owner, plain, procedure_in, pushing, same_kind, thunk_in, variable_in, waiting, with_result, words_of_block}
+use Rattle.sim_code.specs.Machine.{Activation, Address, ArrayValue, Frames, Machine, Of, ProcedureValue, Value, array_in, arrays_among, at, block_at, cell, cell_at, first_cells, frame_in, in_frame, in_new, in_object, in_prefixed, index, is_there, is_tick, jumping, leaving, link_in, on, operand, own_block, owner, plain, procedure_in, pushing, same_kind, thunk_in, variable_in, waiting, with_result, words_of_block}
 use Rattle.sim_code.specs.Classes.{admitting, class_named, class_numbered, in_process, is_in, is_of, levels, qualifying}
 use Rattle.sim_code.specs.Levels.{after_declarations, at_inner, at_stage, block_begun, class_at_level, declarations_done, ending_process, entering_prefixed, generating, inner_reached, leading, level_ended, levelled, object_made, objects_of, own_levels, same_stage, supplied, words_of_object}
 use Rattle.sim_code.specs.Scheduling.{performing_activation, performing_process, performing_simulation}
 use Rattle.sim_code.specs.Sets.{is_set_name, performing_set}
 use Rattle.sim_code.specs.Simulations.{is_process_name, is_simulation_name}
 use Rattle.sim_code.specs.Thunks.{in_thunk, instruction_before, using_name, value_given}
-use Rattle.sim_code.specs.Virtuals.{matching}
-use Rattle.sim_code.specs.Rows.{activation_of, class_at, decided, entering_frame, first_stage, first_step, mrun, mstep, on_chain, on_top, opening, program_begun, pushed, put_back, putting, qualified, room_for, row, standard_of, standard_row, thunk_ended, thunk_given, with_value, without_class}
+use Rattle.sim_code.specs.Virtuals.{counting, matching}
+use Rattle.sim_code.specs.Rows.{activation_of, checking, class_at, decided, entering_frame, first_stage, first_step, mrun, mstep, on_chain, on_top, opening, parameter_row, program_begun, pushed, put_back, putting, qualified, room_for, row, standard_of, standard_row, thunk_ended, thunk_given, thunk_pushed, with_value, without_class}
 use Rattle.code_run.specs.Settling.{settled, settled_code, settled_instr}
 use Rattle.code_run.proofs.Names.{settled_as, settled_row}
+use Rattle.code_run.proofs.SameFormals.{agree_fn, agreeing, all_fit_fn, in_hand_same}
 use Rattle.code_run.proofs.SameTables.{admitting_same, at_level_same, block_begun_same, ending_process_same, in_process_same, is_in_same, is_of_same, levels_same, match_same, named_same, numbered_same, object_levels_same, object_made_same, supplied_same, words_same}
 
 pub settled_at : (xs : List Lined) (k : ℕ) → slice_get (map settled xs) k ≡ option_map settled (slice_get xs k)
@@ -287,101 +291,132 @@ module _ (code : CodeOf) where
       ap (λ (f : World → ℕ → ℕ → Run Machine). having (cell m j c) o (λ v. having (thunk_in v) o (λ t. ticking l o (λ p. f p t.0 t.1))))
       (fun_ext (λ p. fun_ext (λ t. fun_ext (λ home. in_thunk_same p m t home (waiting a a.stack ∷ below)))))
 
+  -- ---- procedures in hand
+
+  abbrev checking_by : (List CodeFormal → List CodeActual → Bool) → ((parent : ℕ) → CodeFormal → CodeActual → Option Bool) → World → Frames → Activation → List Activation → (line : ℕ) → (list : ℤ) → Run Machine
+  checking_by fit agree o m a below line z =
+      index z o (λ n. having (slice_get code.actual_lists n) o (λ actuals.
+      popping a.stack o (λ v stack. having (procedure_in v) o (λ q.
+      having (slice_get code.blocks q.0) o (λ b. when (same_kind b.kind block.Procedure) o (
+      counting line (length b.formals) (length actuals) o (suiting line (fit b.formals actuals) o (
+      having (each (agree q.1) b.formals actuals) o (λ right. suiting line right o (on o m a a.stack below))))))))))
+
+  checking_same : (o : World) (m : Frames) (a : Activation) (below : List Activation) (line : ℕ) (z : ℤ) → checking same o m a below line z ≡ checking code o m a below line z
+  checking_same o m a below line z =
+      ap (λ (fit : List CodeFormal → List CodeActual → Bool). checking_by fit (agreeing same m a.home) o m a below line z) (all_fit_fn code)
+      ∙ ap (λ (agree : (parent : ℕ) → CodeFormal → CodeActual → Option Bool). checking_by (all_fit code) agree o m a below line z) (agree_fn code m a.home)
+
+  running_same : (o : World) (m : Frames) (a : Activation) (below : List Activation) (z : ℤ) → running_thunk same o m a below z ≡ running_thunk code o m a below z
+  running_same o m a below z = ap (λ (f : ℕ → Run Machine). index z o (λ t. when (runs_inside a.thunk t) o (f t))) (fun_ext (λ t. in_thunk_same o m t a.home (waiting a a.stack ∷ below)))
+
+  parameter_same : (o : World) (m : Frames) (a : Activation) (below : List Activation) (z t p : ℤ) → parameter_row same o m a below z t p ≡ parameter_row code o m a below z t p
+  parameter_same o m a below z t p =
+      ap (λ (in_hand : ℕ → Option CodeFormal). index z o (λ n. having (in_hand n) o (λ f. choosing (is_by_name f.mode) (thunk_pushed same o m a below (thunk_for f.shape t p)) (running_thunk same o m a below (thunk_for f.shape t p))))) (fun_ext (λ n. in_hand_same code n a.stack))
+      ∙ ap (λ (runs : ℤ → Run Machine). index z o (λ n. having (formal_in_hand code n a.stack) o (λ f. choosing (is_by_name f.mode) (thunk_pushed code o m a below (thunk_for f.shape t p)) (runs (thunk_for f.shape t p))))) (fun_ext (running_same o m a below))
+
+  passing_same : (l : Limits) (o : World) (m : Frames) (b : Activation) (rest : List Activation) (v : Value) (line : ℕ) (f : CodeFormal) → passing same l line f b rest v o m ≡ passing code l line f b rest v o m
+  unfolding passing
+  passing_same l o m b rest v line f =
+      ap (λ (admits : ℕ → Value → World → Run Machine → Run Machine). admits (class_held f) v o (pushing b.room b.stack v o (λ _.
+      copying_value Of plain ArrayValue array_in l line b.home (copied_for f) v o (λ v o. at o m b b.pc (v ∷ b.stack) rest)))) (admitting_fn m line)
+
   before_same : (p : ℕ) → instruction_before same p ≡ option_map settled (instruction_before code p)
   before_same zero = refl
   before_same (suc p) = settled_at code.instrs p
 
-  thunk_given_same : (o : World) (m : Frames) (b : Activation) (rest : List Activation) (v : Value) (line : ℕ) (x : Instr) → thunk_given same o m b rest v line x ≡ thunk_given code o m b rest v line x
-  thunk_given_same o m b rest v line i.Halt = refl
-  thunk_given_same o m b rest v line (i.Int x) = refl
-  thunk_given_same o m b rest v line (i.Bool x) = refl
-  thunk_given_same o m b rest v line (i.Char x) = refl
-  thunk_given_same o m b rest v line (i.TextK x) = refl
-  thunk_given_same o m b rest v line i.None = refl
-  thunk_given_same o m b rest v line i.NoText = refl
-  thunk_given_same o m b rest v line (i.Link x) = refl
-  thunk_given_same o m b rest v line (i.This x) = refl
-  thunk_given_same o m b rest v line (i.Addr x y z) = refl
-  thunk_given_same o m b rest v line (i.AddrR x y) = refl
-  thunk_given_same o m b rest v line (i.AddrImg x) = refl
-  thunk_given_same o m b rest v line (i.Elem x y) = refl
-  thunk_given_same o m b rest v line i.Fetch = refl
-  thunk_given_same o m b rest v line i.Put = refl
-  thunk_given_same o m b rest v line (i.Load x y) = refl
-  thunk_given_same o m b rest v line (i.Store x y) = refl
-  thunk_given_same o m b rest v line i.Dup = refl
-  thunk_given_same o m b rest v line i.Pop = refl
-  thunk_given_same o m b rest v line i.Swap = refl
-  thunk_given_same o m b rest v line i.Neg = refl
-  thunk_given_same o m b rest v line i.Add = refl
-  thunk_given_same o m b rest v line i.Sub = refl
-  thunk_given_same o m b rest v line i.Mul = refl
-  thunk_given_same o m b rest v line i.Div = refl
-  thunk_given_same o m b rest v line i.Pow = refl
-  thunk_given_same o m b rest v line (i.Rel x) = refl
-  thunk_given_same o m b rest v line (i.RelT x) = refl
-  thunk_given_same o m b rest v line i.Same = refl
-  thunk_given_same o m b rest v line i.SameT = refl
-  thunk_given_same o m b rest v line i.Not = refl
-  thunk_given_same o m b rest v line i.And = refl
-  thunk_given_same o m b rest v line i.Or = refl
-  thunk_given_same o m b rest v line i.Imp = refl
-  thunk_given_same o m b rest v line i.Eqv = refl
-  thunk_given_same o m b rest v line (i.Is x) = refl
-  thunk_given_same o m b rest v line (i.In x) = refl
-  thunk_given_same o m b rest v line (i.Qua x) = refl
-  thunk_given_same o m b rest v line (i.Jump x) = refl
-  thunk_given_same o m b rest v line (i.JumpF x) = refl
-  thunk_given_same o m b rest v line i.Tick = refl
-  thunk_given_same o m b rest v line i.StepTest = refl
-  thunk_given_same o m b rest v line (i.Enter x) = refl
-  thunk_given_same o m b rest v line i.Leave = refl
-  thunk_given_same o m b rest v line (i.Call x y) = refl
-  thunk_given_same o m b rest v line i.Return = refl
-  thunk_given_same o m b rest v line (i.ProcVal x) = refl
-  thunk_given_same o m b rest v line (i.Virt x) = refl
-  thunk_given_same o m b rest v line (i.Check x) = refl
-  thunk_given_same o m b rest v line (i.Param x y z) = refl
-  thunk_given_same o m b rest v line (i.CallV x) = refl
-  thunk_given_same o m b rest v line (i.Thunk x) = refl
-  thunk_given_same o m b rest v line (i.NameVal x y z) =
+  thunk_given_same : (l : Limits) (o : World) (m : Frames) (b : Activation) (rest : List Activation) (v : Value) (line : ℕ) (x : Instr) → thunk_given same l o m b rest v line x ≡ thunk_given code l o m b rest v line x
+  thunk_given_same l o m b rest v line i.Halt = refl
+  thunk_given_same l o m b rest v line (i.Int x) = refl
+  thunk_given_same l o m b rest v line (i.Bool x) = refl
+  thunk_given_same l o m b rest v line (i.Char x) = refl
+  thunk_given_same l o m b rest v line (i.TextK x) = refl
+  thunk_given_same l o m b rest v line i.None = refl
+  thunk_given_same l o m b rest v line i.NoText = refl
+  thunk_given_same l o m b rest v line (i.Link x) = refl
+  thunk_given_same l o m b rest v line (i.This x) = refl
+  thunk_given_same l o m b rest v line (i.Addr x y z) = refl
+  thunk_given_same l o m b rest v line (i.AddrR x y) = refl
+  thunk_given_same l o m b rest v line (i.AddrImg x) = refl
+  thunk_given_same l o m b rest v line (i.Elem x y) = refl
+  thunk_given_same l o m b rest v line i.Fetch = refl
+  thunk_given_same l o m b rest v line i.Put = refl
+  thunk_given_same l o m b rest v line (i.Load x y) = refl
+  thunk_given_same l o m b rest v line (i.Store x y) = refl
+  thunk_given_same l o m b rest v line i.Dup = refl
+  thunk_given_same l o m b rest v line i.Pop = refl
+  thunk_given_same l o m b rest v line i.Swap = refl
+  thunk_given_same l o m b rest v line i.Neg = refl
+  thunk_given_same l o m b rest v line i.Add = refl
+  thunk_given_same l o m b rest v line i.Sub = refl
+  thunk_given_same l o m b rest v line i.Mul = refl
+  thunk_given_same l o m b rest v line i.Div = refl
+  thunk_given_same l o m b rest v line i.Pow = refl
+  thunk_given_same l o m b rest v line (i.Rel x) = refl
+  thunk_given_same l o m b rest v line (i.RelT x) = refl
+  thunk_given_same l o m b rest v line i.Same = refl
+  thunk_given_same l o m b rest v line i.SameT = refl
+  thunk_given_same l o m b rest v line i.Not = refl
+  thunk_given_same l o m b rest v line i.And = refl
+  thunk_given_same l o m b rest v line i.Or = refl
+  thunk_given_same l o m b rest v line i.Imp = refl
+  thunk_given_same l o m b rest v line i.Eqv = refl
+  thunk_given_same l o m b rest v line (i.Is x) = refl
+  thunk_given_same l o m b rest v line (i.In x) = refl
+  thunk_given_same l o m b rest v line (i.Qua x) = refl
+  thunk_given_same l o m b rest v line (i.Jump x) = refl
+  thunk_given_same l o m b rest v line (i.JumpF x) = refl
+  thunk_given_same l o m b rest v line i.Tick = refl
+  thunk_given_same l o m b rest v line i.StepTest = refl
+  thunk_given_same l o m b rest v line (i.Enter x) = refl
+  thunk_given_same l o m b rest v line i.Leave = refl
+  thunk_given_same l o m b rest v line (i.Call x y) = refl
+  thunk_given_same l o m b rest v line i.Return = refl
+  thunk_given_same l o m b rest v line (i.ProcVal x) = refl
+  thunk_given_same l o m b rest v line (i.Virt x) = refl
+  thunk_given_same l o m b rest v line (i.Check x) = refl
+  thunk_given_same l o m b rest v line (i.Param x y z) =
+      ap (λ (in_hand : ℕ → Option CodeFormal). index x o (λ n. having (in_hand n) o (λ f. having (value_given o m v) o (λ v. passing same l line f b rest v o m)))) (fun_ext (λ n. in_hand_same code n b.stack))
+      ∙ ap (λ (pass : CodeFormal → Value → Run Machine). index x o (λ n. having (formal_in_hand code n b.stack) o (λ f. having (value_given o m v) o (pass f)))) (fun_ext (λ f. fun_ext (λ v. passing_same l o m b rest v line f)))
+  thunk_given_same l o m b rest v line (i.CallV x) = refl
+  thunk_given_same l o m b rest v line (i.Thunk x) = refl
+  thunk_given_same l o m b rest v line (i.NameVal x y z) =
       qualified_same z o (λ q. having (value_given o m v) o (λ v. admitting same m line q v o (pushing b.room b.stack v o (λ stack. at o m b b.pc stack rest))))
       ∙ ap (λ (f : ℕ → Value → World → Run Machine → Run Machine). qualified code z o (λ q. having (value_given o m v) o (λ v. f q v o (pushing b.room b.stack v o (λ stack. at o m b b.pc stack rest))))) (admitting_fn m line)
-  thunk_given_same o m b rest v line (i.NameAddr x y z) = refl
-  thunk_given_same o m b rest v line i.EndThunk = refl
-  thunk_given_same o m b rest v line (i.New x y) = refl
-  thunk_given_same o m b rest v line (i.Pref x y) = refl
-  thunk_given_same o m b rest v line (i.NextDecl x) = refl
-  thunk_given_same o m b rest v line (i.Inner x) = refl
-  thunk_given_same o m b rest v line (i.EndLevel x) = refl
-  thunk_given_same o m b rest v line (i.Array x y) = refl
-  thunk_given_same o m b rest v line i.CopyArr = refl
-  thunk_given_same o m b rest v line i.Keep = refl
-  thunk_given_same o m b rest v line i.AssignT = refl
-  thunk_given_same o m b rest v line (i.Std x) = refl
-  thunk_given_same o m b rest v line (i.Act x) = refl
-  thunk_given_same o m b rest v line i.Detach = refl
-  thunk_given_same o m b rest v line i.Attach = refl
-  thunk_given_same o m b rest v line i.Resume = refl
-  thunk_given_same o m b rest v line i.NotNone = refl
+  thunk_given_same l o m b rest v line (i.NameAddr x y z) = refl
+  thunk_given_same l o m b rest v line i.EndThunk = refl
+  thunk_given_same l o m b rest v line (i.New x y) = refl
+  thunk_given_same l o m b rest v line (i.Pref x y) = refl
+  thunk_given_same l o m b rest v line (i.NextDecl x) = refl
+  thunk_given_same l o m b rest v line (i.Inner x) = refl
+  thunk_given_same l o m b rest v line (i.EndLevel x) = refl
+  thunk_given_same l o m b rest v line (i.Array x y) = refl
+  thunk_given_same l o m b rest v line i.CopyArr = refl
+  thunk_given_same l o m b rest v line i.Keep = refl
+  thunk_given_same l o m b rest v line i.AssignT = refl
+  thunk_given_same l o m b rest v line (i.Std x) = refl
+  thunk_given_same l o m b rest v line (i.Act x) = refl
+  thunk_given_same l o m b rest v line i.Detach = refl
+  thunk_given_same l o m b rest v line i.Attach = refl
+  thunk_given_same l o m b rest v line i.Resume = refl
+  thunk_given_same l o m b rest v line i.NotNone = refl
 
-  thunk_given_settled : (o : World) (m : Frames) (b : Activation) (rest : List Activation) (v : Value) (line : ℕ) (x : Instr) → thunk_given code o m b rest v line (settled_instr x) ≡ thunk_given code o m b rest v line x
-  thunk_given_settled o m b rest v line x =
+  thunk_given_settled : (l : Limits) (o : World) (m : Frames) (b : Activation) (rest : List Activation) (v : Value) (line : ℕ) (x : Instr) → thunk_given code l o m b rest v line (settled_instr x) ≡ thunk_given code l o m b rest v line x
+  thunk_given_settled l o m b rest v line x =
       elim (settled_as x) [
-        | inl is ↦ ap (thunk_given code o m b rest v line) is
-        | inr n ↦ ap (thunk_given code o m b rest v line) n.settles ∙ ap (thunk_given code o m b rest v line) (sym n.is)
+        | inl is ↦ ap (thunk_given code l o m b rest v line) is
+        | inr n ↦ ap (thunk_given code l o m b rest v line) n.settles ∙ ap (thunk_given code l o m b rest v line) (sym n.is)
       ]
 
-  given_to : (o : World) (m : Frames) (b : Activation) (rest : List Activation) (v : Value) (x : Option Lined)
-      → having (option_map settled x) o (λ x. thunk_given same o m b rest v x.line.0 x.instr) ≡ having x o (λ x. thunk_given code o m b rest v x.line.0 x.instr)
+  given_to : (l : Limits) (o : World) (m : Frames) (b : Activation) (rest : List Activation) (v : Value) (x : Option Lined)
+      → having (option_map settled x) o (λ x. thunk_given same l o m b rest v x.line.0 x.instr) ≡ having x o (λ x. thunk_given code l o m b rest v x.line.0 x.instr)
   unfolding having
-  given_to o m b rest v None = refl
-  given_to o m b rest v (Some x) = thunk_given_same o m b rest v x.line.0 (settled_instr x.instr) ∙ thunk_given_settled o m b rest v x.line.0 x.instr
+  given_to l o m b rest v None = refl
+  given_to l o m b rest v (Some x) = thunk_given_same l o m b rest v x.line.0 (settled_instr x.instr) ∙ thunk_given_settled l o m b rest v x.line.0 x.instr
 
-  thunk_ended_same : (o : World) (m : Frames) (v : Value) (below : List Activation) → thunk_ended same o m v below ≡ thunk_ended code o m v below
-  thunk_ended_same o m v [] = refl
-  thunk_ended_same o m v (b ∷ rest) =
-      ap (λ y. having y o (λ x. thunk_given same o m b rest v x.line.0 x.instr)) (before_same b.pc) ∙ given_to o m b rest v (instruction_before code b.pc)
+  thunk_ended_same : (l : Limits) (o : World) (m : Frames) (v : Value) (below : List Activation) → thunk_ended same l o m v below ≡ thunk_ended code l o m v below
+  thunk_ended_same l o m v [] = refl
+  thunk_ended_same l o m v (b ∷ rest) =
+      ap (λ y. having y o (λ x. thunk_given same l o m b rest v x.line.0 x.instr)) (before_same b.pc) ∙ given_to l o m b rest v (instruction_before code b.pc)
 
   -- ---- standard names
 
@@ -457,13 +492,13 @@ module _ (code : CodeOf) where
   row_same l o m a below line i.Return = own_block_same block.Procedure m a o (λ b. with_result b m a.home o (λ v. leaving b below v a.home o m))
   row_same l o m a below line (i.ProcVal x) = refl
   row_same l o m a below line (i.Virt x) = ap (λ (f : ℕ → ℕ → Option (Option ℕ)). index x o (λ v. pop_object plain line a.stack o (λ j stack. matching line (f v j) o (λ k. on o m a (ProcedureValue k j ∷ stack) below)))) (fun_ext (λ v. fun_ext (match_same code m v)))
-  row_same l o m a below line (i.Check x) = refl
-  row_same l o m a below line (i.Param x y z) = refl
+  row_same l o m a below line (i.Check x) = checking_same o m a below line x
+  row_same l o m a below line (i.Param x y z) = parameter_same o m a below x y z
   row_same l o m a below line (i.CallV x) = ap (λ (f : BlockKind → ℤ → World → (ℕ → BlockOf → Run Machine) → Run Machine). index x o (λ n. pop_many n [] a.stack o (λ values stack. popping stack o (λ v stack. having (procedure_in v) o (λ q. when (is_live m q.1) o (f block.Procedure (pos q.0) o (λ k b. entering_frame l o m a below line k b q.1 values stack))))))) block_at_fn
   row_same l o m a below line (i.Thunk x) = refl
   row_same l o m a below line (i.NameVal x y z) = ap (cell_at m a x y o) (fun_ext (λ j. fun_ext (using_name_same l o m a below j)))
   row_same l o m a below line (i.NameAddr x y z) = ap (cell_at m a x y o) (fun_ext (λ j. fun_ext (using_name_same l o m a below j)))
-  row_same l o m a below line i.EndThunk = ap (λ (f : Value → Run Machine). having a.thunk o (λ _. popping a.stack o (λ v _. f v))) (fun_ext (λ v. thunk_ended_same o m v below))
+  row_same l o m a below line i.EndThunk = ap (λ (f : Value → Run Machine). having a.thunk o (λ _. popping a.stack o (λ v _. f v))) (fun_ext (λ v. thunk_ended_same l o m v below))
   row_same l o m a below line (i.New x y) = generating_same l o m a below line x y
   row_same l o m a below line (i.Pref x y) = prefixed_same l o m a below line x y
   row_same l o m a below line (i.NextDecl x) = ap (index x o) (fun_ext (declarations_same o m a below))

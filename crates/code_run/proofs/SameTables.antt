@@ -44,7 +44,7 @@ module _ (code : CodeOf) where
   unfolding levels
   levels_same c = within_same c c
 
-  block_record_same : (x : Option ClassOf) → block_in_record same x ≡ block_in_record code x
+  pub block_record_same : (x : Option ClassOf) → block_in_record same x ≡ block_in_record code x
   block_record_same None = refl
   block_record_same (Some x) = refl
 

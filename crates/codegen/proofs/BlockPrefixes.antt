@@ -15,7 +15,7 @@ use Rattle.sim_code.specs.declared.instr.Instr.TheVariants as i
 use Rattle.sim_meaning.specs.Closing.{class_parameters}
 use Rattle.codegen_expr.specs.declared.spot.Spot.{Spot}
 use Rattle.codegen_expr.specs.Built.{ActualsBuilt}
-use Rattle.codegen_expr.specs.CodeExpr.{ActualsAt, operands}
+use Rattle.codegen_expr.specs.CodeExpr.{ActualsAt, Listed, operands}
 use Rattle.codegen_expr.specs.Drafts.{DraftOf, Emits, given_up, with_instr}
 use Rattle.codegen_expr.specs.Emit.{WritesActuals}
 use Rattle.codegen_expr.specs.Sites.{At, block_number}
@@ -39,9 +39,9 @@ module _ (b : Bound) (w : Spot) where
       let enter = i.Pref (pos (block_number s k)) (pos (operands es)) in
       let same : x ≡ enter = ex ∙ ap (λ z. i.Pref (pos z) (pos l)) em ∙ ap (λ z. i.Pref (pos (block_number s k)) (pos z)) (el ∙ sym (count ys)) in
       let put : c ≡ with_instr c1 enter n = ec ∙ ap (λ z. with_instr c1 z line) same ∙ ap (λ z. with_instr c1 enter z) eline in
-      let g = subst (λ z. Emits w a c1 (ActualsBuilt s w.text es z) (λ final site p q. ActualsAt s final site 0 n true es z p q)) ef f in
+      let g = subst (λ z. Emits w a c1 (ActualsBuilt s w.text es (Listed z)) (λ final site p q. ActualsAt s final site 0 n true es (Listed z) p q)) ef f in
       emits_as w _ _ _ _ a c (λ h. (h, tt)) (λ h. h.0) (λ final site p q _ _ r. r)
-      (emits_then w _ ⊤ (λ final site p q. ActualsAt s final site 0 n true es (class_parameters s (Some k)) p q) (λ final site p q. At final enter n p q) a c1 c g (emits_at w c1 c enter n put (λ z. cc) refl))
+      (emits_then w _ ⊤ (λ final site p q. ActualsAt s final site 0 n true es (Listed (class_parameters s (Some k))) p q) (λ final site p q. At final enter n p q) a c1 c g (emits_at w c1 c enter n put (λ z. cc) refl))
 
   prefixed_as : (a c : DraftOf) (y : Identifier) (ys : List Expr) (token : TokenNo) (o : Option ℕ) → o ≡ block_at b.scopes token.0
       → Emits w a c (PrefixBuilt (source_of b) w.text (expressions (map syntax_of ys)) o) (λ final site p q. PrefixedAt (source_of b) final site 0 (line_at (source_of b) y.token.0) (expressions (map syntax_of ys)) o p q) → WritesPrefixed b w a c y ys token

@@ -21,8 +21,9 @@ use Rattle.sim_scope.specs.Scopes.{entry_of}
 use Rattle.sim_scope.specs.Tables.{BlockOf as TableBlock}
 use Rattle.sim_scope.specs.Source.{Source, block_of, denoted, level_of, line_at, source_of}
 use Rattle.sim_tree.specs.declared.expr.Expr.{Expr}
-use Rattle.sim_tree.specs.Syntax.{NoMore}
+use Rattle.sim_tree.specs.Syntax.{Expression, NoMore}
 use Rattle.sim_meaning.specs.Entries.{cells_from, with_cell}
+use Rattle.sim_meaning.specs.Levels.{is_process_itself}
 use Rattle.sim_meaning.specs.Pending.{Declared, Held, Key, Result, same_key}
 use Rattle.sim_meaning.specs.Texts.{BlockText, ClassText, ConnectionText, PrefixedText, ProcedureText, StandardText, Text, text}
 use Rattle.codegen_expr.specs.declared.spot.Spot.{Spot}
@@ -32,13 +33,13 @@ use Rattle.std.specs.Prelude.{⊤}
 use Rattle.sim_code.specs.declared.instr.Instr.{Instr}
 use Rattle.sim_code.specs.declared.instr.Instr.TheVariants as i
 use Rattle.codegen_expr.specs.Drafts.{DraftOf, Emits, planned_start, with_instr, with_push}
-use Rattle.codegen_expr.specs.Sites.{At, HasCell, Pushes, cells_in, frame_text, hidden_before, hidden_from, hidden_in, is_connection, slot_of}
+use Rattle.codegen_expr.specs.Sites.{At, HasCell, Pushes, cells_in, frame_text, hidden_before, hidden_from, hidden_in, is_connection, origin_in, slot_of}
 use Rattle.codegen_expr.proofs.Pieces.{emits_at, emits_classed, emits_push}
 use Rattle.codegen_expr.proofs.Slots.{slot_found, slot_within}
 use Rattle.codegen.specs.declared.left.Left.{Left}
 use Rattle.codegen.specs.declared.left.Left.TheVariants as left
-use Rattle.codegen.specs.CodeLeft.{AtAddress, InCell, NotBuilt, Stored, stored_declared, stored_element, stored_formal, stored_named, stored_result, stored_variable}
-use Rattle.codegen.specs.EmitLeft.{FindsDeclared, FindsElement, FindsFormal, FindsLeft, FindsOwn, FindsResult, FindsVariable, IsVariable, LoadsCell, StoresCell, operands_in}
+use Rattle.codegen.specs.CodeLeft.{AtAddress, InCell, NotBuilt, Stored, stored_anew, stored_declared, stored_element, stored_formal, stored_named, stored_result, stored_variable}
+use Rattle.codegen.specs.EmitLeft.{FindsDeclared, FindsElement, FindsFormal, FindsLeft, FindsOwn, FindsResult, FindsVariable, IsVariable, IsWhole, LoadsCell, StoresCell, operands_in}
 
 -- ---- cells by key
 
@@ -109,7 +110,11 @@ none_declared s [] = refl
 none_declared s (d ∷ ds) = none_before d (entry_of s.tables d) (cells_from s ds) (none_declared s ds)
 
 none_hidden : (s : Source) (k m : ℕ) (bs : List TableBlock) → has_it (hidden_from s k m bs) ≡ false
-none_hidden s k m [] = refl
+none_hidden s k m [] = none_origin (is_process_itself s k)
+  where
+    none_origin : (c : Bool) → has_it (origin_in c) ≡ false
+    none_origin true = refl
+    none_origin false = refl
 none_hidden s k m (x ∷ xs) = cases (is_connection x.kind && frame_text s m == k) (none_hidden s k (suc m) xs)
   where
     cases : (c : Bool) → has_it (hidden_from s k (suc m) xs) ≡ false → has_it (hidden_before c x (hidden_from s k (suc m) xs)) ≡ false
@@ -252,50 +257,73 @@ module _ (b : Bound) (w : Spot) where
 
   -- ---- formal parameters
 
-  as_formal : (token : TokenNo) (d : DeclNo) (m m' : Mode) (kind kind' : FormalKind) (es : List Expr) (r : Left) → m ≡ m' → kind ≡ kind' → IsVariable (source_of b) w r (stored_formal (source_of b) d (operands_in es) (line_at (source_of b) token.0) m' kind') → FindsFormal b w token d m kind es r
-  unfolding FindsFormal
-  as_formal token d m m' kind kind' es r em ek f =
-      let s = source_of b in
-      subst (λ z. IsVariable s w r (stored_formal s d (operands_in es) (line_at s token.0) z kind)) (sym em) (subst (λ z. IsVariable s w r (stored_formal s d (operands_in es) (line_at s token.0) m' z)) (sym ek) f)
+  -- what is a variable is so as a whole
+  pub whole_of : (e : Expression) (r : Left) (t : Stored) → IsVariable (source_of b) w r t → IsWhole (source_of b) w e r t
+  whole_of e (left.Cell level slot) t f = f
+  whole_of e (left.Element token d es) t f = f
+  whole_of e left.Text t f = absurd f
+  whole_of e (left.Result level slot) t f = absurd f
+  whole_of e left.Attribute t f = absurd f
+  whole_of e left.Reference t f = absurd f
+  whole_of e (left.Named d) t f = absurd f
+  whole_of e (left.NamedText d) t f = absurd f
+  whole_of e (left.NamedReference d class) t f = absurd f
+  whole_of e left.NotBuilt t f = f
 
-  pub formal_by_name : (token : TokenNo) (d : DeclNo) (m : Mode) (kind : FormalKind) (es : List Expr) → m ≡ mode.ByName → FindsFormal b w token d m kind es left.NotBuilt
-  formal_by_name token d m kind es is = as_formal token d m mode.ByName kind kind es left.NotBuilt is refl (λ h. h)
+  as_formal : (token : TokenNo) (d : DeclNo) (m m' : Mode) (kind kind' : FormalKind) (es : List Expr) (r : Left) → m ≡ m' → kind ≡ kind' → ((e : Expression) → IsWhole (source_of b) w e r (stored_formal (source_of b) e d (operands_in es) (line_at (source_of b) token.0) m' kind')) → FindsFormal b w token d m kind es r
+  unfolding FindsFormal
+  as_formal token d m m' kind kind' es r em ek f e =
+      let s = source_of b in
+      subst (λ z. IsWhole s w e r (stored_formal s e d (operands_in es) (line_at s token.0) z kind)) (sym em) (subst (λ z. IsWhole s w e r (stored_formal s e d (operands_in es) (line_at s token.0) m' z)) (sym ek) (f e))
+
+  pub name_simple : (token : TokenNo) (d : DeclNo) (m : Mode) (kind : FormalKind) (es : List Expr) → m ≡ mode.ByName → kind ≡ shape.Simple → FindsFormal b w token d m kind es left.NotBuilt
+  name_simple token d m kind es em ek = as_formal token d m mode.ByName kind shape.Simple es left.NotBuilt em ek (λ e h. h)
+
+  pub name_procedure : (token : TokenNo) (d : DeclNo) (m : Mode) (kind : FormalKind) (es : List Expr) → m ≡ mode.ByName → kind ≡ shape.Procedure → FindsFormal b w token d m kind es left.NotBuilt
+  name_procedure token d m kind es em ek = as_formal token d m mode.ByName kind shape.Procedure es left.NotBuilt em ek (λ e h. h)
+
+  pub name_array_alone : (token : TokenNo) (d : DeclNo) (m : Mode) (kind : FormalKind) (es : List Expr) → m ≡ mode.ByName → kind ≡ shape.Array → length es ≡ 0 → FindsFormal b w token d m kind es left.NotBuilt
+  name_array_alone token d m kind es em ek none = as_formal token d m mode.ByName kind shape.Array es left.NotBuilt em ek (λ e. subst (λ z. IsWhole (source_of b) w e left.NotBuilt (stored_anew e z)) (sym (no_operands es none)) (λ h. h))
+
+  pub name_element : (token : TokenNo) (d : DeclNo) (m : Mode) (kind : FormalKind) (es : List Expr) → m ≡ mode.ByName → kind ≡ shape.Array → length es ≢ 0 → FindsFormal b w token d m kind es left.Attribute
+  name_element token d m kind [] em ek some' = absurd (some' refl)
+  name_element token d m kind (x ∷ xs) em ek some' = as_formal token d m mode.ByName kind shape.Array (x ∷ xs) left.Attribute em ek (λ e. refl)
 
   pub value_simple : (token : TokenNo) (d : DeclNo) (m : Mode) (kind : FormalKind) (es : List Expr) (r : Left) → m ≡ mode.ByValue → kind ≡ shape.Simple → FindsVariable b w d es r → FindsFormal b w token d m kind es r
   unfolding FindsVariable
-  value_simple token d m kind es r em ek f = as_formal token d m mode.ByValue kind shape.Simple es r em ek f
+  value_simple token d m kind es r em ek f = as_formal token d m mode.ByValue kind shape.Simple es r em ek (λ e. whole_of e r _ f)
 
   pub value_array : (token : TokenNo) (d : DeclNo) (m : Mode) (kind : FormalKind) (es : List Expr) (r : Left) → m ≡ mode.ByValue → kind ≡ shape.Array → FindsElement b w token d es r → FindsFormal b w token d m kind es r
   unfolding FindsElement
-  value_array token d m kind es r em ek f = as_formal token d m mode.ByValue kind shape.Array es r em ek f
+  value_array token d m kind es r em ek f = as_formal token d m mode.ByValue kind shape.Array es r em ek (λ e. whole_of e r _ f)
 
   pub value_procedure : (token : TokenNo) (d : DeclNo) (m : Mode) (kind : FormalKind) (es : List Expr) → m ≡ mode.ByValue → kind ≡ shape.Procedure → FindsFormal b w token d m kind es left.NotBuilt
-  value_procedure token d m kind es em ek = as_formal token d m mode.ByValue kind shape.Procedure es left.NotBuilt em ek (λ h. h)
+  value_procedure token d m kind es em ek = as_formal token d m mode.ByValue kind shape.Procedure es left.NotBuilt em ek (λ e h. h)
 
   pub reference_simple : (token : TokenNo) (d : DeclNo) (m : Mode) (kind : FormalKind) (es : List Expr) (r : Left) → m ≡ mode.ByReference → kind ≡ shape.Simple → FindsVariable b w d es r → FindsFormal b w token d m kind es r
   unfolding FindsVariable
-  reference_simple token d m kind es r em ek f = as_formal token d m mode.ByReference kind shape.Simple es r em ek f
+  reference_simple token d m kind es r em ek f = as_formal token d m mode.ByReference kind shape.Simple es r em ek (λ e. whole_of e r _ f)
 
   pub reference_array : (token : TokenNo) (d : DeclNo) (m : Mode) (kind : FormalKind) (es : List Expr) (r : Left) → m ≡ mode.ByReference → kind ≡ shape.Array → FindsElement b w token d es r → FindsFormal b w token d m kind es r
   unfolding FindsElement
-  reference_array token d m kind es r em ek f = as_formal token d m mode.ByReference kind shape.Array es r em ek f
+  reference_array token d m kind es r em ek f = as_formal token d m mode.ByReference kind shape.Array es r em ek (λ e. whole_of e r _ f)
 
   pub reference_procedure : (token : TokenNo) (d : DeclNo) (m : Mode) (kind : FormalKind) (es : List Expr) → m ≡ mode.ByReference → kind ≡ shape.Procedure → FindsFormal b w token d m kind es left.NotBuilt
-  reference_procedure token d m kind es em ek = as_formal token d m mode.ByReference kind shape.Procedure es left.NotBuilt em ek (λ h. h)
+  reference_procedure token d m kind es em ek = as_formal token d m mode.ByReference kind shape.Procedure es left.NotBuilt em ek (λ e h. h)
 
   -- ---- declarations
 
-  as_declared : (token : TokenNo) (d : DeclNo) (o o' : Option Entry) (es : List Expr) (r : Left) → o ≡ entry_of b.scopes d → o ≡ o' → IsVariable (source_of b) w r (stored_declared (source_of b) d (operands_in es) (line_at (source_of b) token.0) o') → FindsDeclared b w token d es r
+  as_declared : (token : TokenNo) (d : DeclNo) (o o' : Option Entry) (es : List Expr) (r : Left) → o ≡ entry_of b.scopes d → o ≡ o' → ((e : Expression) → IsWhole (source_of b) w e r (stored_declared (source_of b) e d (operands_in es) (line_at (source_of b) token.0) o')) → FindsDeclared b w token d es r
   unfolding FindsDeclared source_of
-  as_declared token d o o' es r eo is f = subst (λ z. IsVariable (source_of b) w r (stored_declared (source_of b) d (operands_in es) (line_at (source_of b) token.0) z)) (sym is ∙ eo) f
+  as_declared token d o o' es r eo is f e = subst (λ z. IsWhole (source_of b) w e r (stored_declared (source_of b) e d (operands_in es) (line_at (source_of b) token.0) z)) (sym is ∙ eo) (f e)
 
   pub declared_variable : (token : TokenNo) (d : DeclNo) (o : Option Entry) (t : SimType) (es : List Expr) (r : Left) → o ≡ entry_of b.scopes d → o ≡ Some (entry.Variable t) → FindsVariable b w d es r → FindsDeclared b w token d es r
   unfolding FindsVariable
-  declared_variable token d o t es r eo is f = as_declared token d o _ es r eo is f
+  declared_variable token d o t es r eo is f = as_declared token d o _ es r eo is (λ e. whole_of e r _ f)
 
   pub declared_array : (token : TokenNo) (d : DeclNo) (o : Option Entry) (t : SimType) (m : ℕ) (es : List Expr) (r : Left) → o ≡ entry_of b.scopes d → o ≡ Some (entry.Array t m) → FindsElement b w token d es r → FindsDeclared b w token d es r
   unfolding FindsElement
-  declared_array token d o t m es r eo is f = as_declared token d o _ es r eo is f
+  declared_array token d o t m es r eo is f = as_declared token d o _ es r eo is (λ e. whole_of e r _ f)
 
   pub declared_formal : (token : TokenNo) (d : DeclNo) (o : Option Entry) (x : Formal) (es : List Expr) (r : Left) → o ≡ entry_of b.scopes d → o ≡ Some (entry.Formal x) → FindsFormal b w token d x.mode x.kind es r → FindsDeclared b w token d es r
   unfolding FindsFormal
@@ -303,40 +331,40 @@ module _ (b : Bound) (w : Spot) where
 
   pub declared_result : (token : TokenNo) (d : DeclNo) (o : Option Entry) (t : Option SimType) (k : ℕ) (es : List Expr) (r : Left) → o ≡ entry_of b.scopes d → o ≡ Some (entry.Procedure t k) → FindsResult b w k es r → FindsDeclared b w token d es r
   unfolding FindsResult
-  declared_result token d o t k es r eo is f = as_declared token d o _ es r eo is f
+  declared_result token d o t k es r eo is f = as_declared token d o _ es r eo is (λ e. whole_of e r _ f)
 
   pub declared_constant : (token : TokenNo) (d : DeclNo) (o : Option Entry) (t : SimType) (es : List Expr) → o ≡ entry_of b.scopes d → o ≡ Some (entry.Constant t) → FindsDeclared b w token d es left.NotBuilt
-  declared_constant token d o t es eo is = as_declared token d o _ es left.NotBuilt eo is (λ h. h)
+  declared_constant token d o t es eo is = as_declared token d o _ es left.NotBuilt eo is (λ e h. h)
 
   pub declared_class : (token : TokenNo) (d : DeclNo) (o : Option Entry) (k : ℕ) (es : List Expr) → o ≡ entry_of b.scopes d → o ≡ Some (entry.Class k) → FindsDeclared b w token d es left.NotBuilt
-  declared_class token d o k es eo is = as_declared token d o _ es left.NotBuilt eo is (λ h. h)
+  declared_class token d o k es eo is = as_declared token d o _ es left.NotBuilt eo is (λ e h. h)
 
   pub declared_virtual : (token : TokenNo) (d : DeclNo) (o : Option Entry) (t : Option SimType) (own : Option DeclNo) (es : List Expr) → o ≡ entry_of b.scopes d → o ≡ Some (entry.Virtual t own) → FindsDeclared b w token d es left.NotBuilt
-  declared_virtual token d o t own es eo is = as_declared token d o _ es left.NotBuilt eo is (λ h. h)
+  declared_virtual token d o t own es eo is = as_declared token d o _ es left.NotBuilt eo is (λ e h. h)
 
   pub declared_unspecified : (token : TokenNo) (d : DeclNo) (o : Option Entry) (m : Option WrittenMode) (es : List Expr) → o ≡ entry_of b.scopes d → o ≡ Some (entry.Unspecified m) → FindsDeclared b w token d es left.NotBuilt
-  declared_unspecified token d o m es eo is = as_declared token d o _ es left.NotBuilt eo is (λ h. h)
+  declared_unspecified token d o m es eo is = as_declared token d o _ es left.NotBuilt eo is (λ e h. h)
 
   pub declared_attribute : (token : TokenNo) (d : DeclNo) (o : Option Entry) (n : Standard) (x y : Option SimType) (es : List Expr) → o ≡ entry_of b.scopes d → o ≡ Some (entry.Attribute n x y) → FindsDeclared b w token d es left.NotBuilt
-  declared_attribute token d o n x y es eo is = as_declared token d o _ es left.NotBuilt eo is (λ h. h)
+  declared_attribute token d o n x y es eo is = as_declared token d o _ es left.NotBuilt eo is (λ e h. h)
 
   pub declared_nowhere : (token : TokenNo) (d : DeclNo) (o : Option Entry) (es : List Expr) → o ≡ entry_of b.scopes d → o ≡ None → FindsDeclared b w token d es left.NotBuilt
-  declared_nowhere token d o es eo is = as_declared token d o _ es left.NotBuilt eo is (λ h. h)
+  declared_nowhere token d o es eo is = as_declared token d o _ es left.NotBuilt eo is (λ e h. h)
 
   -- ---- identifiers
 
-  as_named : (token : TokenNo) (o o' : Option Denotation) (es : List Expr) (r : Left) → o ≡ denoted (source_of b) token.0 → o ≡ o' → IsVariable (source_of b) w r (stored_named (source_of b) o' (operands_in es) (line_at (source_of b) token.0)) → FindsLeft b w token es r
+  as_named : (token : TokenNo) (o o' : Option Denotation) (es : List Expr) (r : Left) → o ≡ denoted (source_of b) token.0 → o ≡ o' → ((e : Expression) → IsWhole (source_of b) w e r (stored_named (source_of b) e o' (operands_in es) (line_at (source_of b) token.0))) → FindsLeft b w token es r
   unfolding FindsLeft
-  as_named token o o' es r eo is f = subst (λ z. IsVariable (source_of b) w r (stored_named (source_of b) z (operands_in es) (line_at (source_of b) token.0))) (sym is ∙ eo) f
+  as_named token o o' es r eo is f e = subst (λ z. IsWhole (source_of b) w e r (stored_named (source_of b) e z (operands_in es) (line_at (source_of b) token.0))) (sym is ∙ eo) (f e)
 
   pub left_declared : (token : TokenNo) (o : Option Denotation) (d : DeclNo) (es : List Expr) (r : Left) → o ≡ denoted (source_of b) token.0 → o ≡ Some (denotation.Declared d) → FindsDeclared b w token d es r → FindsLeft b w token es r
   unfolding FindsDeclared
   left_declared token o d es r eo some f = as_named token o _ es r eo some f
 
   pub left_standard : (token : TokenNo) (o : Option Denotation) (k : StandardName) (es : List Expr) → o ≡ denoted (source_of b) token.0 → o ≡ Some (denotation.Standard k) → FindsLeft b w token es left.NotBuilt
-  left_standard token o k es eo some = as_named token o _ es left.NotBuilt eo some (λ h. h)
+  left_standard token o k es eo some = as_named token o _ es left.NotBuilt eo some (λ e h. h)
 
   pub left_nothing : (token : TokenNo) (o : Option Denotation) (es : List Expr) → o ≡ denoted (source_of b) token.0 → o ≡ None → FindsLeft b w token es left.NotBuilt
-  left_nothing token o es eo none = as_named token o _ es left.NotBuilt eo none (λ h. h)
+  left_nothing token o es eo none = as_named token o _ es left.NotBuilt eo none (λ e h. h)
 
-pub ruleset lefts = (result_slot_first, result_slot_none, variable_subscripts, variable_no_slot, variable_outside, variable_cell, element_none, element_found, result_subscripts, result_missing, result_outside, result_found, formal_by_name, value_simple, value_array, value_procedure, reference_simple, reference_array, reference_procedure, declared_variable, declared_array, declared_formal, declared_result, declared_constant, declared_class, declared_virtual, declared_unspecified, declared_attribute, declared_nowhere, left_declared, left_standard, left_nothing)
+pub ruleset lefts = (result_slot_first, result_slot_none, variable_subscripts, variable_no_slot, variable_outside, variable_cell, element_none, element_found, result_subscripts, result_missing, result_outside, result_found, name_simple, name_procedure, name_array_alone, name_element, value_simple, value_array, value_procedure, reference_simple, reference_array, reference_procedure, declared_variable, declared_array, declared_formal, declared_result, declared_constant, declared_class, declared_virtual, declared_unspecified, declared_attribute, declared_nowhere, left_declared, left_standard, left_nothing)

@@ -244,7 +244,7 @@ place_found b n i place level x le none f =
 module _ (b : Bound) (w : Spot) where
   -- what stands up to a place
   pub emits_to : (a c : DraftOf) (P : Type 0) (A : CodeOf → Site → ℕ → ℕ → Type 0) (n : ℕ) → n ≡ length c.instrs → Emits w a c P A → Emits w a c P (λ final site p q. A final site p q × (q ≡ n))
-  emits_to a c P A n e f = record { rest = f.rest; front = f.front; roomier = f.roomier; larger = f.larger; classed = f.classed; thunked = f.thunked; built = f.built; before = f.before; only = f.only; fits = f.fits; at = λ h final site g. (f.at h final site g, sym e) }
+  emits_to a c P A n e f = record { rest = f.rest; front = f.front; roomier = f.roomier; larger = f.larger; classed = f.classed; thunked = f.thunked; listed = f.listed; built = f.built; before = f.before; only = f.only; fits = f.fits; at = λ h final site g. (f.at h final site g, sym e) }
 
   longer : (a c : DraftOf) (P : Type 0) (A : CodeOf → Site → ℕ → ℕ → Type 0) → Emits w a c P A → length a.instrs ≤ length c.instrs
   longer a c P A f = Rattle.codegen_expr.proofs.Pieces.fronts_le a.instrs c.instrs (f.rest, f.front)

@@ -97,11 +97,12 @@ module _ (b : Bound) (w : Spot) where
         larger = inner.larger;
         classed = inner.classed;
         thunked = inner.thunked;
+        listed = inner.listed;
         built = inner.built;
         before = inner.before;
         only = inner.only;
         fits = inner.fits;
-        at = λ h final site g. inner.at h final (record site { text = k }) (record { grows = g.grows; roomy = g.roomy; sized = g.sized; stands = sym et'; temps = g.temps ∙ sym em; taken = g.taken ∙ sym eu; follows = g.follows; classed = g.classed; thunked = g.thunked });
+        at = λ h final site g. inner.at h final (record site { text = k }) (record { grows = g.grows; roomy = g.roomy; sized = g.sized; stands = sym et'; temps = g.temps ∙ sym em; taken = g.taken ∙ sym eu; follows = g.follows; classed = g.classed; thunked = g.thunked; belongs = g.belongs; listed = g.listed });
       } in
       emits_as w _ _ _ _ a d (λ h. (tt, h.body)) (λ h. record { is = is_text; begins = begins; stands = around; has = has; body = h.1 })
       (λ final site p q stands _ r. record {
@@ -204,6 +205,7 @@ module _ (b : Bound) (w : Spot) where
         larger = all.larger;
         classed = all.classed;
         thunked = all.thunked;
+        listed = all.listed;
         built = λ h u. all.built (h, tt) u;
         before = all.before;
         only = λ u. (all.only u).0;
@@ -236,6 +238,7 @@ module _ (b : Bound) (w : Spot) where
         larger = all.larger;
         classed = all.classed;
         thunked = all.thunked;
+        listed = all.listed;
         built = λ h u. all.built ((tt, tt), (h.1, tt)) u;
         before = all.before;
         only = λ u. (known, (all.only u).1.0);

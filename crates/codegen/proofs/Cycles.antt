@@ -38,6 +38,7 @@ emits_cycle t P Q A B c1 c3 c4 c5 c6 new start end jump es a ej e4 b e6 ee en =
       larger = all.larger;
       classed = all.classed;
       thunked = all.thunked;
+      listed = all.listed;
       built = λ p w. all.built (p.0, (p.1, tt)) w;
       before = all.before;
       only = λ w. (let r = all.only w in (r.0, r.1.0));

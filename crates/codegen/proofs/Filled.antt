@@ -11,7 +11,7 @@ use Rattle.sim_code.specs.declared.instr.Instr.TheVariants as i
 use Rattle.sim_code.specs.Code.{CodeOf}
 use Rattle.sim_meaning.specs.Levels.{class_at}
 use Rattle.codegen_expr.specs.declared.spot.Spot.{Spot}
-use Rattle.codegen_expr.specs.Drafts.{DraftOf, Emits, filled_in}
+use Rattle.codegen_expr.specs.Drafts.{DraftOf, filled_in}
 use Rattle.codegen_expr.specs.Sites.{Is, Site}
 use Rattle.codegen_expr.proofs.Pieces.{emits_as}
 use Rattle.codegen.specs.BuiltProgram.{ArmsBuilt, StatementsBuilt}

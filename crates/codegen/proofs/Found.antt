@@ -31,7 +31,7 @@ use Rattle.codegen.specs.BuiltProgram.{LeftBuilt}
 use Rattle.codegen.specs.CodeLeft.{InCell, NotBuilt, Stored, stored_by_sign, stored_found, stored_held, stored_left, stored_match, stored_named, stored_named_by, stored_or_named, stored_result, stored_text}
 use Rattle.codegen.specs.EmitLeft.{FindsByName, FindsLeft, FindsMatchText, FindsNamed, FindsOwn, FindsOwnNamed, FindsResult, FindsSide, FindsTaken, FindsText, FindsWhole, IsLeft, IsVariable, IsWhole, operands_in, own_if, own_match_if}
 use Rattle.codegen_expr.proofs.Attributes.{selector-Dot, selector-Qua}
-use Rattle.codegen.proofs.Cells.{own_found, own_missing, own_outside}
+use Rattle.codegen.proofs.Cells.{own_found, own_missing, own_outside, whole_of}
 
 pub form_at : (f g : Form) (x : Expr) → FindsForm f x → f ≡ g → FormIs g (syntax_of x)
 unfolding FindsForm
@@ -127,24 +127,12 @@ module _ (b : Bound) (w : Spot) where
   unfolding FindsWhole
   not_left x e = subst (λ z. IsWhole (source_of b) w (syntax_of x) left.NotBuilt z) e (λ h. h)
 
-  whole_of : (e : Expression) (r : Left) (t : Stored) → IsVariable (source_of b) w r t → IsWhole (source_of b) w e r t
-  whole_of e (left.Cell level slot) t f = f
-  whole_of e (left.Element token d es) t f = f
-  whole_of e left.Text t f = absurd f
-  whole_of e (left.Result level slot) t f = absurd f
-  whole_of e left.Attribute t f = absurd f
-  whole_of e left.Reference t f = absurd f
-  whole_of e (left.Named d) t f = absurd f
-  whole_of e (left.NamedText d) t f = absurd f
-  whole_of e (left.NamedReference d class) t f = absurd f
-  whole_of e left.NotBuilt t f = f
-
   pub named_through : (x : Identifier) (es : List Expr) (o : Option ℕ) (k : ℕ) → o ≡ connection_at (source_of b) x.token.0 → o ≡ Some k → FindsNamed b w x es left.Attribute
   unfolding FindsNamed
   named_through x es o k eo some =
       let s = source_of b in
       let e = Named x (operands_in es) in
-      sym (ap (λ z. stored_found z e (stored_match (text_of_procedure s (own_match s e)) (stored_named s (denoted s x.token.0) (operands_in es) (line_at s x.token.0)))) (sym some ∙ eo))
+      sym (ap (λ z. stored_found z e (stored_match (text_of_procedure s (own_match s e)) (stored_named s e (denoted s x.token.0) (operands_in es) (line_at s x.token.0)))) (sym some ∙ eo))
 
   match_is : (x : Identifier) (es : List Expr) (n : ℕ) (p : Option ℕ) → FindsMatchText b x n p → n ≡ length es → p ≡ text_of_procedure (source_of b) (own_match (source_of b) (Named x (operands_in es)))
   unfolding FindsMatchText
@@ -152,18 +140,18 @@ module _ (b : Bound) (w : Spot) where
 
   -- what is seen through no connection
   unconnected : (x : Identifier) (es : List Expr) (o p : Option ℕ) (r : Left) → o ≡ connection_at (source_of b) x.token.0 → o ≡ None → p ≡ text_of_procedure (source_of b) (own_match (source_of b) (Named x (operands_in es)))
-      → IsVariable (source_of b) w r (stored_match p (stored_named (source_of b) (denoted (source_of b) x.token.0) (operands_in es) (line_at (source_of b) x.token.0))) → FindsNamed b w x es r
+      → IsWhole (source_of b) w (Named x (operands_in es)) r (stored_match p (stored_named (source_of b) (Named x (operands_in es)) (denoted (source_of b) x.token.0) (operands_in es) (line_at (source_of b) x.token.0))) → FindsNamed b w x es r
   unfolding FindsNamed
   unconnected x es o p r eo none ep f =
       let s = source_of b in
       let e = Named x (operands_in es) in
-      let other = stored_named s (denoted s x.token.0) (operands_in es) (line_at s x.token.0) in
+      let other = stored_named s e (denoted s x.token.0) (operands_in es) (line_at s x.token.0) in
       subst (λ z. IsWhole s w e r (stored_found z e (stored_match (text_of_procedure s (own_match s e)) other))) (sym none ∙ eo)
-      (subst (λ z. IsWhole s w e r (stored_match z other)) ep (whole_of e r _ f))
+      (subst (λ z. IsWhole s w e r (stored_match z other)) ep f)
 
   pub named_plain : (x : Identifier) (es : List Expr) (n : ℕ) (o p : Option ℕ) (r : Left) → o ≡ connection_at (source_of b) x.token.0 → o ≡ None → FindsMatchText b x n p → n ≡ length es → p ≡ None → FindsLeft b w x.token es r → FindsNamed b w x es r
   unfolding FindsLeft
-  named_plain x es n o p r eo none ep en no_match f = unconnected x es o None r eo none (sym no_match ∙ match_is x es n p ep en) f
+  named_plain x es n o p r eo none ep en no_match f = unconnected x es o None r eo none (sym no_match ∙ match_is x es n p ep en) (f (Named x (operands_in es)))
 
   -- the result of a match has no subscripts
   of_match : (x : Identifier) (es : List Expr) (k : ℕ) (r : Left) → Some k ≡ text_of_procedure (source_of b) (own_match (source_of b) (Named x (operands_in es))) → IsVariable (source_of b) w r (stored_result k (operands_in es)) → IsVariable (source_of b) w r (InCell k Result)
@@ -175,7 +163,7 @@ module _ (b : Bound) (w : Spot) where
   unfolding FindsResult
   named_match x es n k o p r eo none ep en some f =
       let is = sym some ∙ match_is x es n p ep en in
-      unconnected x es o (Some k) r eo none is (of_match x es k r is f)
+      unconnected x es o (Some k) r eo none is (whole_of b w (Named x (operands_in es)) r _ (of_match x es k r is f))
 
   pub taken_attribute : (y : Selector) (i : TokenNo) (k : Identifier) (l : Vec Expr Global) (o : Option Denotation) (d : DeclNo) → y ≡ take.Dot i k l → o ≡ denoted (source_of b) k.token.0 → o ≡ Some (denotation.Declared d) → FindsTaken b w y left.Attribute
   unfolding FindsTaken

@@ -7,6 +7,10 @@ use Rattle.sim_values.specs.declared.standard.Standard.{Standard}
 use Rattle.sim_scope.specs.declared.types.Entry.{Entry}
 use Rattle.sim_scope.specs.declared.types.Entry.TheVariants as entry
 use Rattle.sim_scope.specs.declared.types.Formal.{Formal}
+use Rattle.sim_scope.specs.declared.types.FormalKind.{FormalKind}
+use Rattle.sim_scope.specs.declared.types.FormalKind.TheVariants as shape
+use Rattle.sim_scope.specs.declared.types.Mode.{Mode}
+use Rattle.sim_scope.specs.declared.types.Mode.TheVariants as mode
 use Rattle.sim_scope.specs.declared.types.SimType.{SimType}
 use Rattle.sim_scope.specs.declared.types.SimType.TheVariants as t
 use Rattle.sim_scope.specs.declared.types.WrittenMode.{WrittenMode}
@@ -16,19 +20,26 @@ use Rattle.sim_scope.specs.Tables.{BlockOf as TableBlock}
 use Rattle.sim_tree.specs.declared.stmt.TypeName.{TypeName}
 use Rattle.sim_tree.specs.declared.stmt.TypeName.TheVariants as type_name
 use Rattle.sim_values.specs.Plain.{initial}
+use Rattle.sim_code.specs.declared.code.CodeFormal.{CodeFormal}
+use Rattle.sim_code.specs.declared.code.CodeMode.{CodeMode}
 use Rattle.sim_code.specs.declared.code.CodeType.{CodeType}
+use Rattle.sim_code.specs.declared.code.FormalShape.{FormalShape}
 use Rattle.sim_code.specs.declared.code.CodeType.TheVariants as type
 use Rattle.sim_code.specs.declared.code.BlockKind.{BlockKind}
 use Rattle.sim_code.specs.declared.code.BlockKind.TheVariants as kind
 use Rattle.sim_meaning.specs.Closing.{class_parameters, formals_from as formals_closed, formal_before as formal_before_closed}
-use Rattle.sim_meaning.specs.Entries.{cells_from, formal_before, formals_from, formals_of, numbers_of, with_cell, with_result}
+use Rattle.sim_meaning.specs.Entries.{cells_from, formal_before, formals_from, formals_of, numbers_of, of_formal, with_cell, with_result}
+use Rattle.sim_meaning.specs.Levels.{is_process_itself, qualification}
 use Rattle.sim_meaning.specs.Pending.{Held}
 use Rattle.sim_meaning.specs.Texts.{kind_named, kind_of_type}
+use Rattle.codegen_expr.specs.Drafts.{DraftOf}
 use Rattle.codegen_expr.specs.Emit.{formals_of_block}
 use Rattle.codegen_expr.specs.Known.{is_hidden}
-use Rattle.codegen_expr.specs.Sites.{connects, frame_text, hidden_before, hidden_from, hidden_in, is_connected, is_connection}
-use Rattle.codegen.specs.Compiled.{type_of, type_of_cell, type_of_name, type_of_plain}
-use Rattle.codegen.specs.EmitProgram.{CellTypes, HidesConnections, OwesCells, OwesHidden, PushesCell, PushesCells, PushesResult, formals_by_kind, with_hidden}
+use Rattle.codegen_expr.specs.Sites.{connects, frame_text, hidden_before, hidden_from, hidden_in, is_connected, is_connection, origin_in}
+use Rattle.codegen_expr.specs.Thunks.{ClassOrNone}
+use Rattle.codegen_expr.specs.CodeExpr.{class_or_none, type_of}
+use Rattle.codegen.specs.Compiled.{code_formal, code_mode, code_shape, type_of_cell, type_of_name, type_of_plain, type_of_value}
+use Rattle.codegen.specs.EmitProgram.{CellTypes, FormalGiven, FormalsGiven, HidesCells, HidesConnections, OwesCells, OwesFormals, OwesHidden, PushesCell, PushesCells, PushesResult, formals_by_kind, type_of_formal, type_of_simple, with_hidden}
 
 of_type : (x : SimType) → type_of (Some x) ≡ type_of_plain (initial (kind_of_type x))
 of_type t.Integer = refl
@@ -57,9 +68,46 @@ pub push_array : (old new : List CodeType) (o : Option Entry) (x : SimType) (n :
 unfolding PushesCell
 push_array old new o x n is en d = en ∙ ap (λ z. old ++ map type_of_cell (with_cell d z [])) (sym is)
 
-pub push_formal : (old new : List CodeType) (o : Option Entry) (x : Formal) → o ≡ Some (entry.Formal x) → new ≡ old ++ (type.Nothing ∷ []) → PushesCell old new o
+-- formal parameters
+simple_is : (o : Option SimType) → type_of o ≡ type_of_value (of_formal mode.ByValue shape.Simple o)
+simple_is None = refl
+simple_is (Some x) = of_type x
+
+formal_is : (m : Mode) (k : FormalKind) (o : Option SimType) → type_of_formal m k o ≡ type_of_value (of_formal m k o)
+formal_is mode.ByName shape.Simple o = refl
+formal_is mode.ByName shape.Array o = refl
+formal_is mode.ByName shape.Procedure o = refl
+formal_is mode.ByValue shape.Simple o = simple_is o
+formal_is mode.ByValue shape.Array o = refl
+formal_is mode.ByValue shape.Procedure o = refl
+formal_is mode.ByReference shape.Simple None = refl
+formal_is mode.ByReference shape.Simple (Some x) = of_type x
+formal_is mode.ByReference shape.Array o = refl
+formal_is mode.ByReference shape.Procedure o = refl
+
+pub push_formal : (old new : List CodeType) (o : Option Entry) (x : Formal) (k : CodeType) → o ≡ Some (entry.Formal x) → k ≡ type_of_formal x.mode x.kind x.ty → new ≡ old ++ (k ∷ []) → PushesCell old new o
 unfolding PushesCell
-push_formal old new o x is en d = en ∙ ap (λ z. old ++ map type_of_cell (with_cell d z [])) (sym is)
+push_formal old new o x k is ek en d = en ∙ ap (λ z. old ++ (z ∷ [])) (ek ∙ formal_is x.mode x.kind x.ty) ∙ ap (λ z. old ++ map type_of_cell (with_cell d z [])) (sym is)
+
+pub cell_by_name : (f : Formal) → f.mode ≡ mode.ByName → type.Nothing ≡ type_of_formal f.mode f.kind f.ty
+cell_by_name f is = ap (λ z. type_of_formal z f.kind f.ty) (sym is)
+
+pub cell_by_value : (f : Formal) (r : CodeType) → f.mode ≡ mode.ByValue → r ≡ type_of_simple f.kind f.ty → r ≡ type_of_formal f.mode f.kind f.ty
+cell_by_value f r is er = er ∙ ap (λ z. type_of_formal z f.kind f.ty) (sym is)
+
+pub cell_by_reference : (f : Formal) (r : CodeType) → f.mode ≡ mode.ByReference → r ≡ type_of_simple f.kind f.ty → r ≡ type_of_formal f.mode f.kind f.ty
+cell_by_reference f r is er = er ∙ ap (λ z. type_of_formal z f.kind f.ty) (sym is)
+
+pub cell_simple : (f : Formal) (r : CodeType) → f.kind ≡ shape.Simple → r ≡ type_of f.ty → r ≡ type_of_simple f.kind f.ty
+cell_simple f r is er = er ∙ ap (λ z. type_of_simple z f.ty) (sym is)
+
+pub cell_of_array : (f : Formal) → f.kind ≡ shape.Array → type.Nothing ≡ type_of_simple f.kind f.ty
+cell_of_array f is = ap (λ z. type_of_simple z f.ty) (sym is)
+
+pub cell_of_procedure : (f : Formal) → f.kind ≡ shape.Procedure → type.Nothing ≡ type_of_simple f.kind f.ty
+cell_of_procedure f is = ap (λ z. type_of_simple z f.ty) (sym is)
+
+pub ruleset formal_cells = (cell_by_name, cell_by_value, cell_by_reference, cell_simple, cell_of_array, cell_of_procedure)
 
 pub push_procedure : (old : List CodeType) (o : Option Entry) (x : Option SimType) (n : ℕ) → o ≡ Some (entry.Procedure x n) → PushesCell old old o
 unfolding PushesCell
@@ -240,8 +288,44 @@ hidden_next b old now new k i n count f ec le en e = cases (is_hidden (source_of
 
 pub hidden_last : (b : Bound) (old now : List CodeType) (k i : ℕ) → OwesHidden b old k now i → length b.scopes.blocks ≤ i → HidesConnections b old now k
 unfolding OwesHidden HidesConnections
-hidden_last b old now k i f le = sym (append-nil now) ∙ sym (ap (λ z. now ++ map type_of_cell (hidden_from (source_of b) k i z)) (drop_behind b.scopes.blocks i le)) ∙ f
+hidden_last b old now k i f le = sym (ap (λ z. now ++ map type_of_cell (hidden_from (source_of b) k i z)) (drop_behind b.scopes.blocks i le)) ∙ f
 
-pub ruleset formals = (formals_of_class, formals_of_prefixed, formals_of_sub_block, formals_of_procedure)
+-- the cell of an origin
+pub hidden_origin : (b : Bound) (old now new : List CodeType) (k : ℕ) (r : Bool) → HidesConnections b old now k → r ≡ is_process_itself (source_of b) k → r ≡ true → new ≡ now ++ (type.Integer ∷ []) → HidesCells b old new k
+unfolding HidesConnections HidesCells
+hidden_origin b old now new k r f er is en = en ∙ ap (λ z. now ++ map type_of_cell (origin_in z)) (sym is ∙ er) ∙ f
+
+pub hidden_no_origin : (b : Bound) (old now : List CodeType) (k : ℕ) (r : Bool) → HidesConnections b old now k → r ≡ is_process_itself (source_of b) k → r ≡ false → HidesCells b old now k
+unfolding HidesConnections HidesCells
+hidden_no_origin b old now k r f er is = sym (append-nil now) ∙ ap (λ z. now ++ map type_of_cell (origin_in z)) (sym is ∙ er) ∙ f
+
+pub ruleset origins = (hidden_origin, hidden_no_origin)
+
+-- ---- formals in each code that a draft may become
+
+pub formal_given : (b : Bound) (c : DraftOf) (f : Formal) (class : Option ℕ) (cls : ℕ) (m : CodeMode) (h : FormalShape) (ty : CodeType) → class ≡ qualification (source_of b) f.ty → ClassOrNone b c class cls → m ≡ code_mode f.mode → h ≡ code_shape f.kind → ty ≡ type_of f.ty
+    → FormalGiven b c f (record { mode = m; shape = h; code_type = ty; class = cls })
+unfolding FormalGiven ClassOrNone
+formal_given b c f class cls m h ty ec g em eh et final known =
+    let s = source_of b in
+    let number : cls ≡ class_or_none s final (qualification s f.ty) = g final known ∙ ap (class_or_none s final) ec in
+    ap (λ z. record { mode = z; shape = h; code_type = ty; class = cls }) em
+    ∙ ap (λ z. record { mode = code_mode f.mode; shape = z; code_type = ty; class = cls }) eh
+    ∙ ap (λ z. record { mode = code_mode f.mode; shape = code_shape f.kind; code_type = z; class = cls }) et
+    ∙ ap (λ z. record { mode = code_mode f.mode; shape = code_shape f.kind; code_type = type_of f.ty; class = z }) number
+
+pub given_next : (b : Bound) (c : DraftOf) (ys ys' : List CodeFormal) (xs r r' : List Formal) (x : Formal) (y : CodeFormal) → OwesFormals b c xs ys r → r ≡ x ∷ r' → FormalGiven b c x y → ys' ≡ ys ++ (y ∷ []) → OwesFormals b c xs ys' r'
+unfolding OwesFormals FormalGiven
+given_next b c ys ys' xs r r' x y f is g ee final known = mapped_next (code_formal (source_of b) final) ys ys' xs r r' x y (f final known) is (g final known) ee
+
+pub given_none : (b : Bound) (c : DraftOf) (ys : List CodeFormal) (xs r : List Formal) → OwesFormals b c xs ys r → r ≡ [] → FormalsGiven b c xs ys
+unfolding OwesFormals FormalsGiven
+given_none b c ys xs r f is final known = sym (append-nil ys) ∙ ap (λ z. ys ++ map (code_formal (source_of b) final) z) (sym is) ∙ f final known
+
+pub given_all : (b : Bound) (c : DraftOf) (xs : List Formal) → OwesFormals b c xs [] xs
+unfolding OwesFormals
+given_all b c xs final known = refl
+
+pub ruleset formals = (formal_given, formals_of_class, formals_of_prefixed, formals_of_sub_block, formals_of_procedure)
 
 pub ruleset heads = (push_variable, push_constant, push_array, push_formal, push_procedure, push_class, push_virtual, push_unspecified, push_attribute, push_nothing, push_no_result, push_some_result, cells_found)

@@ -8,7 +8,7 @@ use Rattle.sim_code.specs.Code.{CodeOf}
 use Rattle.codegen_expr.specs.declared.spot.Spot.{Spot}
 use Rattle.codegen_expr.specs.Drafts.{Becomes, DraftOf, Emits, filled_in, with_hole, with_instr, with_push}
 use Rattle.codegen_expr.specs.Sites.{Site, lined}
-use Rattle.codegen_expr.proofs.Pieces.{Fronts, append_at, becomes_filled, becomes_later, fronts_le, fronts_set, fronts_then, get_front, later_emits, more_before, more_same, more_then, run_more, run_set, set_len, set_other, set_same}
+use Rattle.codegen_expr.proofs.Pieces.{Fronts, append_at, becomes_filled, becomes_later, fronts_le, fronts_set, fronts_then, get_front, later_emits, more_before, more_same, more_then, run_more, run_set, set_len, set_other, set_same, still_before, still_same, still_then}
 use Rattle.codegen.specs.EmitShared.{OpenAt, Turns}
 
 pub get_bound : {A : Type 0} (xs : List A) (k : ℕ) (x : A) → slice_get xs k ≡ Some x → k < length xs
@@ -38,7 +38,8 @@ turns_none t a low H here = record {
   roomier = omega arith;
   larger = omega arith;
   classed = refl;
-  thunked = more_same refl;
+  thunked = still_same refl;
+  listed = more_same refl;
   built = λ _ w. w;
   before = λ w. w;
   only = λ w. tt;
@@ -77,7 +78,8 @@ turns_more t a m c d h low on hs E Q One B H lh hole e la lm ec r both =
       roomier = omega (arith, room, rm, rd);
       larger = omega (arith, size, sm, sd);
       classed = r.classed ∙ ap (λ z. z.classes) ec ∙ e.classed;
-      thunked = more_then e.thunked (more_before (ap (λ z. z.thunks) ec) r.thunked);
+      thunked = still_then e.thunked (still_before (ap (λ z. z.thunks) ec) r.thunked);
+      listed = more_then e.listed (more_before (ap (λ z. z.lists) ec) r.listed);
       built = λ p w. r.built p.1 (whole ∙ e.built p.0 w);
       before = λ w. e.before (sym whole ∙ r.before w);
       only = λ w. (e.only (sym whole ∙ r.before w), r.only w);
@@ -136,7 +138,8 @@ emits_hole t a c e =
       roomier = omega (arith, er);
       larger = omega (arith, es);
       classed = ap (λ z. z.classes) e;
-      thunked = more_same (ap (λ z. z.thunks) e);
+      thunked = still_same (ap (λ z. z.thunks) e);
+      listed = more_same (ap (λ z. z.lists) e);
       built = λ _ w. ew ∙ w;
       before = λ w. sym ew ∙ w;
       only = λ w. tt;
@@ -146,4 +149,4 @@ emits_hole t a c e =
 
 -- said otherwise, where the code stands
 pub emits_here : (t : Spot) (P : Type 0) (A B : CodeOf → Site → ℕ → ℕ → Type 0) (a c : DraftOf) → ((final : CodeOf) (site : Site) → site.text ≡ t.text → A final site (length a.instrs) (length c.instrs) → B final site (length a.instrs) (length c.instrs)) → Emits t a c P A → Emits t a c P B
-emits_here t P A B a c f e = record { rest = e.rest; front = e.front; roomier = e.roomier; larger = e.larger; classed = e.classed; thunked = e.thunked; built = e.built; before = e.before; only = e.only; fits = e.fits; at = λ w final site g. f final site g.stands (e.at w final site g) }
+emits_here t P A B a c f e = record { rest = e.rest; front = e.front; roomier = e.roomier; larger = e.larger; classed = e.classed; thunked = e.thunked; listed = e.listed; built = e.built; before = e.before; only = e.only; fits = e.fits; at = λ w final site g. f final site g.stands (e.at w final site g) }

@@ -1,5 +1,5 @@
 -- Where levels begin and end.
-use Rattle.std.proofs.Common.{◌≡◌, ℕ, pos, Bool, length, refl, sym, ap, ◌∙◌}
+use Rattle.std.proofs.Common.{◌≡◌, ℕ, pos, Bool, length, ap, ◌∙◌}
 use Rattle.sim_scope.specs.declared.bound.Bound.{Bound}
 use Rattle.sim_scope.specs.Source.{source_of}
 use Rattle.sim_code.specs.declared.code.CodeType.TheVariants as type

@@ -4,7 +4,7 @@ use Rattle.std.specs.Prelude.{⊤, slice_get, slice_set}
 use Rattle.sim_scope.specs.declared.bound.Bound.{Bound}
 use Rattle.sim_scope.specs.declared.types.StandardClass.{StandardClass}
 use Rattle.sim_scope.specs.declared.types.StandardClass.TheVariants as standard
-use Rattle.sim_scope.specs.Source.{Source, level_of, line_at, source_of}
+use Rattle.sim_scope.specs.Source.{Source, line_at, source_of}
 use Rattle.sim_tree.specs.declared.expr.Identifier.{Identifier}
 use Rattle.sim_tree.specs.declared.program.BlockPrefix.{BlockPrefix}
 use Rattle.sim_tree.specs.declared.stmt.Block.{Block}
@@ -13,12 +13,11 @@ use Rattle.sim_tree.specs.declared.stmt.Decl.{Decl}
 use Rattle.sim_tree.specs.declared.stmt.Procedure.{Procedure}
 use Rattle.sim_tree.specs.declared.stmt.Stmt.{Stmt}
 use Rattle.sim_tree.specs.declared.stmt.TypeName.{TypeName}
-use Rattle.sim_tree.specs.Syntax.{Also, Begin, Declarations, Heading, NoDeclaration, NoStatement, Statement, Statements, declarations, statements}
+use Rattle.sim_tree.specs.Syntax.{Also, Declarations, Heading, NoDeclaration, NoStatement, Statements, declarations, statements}
 use Rattle.sim_tree.specs.SyntaxOfProgram.{block_syntax, declaration_syntax, heading_syntax, prefix_syntax, statement_syntax}
 use Rattle.sim_tree.proofs.ProgramSyntaxLemmas as v
 use Rattle.sim_code.specs.declared.code.BlockKind.{BlockKind}
 use Rattle.sim_code.specs.declared.code.BlockKind.TheVariants as kind
-use Rattle.sim_code.specs.declared.code.CodeType.{CodeType}
 use Rattle.sim_code.specs.declared.code.CodeType.TheVariants as type
 use Rattle.sim_code.specs.declared.code.Match.{Match}
 use Rattle.sim_code.specs.declared.instr.Instr.{Instr}
@@ -26,19 +25,19 @@ use Rattle.sim_code.specs.declared.instr.Instr.TheVariants as i
 use Rattle.sim_code.specs.declared.instr.Lined.{Lined}
 use Rattle.sim_code.specs.Classes.{class_numbered}
 use Rattle.sim_code.specs.Code.{BlockOf, ClassOf, CodeOf}
-use Rattle.sim_code.specs.Running.{AllRun, runs}
+use Rattle.sim_code.specs.Running.{AllRun}
 use Rattle.sim_meaning.specs.Attributes as Attributes
-use Rattle.sim_meaning.specs.Levels.{is_process_class, writes_inner}
+use Rattle.sim_meaning.specs.Levels.{is_process_class, is_process_itself, is_standard_text, writes_inner}
 use Rattle.sim_meaning.specs.Texts.{ClassText, PrefixedText, ProcedureText, StandardText, Text, text}
 use Rattle.program_texts.specs.declared.tree.TextTree.{TextTree}
 use Rattle.program_texts.specs.declared.tree.TextTree.TheVariants as tree
-use Rattle.program_texts.specs.TextTrees.{block_text, class_text, heading_of, prefixed_text, text_in}
+use Rattle.program_texts.specs.TextTrees.{class_text, heading_of, prefixed_text, text_in}
 use Rattle.codegen_expr.specs.declared.spot.Spot.{Spot}
-use Rattle.codegen_expr.specs.Drafts.{Becomes, DraftOf, Emits, Grows, ThunksGrow, class_of, given_up, planned_at, planned_front, planned_in, with_instr}
-use Rattle.codegen_expr.proofs.Slots.{front_planned, start_planned}
+use Rattle.codegen_expr.specs.Drafts.{DraftOf, Emits, Grows, Longer, ThunksGrow, class_of, given_up, open_thunk, planned_at, planned_front, planned_in, with_instr}
+use Rattle.codegen_expr.proofs.Slots.{front_planned}
 use Rattle.codegen_expr.specs.Sites.{At, Is, Site, block_in_front, block_number, class_in, lined, prefix_of}
 use Rattle.codegen.proofs.ClassLevels.{emits_to}
-use Rattle.codegen_expr.proofs.Pieces.{Fronts, append_at, emits_at, emits_then, fronts_le, fronts_then, get_front, grows_front, grows_then, more_before, more_behind, more_same}
+use Rattle.codegen_expr.proofs.Pieces.{Fronts, append_at, emits_at, emits_then, fronts_le, fronts_then, grows_front, grows_then, more_before, more_behind, more_same, still_before, still_behind, still_same}
 use Rattle.codegen.specs.declared.class_texts.LevelHead.{LevelHead}
 use Rattle.codegen.specs.declared.level_records.LevelStart.{LevelStart}
 use Rattle.codegen.specs.declared.texts.ClassAt.{ClassAt}
@@ -46,13 +45,12 @@ use Rattle.codegen.specs.declared.texts.Head.{Head}
 use Rattle.codegen.specs.declared.texts.Written.{Written}
 use Rattle.codegen.specs.BuiltProgram.{ArraysBuilt, LevelBuilt, TextBuilt}
 use Rattle.codegen.specs.CodeArrays.{ArraysAt}
-use Rattle.codegen.specs.CodeStm.{LevelAt, ProcessAt, StmAt, StmsAt}
-use Rattle.codegen.specs.Compiled.{ClassIs, ClassTextOf, CodeHas, LevelOf, ProcessOf, RecordOf, StandardTextOf, code_formal, mark_of, parameters_of, site_of, standard_mark}
-use Rattle.codegen.specs.Emit.{WritesStatement, WritesStatements}
+use Rattle.codegen.specs.CodeStm.{LevelAt, ProcessAt}
+use Rattle.codegen.specs.Compiled.{ClassIs, ClassTextOf, CodeHas, LevelOf, ProcessOf, RecordOf, StandardTextOf, mark_of, parameters_of, site_of, standard_mark}
 use Rattle.codegen.specs.EmitArrays.{WritesArrays}
 use Rattle.codegen.specs.EmitProcesses.{WritesProcess}
 use Rattle.codegen.specs.EmitProgram.{BeginsLevel, ClassPut, Ends, EndsLevel, Entered, LevelBegun, LevelEnded, LevelText, Next, OwnEnd, TextEmitted, WritesBlockText, WritesClassText, WritesLevel, WritesLevelText, WritesPrefixedText, WritesProcedureText, WritesProcessText, WritesStandardText, WritesText, a_block, a_class, a_standard, blocks_in, class_record, classes_in, formals_by_kind, is_planned}
-use Rattle.codegen.proofs.Walked.{head_of, kinds_agree, one_only, recorded, restarted, spot, syntax_of_block, text_given_up, within}
+use Rattle.codegen.proofs.Walked.{head_of, kinds_agree, one_only, recorded, spot, syntax_of_block, text_given_up, within}
 
 -- ---- classes in their places
 
@@ -71,6 +69,10 @@ classes_with c stop d e = ap (λ z. z.classes) e
 thunks_with : (c : DraftOf) (stop : Instr) (d : DraftOf) → d ≡ with_instr c stop 0 → d.thunks ≡ c.thunks
 unfolding with_instr
 thunks_with c stop d e = ap (λ z. z.thunks) e
+
+lists_with : (c : DraftOf) (stop : Instr) (d : DraftOf) → d ≡ with_instr c stop 0 → d.lists ≡ c.lists
+unfolding with_instr
+lists_with c stop d e = ap (λ z. z.lists) e
 
 set_there : {A : Type 0} (xs : List A) (p : ℕ) (y v : A) → slice_get xs p ≡ Some y → slice_get (slice_set xs p v) p ≡ Some v
 set_there [] p y v e = absurd (cc)
@@ -96,6 +98,8 @@ fewer new newer number at final f g = record {
   classes = λ j x is. g.classes j x (kept_by new newer number at f j x is);
   classed = λ j. g.classed j ∙ ap (λ z. planned_at z.classes j) f.draft;
   thunked = subst (λ z. ThunksGrow z final.thunks) (ap (λ z. z.thunks) f.draft) g.thunked;
+  closed = ap (λ z. open_thunk z.thunks) (sym f.draft) ∙ g.closed;
+  listed = subst (λ z. Longer z final.actual_lists) (ap (λ z. z.lists) f.draft) g.listed;
 }
 
 -- ---- the code of a level
@@ -110,7 +114,7 @@ class_of_level x stated after matches = class_record (record { prefix = x.prefix
 -- what is known of a text with levels but its code
 pub record Kinded (s : Source) (h : LevelHead) (x : Text) : Type 0 where
   pub planned : is_planned x ≡ true
-  pub formals : map code_formal (formals_by_kind s h.kind h.text) ≡ map code_formal (parameters_of s h.text (Some x))
+  pub formals : formals_by_kind s h.kind h.text ≡ parameters_of s h.text (Some x)
   pub one_block : 1 ≡ blocks_in x
   pub one_class : 0 < classes_in x
 
@@ -155,7 +159,8 @@ module _ (b : Bound) where
         rest = all_there.0;
         front = all_there.1;
         classed = classes_with c stop new.draft draft ∙ classed;
-        thunked = more_behind (thunks_with c stop new.draft draft) (more_before (ap (λ z. z.thunks) f.draft ∙ entered.thunks) e.thunked);
+        thunked = still_behind (thunks_with c stop new.draft draft) (still_before (ap (λ z. z.thunks) f.draft ∙ entered.thunks) e.thunked);
+        listed = more_behind (lists_with c stop new.draft draft) (more_before (ap (λ z. z.lists) f.draft ∙ entered.lists) e.listed);
         fits = λ q. last.fits (e.fits (subst AllRun (sym i1) (entered.fits q)));
         added = g.added.block ∷ [];
         blocks = ap (λ z. z.items) g.put.blocks ∙ g.added.is ∙ ap (λ z. z.items ++ (g.added.block ∷ [])) blocks;
@@ -229,7 +234,7 @@ module _ (b : Bound) where
 
 -- ---- texts with levels that are no programs
 
-level_kinds : (s : Source) (k : ℕ) {ds : Declarations} {ss : Statements} {a : BlockKind} {e : ℕ} {r : Bool} {x : Text} → LevelText s k ds ss a e r x → map code_formal (formals_by_kind s a k) ≡ map code_formal (parameters_of s k (Some x))
+level_kinds : (s : Source) (k : ℕ) {ds : Declarations} {ss : Statements} {a : BlockKind} {e : ℕ} {r : Bool} {x : Text} → LevelText s k ds ss a e r x → formals_by_kind s a k ≡ parameters_of s k (Some x)
 level_kinds s k a_class = refl
 level_kinds s k (a_standard set) = refl
 level_kinds s k (a_block ne) = refl
@@ -274,7 +279,11 @@ level_first s (a_standard set) h = h
 level_first s (a_block no_program) h = no_program refl
 
 at_once : (w : Written) → Entered w w
-at_once w = record { rest = []; front = sym (append-nil w.draft.instrs); thunks = refl; whole = refl; planned = refl; fits = λ h. h; blocks = refl; classes = refl }
+at_once w = record { rest = []; front = sym (append-nil w.draft.instrs); thunks = refl; lists = refl; whole = refl; planned = refl; fits = λ h. h; blocks = refl; classes = refl }
+
+process_itself : (s : Source) (k : ℕ) → text s k ≡ Some (StandardText standard.Process) → is_process_itself s k ≡ true
+unfolding is_process_itself
+process_itself s k is = ap (is_standard_text is_process_class) is
 
 module _ (b : Bound) where
   pub class_text_written : (old new : Written) (ds : List Decl) (ss : List Stmt) (h : LevelHead) → h.text ≢ 0 → WritesLevelText b old new h ds ss → WritesClassText b old new h ds ss
@@ -326,7 +335,7 @@ module _ (b : Bound) where
       let one : length mid.draft.instrs ≡ 1 = (let h : length mid.draft.instrs ≡ length old.draft.instrs + 1 = ap length im ∙ length-append old.draft.instrs (jump ∷ []) in omega (arith, h, empty)) in
       let at : slice_get mid.draft.instrs 0 ≡ Some jump = ap (λ z. slice_get z 0) im ∙ ap (λ z. slice_get (old.draft.instrs ++ (jump ∷ [])) z) (sym empty) ∙ append_at old.draft.instrs jump in
       f old _ (record {
-        entered = record { rest = jump ∷ []; front = im; thunks = ap (λ z. z.thunks) em; whole = ap (λ z. z.whole) em; planned = ap (λ z. z.classes) em; fits = fits.fits; blocks = eb; classes = ec };
+        entered = record { rest = jump ∷ []; front = im; thunks = ap (λ z. z.thunks) em; lists = ap (λ z. z.lists) em; whole = ap (λ z. z.whole) em; planned = ap (λ z. z.classes) em; fits = fits.fits; blocks = eb; classes = ec };
         parts = λ t. (t.1, t.2);
         planned = refl;
         formals = refl;
@@ -389,7 +398,8 @@ module _ (b : Bound) where
   process_written old begun mid new c2 c3 k y stated after behind x2 w ne f is e2' e2 est fp' ea ed eb ec g next =
       let s = source_of b in
       let c1 = begun.draft in
-      let fp = subst (λ z. WritesProcess b z y.level c2 c3 after) is fp' in
+      let fp'' = subst (λ z. WritesProcess b z y.level c2 c3 after) is fp' in
+      let fp = fp'' (process_itself (source_of b) k next.is) in
       let around = next.agrees.processes k next.is in
       let le2 : length c2.instrs ≤ length c3.instrs = fronts_le c2.instrs c3.instrs (fp.1.rest, fp.1.front) in
       let le_after = fp.0 in
@@ -455,7 +465,8 @@ module _ (b : Bound) where
         rest = [];
         front = sym (append-nil old.draft.instrs);
         classed = refl;
-        thunked = more_same refl;
+        thunked = still_same refl;
+        listed = more_same refl;
         fits = λ h. h;
         added = [];
         blocks = sym (append-nil old.blocks.items);

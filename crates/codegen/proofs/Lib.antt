@@ -33,5 +33,6 @@ pub mod Planned
 pub mod PlanSteps
 pub mod Activated
 pub mod Opened
+pub mod OriginEnds
 pub mod ProcessLevels
 pub mod LevelRecords

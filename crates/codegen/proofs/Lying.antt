@@ -69,6 +69,7 @@ module _ (b : Bound) (w : Spot) where
         larger = f.larger;
         classed = f.classed;
         thunked = f.thunked;
+        listed = f.listed;
         built = λ h. f.built h.1;
         before = f.before;
         only = λ v. (tt, f.only v);

@@ -1,5 +1,5 @@
 -- Parts of code with open holes, one behind another, and holes that are filled.
-use Rattle.std.proofs.Common.{◌≡◌, ◌<◌, ◌≤◌, ◌++◌, ℕ, suc, ℤ, pos, true, List, [], ◌∷◌, length, refl, sym, ap, ◌∙◌, subst, arith, append-nil}
+use Rattle.std.proofs.Common.{◌≡◌, ◌<◌, ◌≤◌, ℕ, suc, ℤ, pos, true, List, [], ◌∷◌, length, refl, sym, ap, ◌∙◌, subst, arith, append-nil}
 use Rattle.std.specs.Prelude.{⊤, slice_get}
 use Rattle.sim_code.specs.declared.instr.Instr.{Instr}
 use Rattle.sim_code.specs.declared.instr.Instr.TheVariants as i
@@ -9,7 +9,7 @@ use Rattle.sim_code.specs.Running.{AllRun}
 use Rattle.codegen_expr.specs.declared.spot.Spot.{Spot}
 use Rattle.codegen_expr.specs.Drafts.{Becomes, DraftOf, Emits, filled_in}
 use Rattle.codegen_expr.specs.Sites.{Site, lined}
-use Rattle.codegen_expr.proofs.Pieces.{Fronts, becomes_filled, becomes_later, fronts_set, fronts_then, get_front, later_emits, more_behind, more_same, more_then, run_set, set_same}
+use Rattle.codegen_expr.proofs.Pieces.{Fronts, becomes_filled, becomes_later, fronts_set, fronts_then, get_front, later_emits, more_behind, more_same, more_then, run_set, set_same, still_behind, still_same, still_then}
 use Rattle.codegen.specs.EmitConnections.{LeadTo, OpenEmits, all_filled}
 use Rattle.codegen.specs.EmitShared.{OpenAt}
 use Rattle.codegen.proofs.Holes.{as_long, get_bound, open_front, open_low, open_set}
@@ -31,14 +31,15 @@ open_then t P Q A B a b c h hs f g =
       roomier = omega (arith, r1, r2);
       larger = omega (arith, s1, s2);
       classed = g.classed ∙ f.classed;
-      thunked = more_then f.thunked g.thunked;
+      thunked = still_then f.thunked g.thunked;
+      listed = more_then f.listed g.listed;
       built = λ p w. g.built p.1 (f.built p.0 w);
       before = λ w. f.before (g.before w);
       only = λ w. (f.only (g.before w), g.only w);
       fits = λ k. g.fits (f.fits k);
       holes_open = (f.holes_open.0, ap (λ l. slice_get l h) g.front ∙ get_front b.instrs g.rest h (lined i.Halt 0) f.holes_open.1, open_low c.instrs (length b.instrs) (suc h) hs (omega (arith, bound)) g.holes_open);
       at = λ w final site k target l.
-          let kb = becomes_later t b c final site (record { front = (g.rest, g.front); roomier = g.roomier; larger = g.larger; classed = g.classed; thunked = g.thunked }) k in
+          let kb = becomes_later t b c final site (record { front = (g.rest, g.front); roomier = g.roomier; larger = g.larger; classed = g.classed; thunked = g.thunked; listed = g.listed }) k in
           (length b.instrs, f.at (g.before w) final site kb target (l.0, l.1, tt), g.at w final site k target l.2);
     }
 
@@ -49,7 +50,8 @@ open_none t a A f = record {
   roomier = omega arith;
   larger = omega arith;
   classed = refl;
-  thunked = more_same refl;
+  thunked = still_same refl;
+  listed = more_same refl;
   built = λ h w. w;
   before = λ w. w;
   only = λ w. tt;
@@ -66,6 +68,7 @@ open_as t P Q A B a c hs ks e f g h o = subst (λ z. OpenEmits t a c z Q B) e (r
   larger = o.larger;
   classed = o.classed;
   thunked = o.thunked;
+  listed = o.listed;
   built = λ q w. o.built (f q) w;
   before = o.before;
   only = λ w. g (o.only w);
@@ -139,7 +142,8 @@ open_filled t P Q A B a c d e hs target f g et ee =
       roomier = omega (arith, r1, r2, room);
       larger = omega (arith, s1, s2, size);
       classed = classes ∙ g.classed ∙ f.classed;
-      thunked = more_behind (all_same (λ z. z.thunks) d hs jump (λ z h. refl)) (more_then f.thunked g.thunked);
+      thunked = still_behind (all_same (λ z. z.thunks) d hs jump (λ z h. refl)) (still_then f.thunked g.thunked);
+      listed = more_behind (all_same (λ z. z.lists) d hs jump (λ z h. refl)) (more_then f.listed g.listed);
       built = λ h u. whole ∙ g.built h.1 (f.built h.0 u);
       before = λ u. f.before (g.before (sym whole ∙ u));
       only = λ u. (f.only (g.before (sym whole ∙ u)), g.only (sym whole ∙ u));

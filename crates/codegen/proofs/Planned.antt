@@ -25,7 +25,7 @@ use Rattle.codegen_expr.specs.Drafts.{PlannedOf, class_of, planned_at, planned_f
 use Rattle.codegen_expr.specs.Known.{truth_or_false}
 use Rattle.codegen_expr.specs.Sites.{block_number, cells_in, hidden_in, own_cells, own_part, prefix_of}
 use Rattle.codegen.specs.Compiled.{type_of_cell}
-use Rattle.codegen.specs.EmitProgram.{CellTypes, FrontClass, HidesConnections, OwnEnd, Padded, classes_in, is_planned}
+use Rattle.codegen.specs.EmitProgram.{CellTypes, FrontClass, HidesCells, OwnEnd, Padded, classes_in, is_planned}
 use Rattle.codegen.specs.Planning.{AreBlank, AreTypesBehind, IsFront, NextClass, NoMarks, OwnOf, OwnTypes, PlannedBehind, has_number, result_in}
 
 mapped : {A B : Type 0} (f : A → B) (xs : List A) → length (map f xs) ≡ length xs
@@ -42,9 +42,9 @@ one_less_than (suc n) ne = omega arith
 
 -- ---- parts of frames
 
-pub end_found : (b : Bound) (plan : List PlannedOf) (k : ℕ) (start hidden : List CodeType) (count declared own end : ℕ) → start ≡ [] → HidesConnections b start hidden k → count ≡ length hidden → declared ≡ length (cells_in (source_of b) k (text (source_of b) k)) → own ≡ declared + count
+pub end_found : (b : Bound) (plan : List PlannedOf) (k : ℕ) (start hidden : List CodeType) (count declared own end : ℕ) → start ≡ [] → HidesCells b start hidden k → count ≡ length hidden → declared ≡ length (cells_in (source_of b) k (text (source_of b) k)) → own ≡ declared + count
     → end ≡ planned_start (source_of b) plan k + own → OwnEnd b plan k end
-unfolding HidesConnections OwnEnd
+unfolding HidesCells OwnEnd
 end_found b plan k start hidden count declared own end es eh ec ed eo ee =
     let s = source_of b in
     let cells = cells_in s k (text s k) in
@@ -65,8 +65,8 @@ class_of_none b plan k r er none = ap (λ z. (planned_of (source_of b) plan z).c
 pub copied_next : (ys ys' xs r r' : List CodeType) (x : CodeType) → ys ++ r ≡ xs → r ≡ x ∷ r' → ys' ≡ ys ++ (x ∷ []) → ys' ++ r' ≡ xs
 copied_next ys ys' xs r r' x inv is e = ap (λ z. z ++ r') e ∙ append_assoc ys (x ∷ []) r' ∙ ap (λ z. ys ++ z) (sym is) ∙ inv
 
-pub own_found : (b : Bound) (k : ℕ) (result : Option TypeName) (types all : List CodeType) → CellTypes b k result types → HidesConnections b types all k → OwnOf b k result all
-unfolding CellTypes HidesConnections OwnOf
+pub own_found : (b : Bound) (k : ℕ) (result : Option TypeName) (types all : List CodeType) → CellTypes b k result types → HidesCells b types all k → OwnOf b k result all
+unfolding CellTypes HidesCells OwnOf
 own_found b k result types all et eh =
     let s = source_of b in
     let cells = with_result result (cells_from s (numbers_of s k)) in

@@ -5,7 +5,6 @@ use Rattle.std.specs.List.{list_any}
 use Rattle.std.proofs.lemmas.List.Folds.{list_any-append}
 use Rattle.sim_scope.specs.declared.bound.Bound.{Bound}
 use Rattle.sim_scope.specs.declared.types.StandardClass.{StandardClass}
-use Rattle.sim_scope.specs.declared.types.StandardClass.TheVariants as standard
 use Rattle.sim_scope.specs.Access.{encloser}
 use Rattle.sim_scope.specs.Levels.{base, has_level}
 use Rattle.sim_scope.specs.Source.{Source, level_of, source_of}
@@ -20,20 +19,20 @@ use Rattle.sim_tree.specs.SyntaxOfProgram.{block_syntax, prefix_syntax}
 use Rattle.sim_code.specs.declared.instr.Instr.{Instr}
 use Rattle.sim_code.specs.declared.instr.Instr.TheVariants as i
 use Rattle.sim_code.specs.Code.{CodeOf}
-use Rattle.sim_meaning.specs.Attributes.{is_bare_process}
-use Rattle.sim_meaning.specs.Levels.{end_line_of, is_process_class, is_process_text, is_standard_text, levels_beyond, levels_from, levels_of}
+use Rattle.sim_meaning.specs.Levels.{is_process_class, is_process_itself, is_process_text, last_line, is_standard_text, levels_beyond, levels_from, levels_of}
 use Rattle.sim_meaning.specs.Objects.{no_line}
-use Rattle.sim_meaning.specs.Texts.{BlockText, ClassText, ConnectionText, PrefixedText, ProcedureText, StandardText, Text, text}
+use Rattle.sim_meaning.specs.Texts.{text}
 use Rattle.program_texts.specs.declared.tree.TextTree.{TextTree}
 use Rattle.program_texts.specs.declared.tree.TextTree.TheVariants as tree
 use Rattle.program_texts.specs.TextTrees.{AreTexts, block_text, class_text, heading_of, prefixed_text, text_in}
 use Rattle.codegen_expr.specs.declared.spot.Spot.{Spot}
-use Rattle.codegen_expr.specs.Drafts.{Becomes, DraftOf, Emits, class_of, filled_in, given_up, with_hole, with_instr, with_push}
+use Rattle.codegen_expr.specs.Drafts.{DraftOf, class_of, filled_in, given_up, with_hole, with_instr, with_push}
+use Rattle.codegen_expr.specs.Known.{OriginSlot}
 use Rattle.codegen_expr.specs.Sites.{Ahead, At, Is, Pushes, Site, block_number, class_number, lined}
-use Rattle.codegen_expr.proofs.Pieces.{becomes_later, emits_as, emits_at, emits_none, emits_nothing, emits_push, emits_then, emits_when, fronts_le, later_emits, set_other}
-use Rattle.codegen.specs.CodeStm.{EndOfAt, EndsAt, ProcessAt, is_class_text, is_subclass, subclasses, subclasses_from, with_subclass}
-use Rattle.codegen.specs.EmitConnections.{FillsAll, OpenEmits}
-use Rattle.codegen.specs.EmitProcesses.{EndsFrom, OpenEnds, OwesEnds, Stands, WritesDetached, WritesEnd, WritesEnds, WritesProcess}
+use Rattle.codegen_expr.proofs.Pieces.{becomes_later, emits_as, emits_at, emits_nothing, emits_push, emits_then, emits_when, fronts_le, later_emits, set_other}
+use Rattle.codegen.specs.CodeStm.{EndOfAt, EndsAt, OriginsAt, is_class_text, is_subclass, origins, subclasses, subclasses_from, with_subclass}
+use Rattle.codegen.specs.EmitConnections.{FillsAll}
+use Rattle.codegen.specs.EmitProcesses.{EndsFrom, OpenEnds, OwesEnds, Stands, WritesDetached, WritesEnd, WritesEnds, WritesOrigins, WritesProcess}
 use Rattle.codegen.proofs.ClassLevels.{emits_to}
 use Rattle.codegen.proofs.Holes.{as_long, emits_hole, hole_there, longer, longer_hole}
 use Rattle.codegen.proofs.Lying.{numbered}
@@ -42,17 +41,9 @@ use Rattle.codegen.proofs.PlanSteps.{tree_text}
 
 -- ---- which objects are processes
 
-bare_process : (x : Option Text) → is_bare_process x ≡ is_standard_text is_process_class x
-bare_process None = refl
-bare_process (Some (BlockText begin ds ss)) = refl
-bare_process (Some (ProcedureText result h a)) = refl
-bare_process (Some (ClassText prefix h ds ss)) = refl
-bare_process (Some (PrefixedText class arguments ds ss)) = refl
-bare_process (Some ConnectionText) = refl
-bare_process (Some (StandardText standard.Linkage)) = refl
-bare_process (Some (StandardText standard.Link)) = refl
-bare_process (Some (StandardText standard.Head)) = refl
-bare_process (Some (StandardText standard.Process)) = refl
+itself : (s : Source) (k : ℕ) → is_process_itself s k ≡ is_standard_text is_process_class (text s k)
+unfolding is_process_itself
+itself s k = refl
 
 or_false : (a b : Bool) → b ≡ false → (a || b) ≡ a
 or_false true b e = refl
@@ -78,20 +69,20 @@ module _ (b : Bound) where
   less n i le = omega (arith, le)
 
   -- the level itself is the last of its levels
-  split : (n i level : ℕ) (o : Option ℕ) (r : Bool) → i < n → base b.scopes level ≡ o → r ≡ is_bare_process (text (source_of b) level) → From (n - i) level ≡ (Among (levels_beyond (levels_from b.scopes (n - (i + 1))) o) || r)
+  split : (n i level : ℕ) (o : Option ℕ) (r : Bool) → i < n → base b.scopes level ≡ o → r ≡ is_process_itself (source_of b) level → From (n - i) level ≡ (Among (levels_beyond (levels_from b.scopes (n - (i + 1))) o) || r)
   split n i level o r le is er =
       let ks = levels_beyond (levels_from b.scopes (n - (i + 1))) o in
-      let own : is_standard_text is_process_class (text (source_of b) level) ≡ r = sym (er ∙ bare_process (text (source_of b) level)) in
+      let own : is_standard_text is_process_class (text (source_of b) level) ≡ r = sym (er ∙ itself (source_of b) level) in
       ap (λ m. From m level) (less n i le) ∙ ap (λ z. Among (levels_beyond (levels_from b.scopes (n - (i + 1))) z ++ (level ∷ []))) is ∙ list_any-append (λ l. is_standard_text is_process_class (text (source_of b) l)) ks (level ∷ [])
       ∙ ap (λ z. Among ks || z) (or_false (is_standard_text is_process_class (text (source_of b) level)) false refl ∙ own)
 
-  pub has_found : (n i k level : ℕ) (r : Bool) → i < n → r ≡ is_bare_process (text (source_of b) level) → r ≡ true → is_process_text (source_of b) k ≡ From (n - i) level → true ≡ is_process_text (source_of b) k
+  pub has_found : (n i k level : ℕ) (r : Bool) → i < n → r ≡ is_process_itself (source_of b) level → r ≡ true → is_process_text (source_of b) k ≡ From (n - i) level → true ≡ is_process_text (source_of b) k
   has_found n i k level r le er is f = sym (f ∙ split n i level (base b.scopes level) r le refl er ∙ or_true (Among (levels_beyond (levels_from b.scopes (n - (i + 1))) (base b.scopes level))) r is)
 
-  pub has_further : (n i k level front : ℕ) (r : Bool) → i < n → r ≡ is_bare_process (text (source_of b) level) → r ≡ false → base b.scopes level ≡ Some front → is_process_text (source_of b) k ≡ From (n - i) level → is_process_text (source_of b) k ≡ From (n - (i + 1)) front
+  pub has_further : (n i k level front : ℕ) (r : Bool) → i < n → r ≡ is_process_itself (source_of b) level → r ≡ false → base b.scopes level ≡ Some front → is_process_text (source_of b) k ≡ From (n - i) level → is_process_text (source_of b) k ≡ From (n - (i + 1)) front
   has_further n i k level front r le er none is f = f ∙ split n i level (Some front) r le is er ∙ or_false (From (n - (i + 1)) front) r none
 
-  pub has_none : (n i k level : ℕ) (r : Bool) → i < n → r ≡ is_bare_process (text (source_of b) level) → r ≡ false → base b.scopes level ≡ None → is_process_text (source_of b) k ≡ From (n - i) level → false ≡ is_process_text (source_of b) k
+  pub has_none : (n i k level : ℕ) (r : Bool) → i < n → r ≡ is_process_itself (source_of b) level → r ≡ false → base b.scopes level ≡ None → is_process_text (source_of b) k ≡ From (n - i) level → false ≡ is_process_text (source_of b) k
   has_none n i k level r le er none is f = sym (f ∙ split n i level None r le is er ∙ none)
 
   pub has_ended : (n i k level : ℕ) → n ≤ i → is_process_text (source_of b) k ≡ From (n - i) level → false ≡ is_process_text (source_of b) k
@@ -185,12 +176,12 @@ pub ruleset class_trees = (block_tree, procedure_tree, class_tree, statement_tre
 -- ---- the end of a process
 
 -- what stands behind it
-end_more : (s : Source) (code : CodeOf) (site : Site) (u k : ℕ) (M N : ℕ → ℕ → Type 0) (p q : ℕ) → ((m : ℕ) → M m q → N m q) → EndOfAt s code site u k M p q → EndOfAt s code site u k N p q
+pub end_more : (s : Source) (code : CodeOf) (site : Site) (u k : ℕ) (M N : ℕ → ℕ → Type 0) (p q : ℕ) → ((m : ℕ) → M m q → N m q) → EndOfAt s code site u k M p q → EndOfAt s code site u k N p q
 end_more s code site u k M N p q f r = record { a = r.a; b = r.b; c = r.c; d = r.d; e = r.e; y = r.y; this = r.this; test = r.test; jump = r.jump; leads = r.leads; link = r.link; number = r.number; numbered = r.numbered; done = r.done; over = r.over; past = r.past; more = f r.y r.more }
 
-ends_at : (s : Source) (code : CodeOf) (site : Site) (u : ℕ) (ks : List ℕ) (p q m : ℕ) → m ≡ q → EndsFrom s code site u ks (λ n t. n ≡ m) p q → EndsAt s code site u ks p q
-ends_at s code site u [] p q m e r = sym (r ∙ e)
-ends_at s code site u (k ∷ ks) p q m e r = end_more s code site u k _ _ p q (λ n. ends_at s code site u ks n q m e) r
+ends_at : (s : Source) (code : CodeOf) (site : Site) (u : ℕ) (ks ts : List ℕ) (p q m : ℕ) → OriginsAt s code site u ts m q → EndsFrom s code site u ks (λ n t. n ≡ m) p q → EndsAt s code site u ks ts p q
+ends_at s code site u [] ts p q m o r = subst (λ z. OriginsAt s code site u ts z q) (sym r) o
+ends_at s code site u (k ∷ ks) ts p q m o r = end_more s code site u k _ _ p q (λ n. ends_at s code site u ks ts n q m o) r
 
 module _ (b : Bound) (w : Spot) where
   pub detached : (a c d : DraftOf) (n : ℕ) (x : Instr) → n ≡ level_of (source_of b) w.text → x ≡ i.This (pos n) → c ≡ with_push a 0 x 0 → d ≡ with_instr c i.Detach 1 → WritesDetached b w a d
@@ -202,7 +193,7 @@ module _ (b : Bound) (w : Spot) where
       (emits_then w ⊤ ⊤ (λ final site p q. Pushes final site 0 this p q) (λ final site p q. At final i.Detach no_line p q) a c d (emits_push w a c 0 this 0 (ec ∙ ap (λ z. with_push a 0 z 0) same) (λ z. cc) refl) (emits_at w c d i.Detach no_line ed (λ z. cc) refl))
 
   pub end_put : (c0 c1 c2 c3 c4 c5 c6 c7 : DraftOf) (u k m number n l line jump over : ℕ) (start : ℤ) (x y z v : Instr) → m ≡ block_number (source_of b) k → number ≡ class_of c0.classes m → n ≡ level_of (source_of b) w.text → x ≡ i.This (pos n) → c1 ≡ with_push c0 0 x 0
-      → y ≡ i.Is (pos number) → c2 ≡ with_instr c1 y 0 → jump ≡ length c2.instrs → c3 ≡ with_hole c2 → l ≡ level_of (source_of b) u → z ≡ i.Link (pos l) → c4 ≡ with_push c3 0 z 0 → v ≡ i.Std (pos 69) → line ≡ end_line_of (source_of b) (Some k) → c5 ≡ with_instr c4 v line
+      → y ≡ i.Is (pos number) → c2 ≡ with_instr c1 y 0 → jump ≡ length c2.instrs → c3 ≡ with_hole c2 → l ≡ level_of (source_of b) u → z ≡ i.Link (pos l) → c4 ≡ with_push c3 0 z 0 → v ≡ i.Std (pos 69) → line ≡ last_line (source_of b) k → c5 ≡ with_instr c4 v line
       → over ≡ length c5.instrs → c6 ≡ with_hole c5 → start ≡ pos (length c6.instrs) → c7 ≡ filled_in c6 jump (i.JumpF start) → WritesEnd b w u k c0 c7 over
   unfolding WritesEnd filled_in
   end_put c0 c1 c2 c3 c4 c5 c6 c7 u k m number n l line jump over start x y z v em en el ex e1 ey e2 ej e3 eu ez e4 ev eline e5 eo e6 es e7 =
@@ -210,7 +201,7 @@ module _ (b : Bound) (w : Spot) where
       let this = i.This (pos (level_of s w.text)) in
       let link = i.Link (pos (level_of s u)) in
       let std = i.Std (pos 69) in
-      let at_end = end_line_of s (Some k) in
+      let at_end = last_line s k in
       let p1 : c1 ≡ with_push c0 0 this 0 = e1 ∙ ap (λ o. with_push c0 0 o 0) (ex ∙ ap (λ o. i.This (pos o)) el) in
       let p2 : c2 ≡ with_instr c1 (i.Is (pos number)) 0 = e2 ∙ ap (λ o. with_instr c1 o 0) ey in
       let p4 : c4 ≡ with_push c3 0 link 0 = e4 ∙ ap (λ o. with_push c3 0 o 0) (ez ∙ ap (λ o. i.Link (pos o)) eu) in
@@ -235,6 +226,7 @@ module _ (b : Bound) (w : Spot) where
         larger = all.larger;
         classed = all.classed;
         thunked = all.thunked;
+        listed = all.listed;
         built = λ h o. all.built ((tt, tt), (tt, (tt, tt))) o;
         before = all.before;
         only = λ o. tt;
@@ -288,20 +280,22 @@ module _ (b : Bound) (w : Spot) where
       subst (λ z. OpenEnds b w u a c z ks) (append-nil overs)
       (f c [] (subst (λ z. OpenEnds b w u c c [] z) (sym is) (open_none w c _ (λ final site target p. refl))))
 
-  pub ends_put : (u : ℕ) (a c e : DraftOf) (ks r : List ℕ) (overs : List ℕ) (target : ℤ) → OwesEnds b w u a ks c overs r → r ≡ [] → target ≡ pos (length c.instrs) → FillsAll c e overs target → WritesEnds b w u ks a e
-  unfolding FillsAll WritesEnds
-  ends_put u a c e ks r overs target f is et ee =
+  pub ends_put : (u place : ℕ) (a c d e : DraftOf) (ks r ts : List ℕ) (overs : List ℕ) (target : ℤ) → OwesEnds b w u a ks c overs r → r ≡ [] → WritesOrigins b w u place ts c d → target ≡ pos (length d.instrs) → FillsAll d e overs target → WritesEnds b w u place ks ts a e
+  unfolding FillsAll WritesEnds WritesOrigins
+  ends_put u place a c d e ks r ts overs target f is g et ee = λ found.
       let s = source_of b in
       emits_as w (⊤ × ⊤) ⊤ _ _ a e (λ h. (h, h)) (λ h. h.0)
-      (λ final site p q _ _ o. ends_at s final site u ks p q o.0 (sym o.2) o.1)
-      (open_filled w ⊤ ⊤ (λ final site target p q. EndsFrom s final site u ks (λ m t. m ≡ q) p target) (λ final site p q. q ≡ p) a c c e overs target (ends_done u a c ks r overs f is) (emits_none w c) et ee)
+      (λ final site p q _ _ o. ends_at s final site u ks ts p q o.0 o.2 o.1)
+      (open_filled w ⊤ ⊤ (λ final site target p q. EndsFrom s final site u ks (λ m t. m ≡ q) p target) (λ final site p q. OriginsAt s final site u ts p q) a c d e overs target (ends_done u a c ks r overs f is) (g found) et ee)
 
   -- ---- the level
 
-  pub process_put : (level after u : ℕ) (a c1 c2 d : DraftOf) (ks : List ℕ) (o : Option ℕ) → o ≡ encloser b.scopes w.text → o ≡ Some u → ks ≡ subclasses (source_of b) w.text → WritesDetached b w a c1 → c2 ≡ with_instr c1 (i.Inner (pos level)) 0 → after ≡ length c2.instrs → WritesEnds b w u ks c2 d → WritesProcess b w level a d after
-  unfolding WritesProcess WritesDetached WritesEnds source_of
-  process_put level after u a c1 c2 d ks o eo some ek f e2 en g =
+  pub process_put : (level after u place : ℕ) (a c1 c2 d : DraftOf) (ks ts : List ℕ) (o : Option ℕ) → o ≡ encloser b.scopes w.text → o ≡ Some u → ks ≡ subclasses (source_of b) w.text → ts ≡ origins (source_of b) w.text → OriginSlot (source_of b) w.text place
+      → WritesDetached b w a c1 → c2 ≡ with_instr c1 (i.Inner (pos level)) 0 → after ≡ length c2.instrs → WritesEnds b w u place ks ts c2 d → WritesProcess b w level a d after
+  unfolding WritesProcess WritesDetached WritesEnds OriginSlot source_of
+  process_put level after u place a c1 c2 d ks ts o eo some ek ets slot f e2 en g' = λ process.
       let s = source_of b in
+      let g = g' (slot process) in
       let out : encloser b.scopes w.text ≡ Some u = sym eo ∙ some in
       let inner = emits_to b w c1 c2 ⊤ _ after en (emits_at w c1 c2 (i.Inner (pos level)) 0 e2 (λ z. cc) refl) in
       let le = longer w c2 d _ _ g in (
@@ -315,13 +309,14 @@ module _ (b : Bound) (w : Spot) where
               this = r.1.1;
               detach = r.1.2;
               inner = record { line = 0; is = subst (λ z. At final (i.Inner (pos level)) 0 r.0 z) r.2.1.1 r.2.1.0 };
-              ends = subst (λ z. EndsAt s final site u z after q) (ek ∙ ap (subclasses s) (sym et)) (subst (λ z. EndsAt s final site u ks z q) r.2.1.1 r.2.2);
+              ends =
+                  subst (λ z. EndsAt s final site u z (origins s site.text) after q) (ek ∙ ap (subclasses s) (sym et)) (subst (λ z. EndsAt s final site u ks z after q) (ets ∙ ap (origins s) (sym et)) (subst (λ z. EndsAt s final site u ks ts z q) r.2.1.1 r.2.2));
             })
             (emits_then w ⊤ (⊤ × ⊤) _ _ a c1 d f (emits_then w ⊤ ⊤ _ _ c1 c2 d inner g)),
       )
 
   pub process_nowhere : (level after : ℕ) (a c : DraftOf) (o : Option ℕ) → o ≡ encloser b.scopes w.text → o ≡ None → c ≡ given_up a → after ≡ length c.instrs → WritesProcess b w level a c after
   unfolding WritesProcess source_of
-  process_nowhere level after a c o eo none ec en = (omega (arith, en), emits_nothing w a c _ _ (λ h. let t : None ≡ Some h.0 = sym none ∙ eo ∙ h.1 in cc) ec)
+  process_nowhere level after a c o eo none ec en = λ process. (omega (arith, en), emits_nothing w a c _ _ (λ h. let t : None ≡ Some h.0 = sym none ∙ eo ∙ h.1 in cc) ec)
 
 pub ruleset processes = (detached, end_put, process_put, process_nowhere)

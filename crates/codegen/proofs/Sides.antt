@@ -180,7 +180,7 @@ module _ (b : Bound) (w : Spot) where
   given_nothing : (a c : DraftOf) (H : CodeOf → Site → ℕ → ℕ → Type 0) → (a.whole ≡ true → ⊥) → c ≡ given_up a → Emits w a c ⊤ H
   given_nothing a c H never ec =
       let e = emits_nothing w a c (a.whole ≡ true) H never ec in
-      record { rest = e.rest; front = e.front; roomier = e.roomier; larger = e.larger; classed = e.classed; thunked = e.thunked; built = λ _ v. e.built v v; before = e.before; only = λ v. tt; fits = e.fits; at = e.at }
+      record { rest = e.rest; front = e.front; roomier = e.roomier; larger = e.larger; classed = e.classed; thunked = e.thunked; listed = e.listed; built = λ _ v. e.built v v; before = e.before; only = λ v. tt; fits = e.fits; at = e.at }
 
   -- ---- addresses
 

@@ -41,7 +41,7 @@ use Rattle.sim_meaning.specs.Attributes.{connection_at, own_attribute, transfer_
 use Rattle.sim_meaning.specs.Statements.{denoted_leaves, is_again, leaves, simulation_around}
 use Rattle.codegen_expr.specs.declared.spot.Spot.{Spot}
 use Rattle.codegen_expr.specs.Built.{ActualsBuilt, AreBuilt, ConnectedNameBuilt, IsBuilt, NamedBuilt, OfObjectBuilt, OwnBuilt, OwnNameBuilt, ThisFoundBuilt, ThroughBuilt}
-use Rattle.codegen_expr.specs.CodeExpr.{ActualsAt, ConnectedNameAt, ExprAt, ExprsAt, NamedAt, OfObjectAt, OwnAt, OwnNameAt, ThisFoundAt, ThroughAt, gives}
+use Rattle.codegen_expr.specs.CodeExpr.{ActualsAt, ConnectedNameAt, ExprAt, ExprsAt, Listed, NamedAt, OfObjectAt, OwnAt, OwnNameAt, ThisFoundAt, ThroughAt, gives, parameters_at}
 use Rattle.codegen_expr.specs.Drafts.{DraftOf, Emits, filled_in, given_up, with_hole, with_instr, with_push}
 use Rattle.codegen_expr.specs.declared.forms.Form.{Form}
 use Rattle.codegen_expr.specs.declared.forms.Form.TheVariants as form
@@ -312,13 +312,13 @@ module _ (b : Bound) (w : Spot) where
       let drops : denoted_leaves s (denoted s x.token.0) ≡ k = ap (denoted_leaves s) (sym eo) ∙ sym el in
       let f' = subst (λ z. Emits w a c (ThroughBuilt (connection_at s x.token.0) (λ m. ConnectedNameBuilt s w.text m z xs (AreBuilt s w.text xs) (λ formals. ActualsBuilt s w.text xs formals))
       (OwnBuilt (own_attribute s x.token.0)
-      (λ j. OwnNameBuilt s w.text (found_at s x.token.0) (entry_of s.tables j) xs (ActualsBuilt s w.text xs (formals_at s j))
-      (OfObjectBuilt s j (entry_of s.tables j) xs (ThisFoundBuilt s w.text (found_at s x.token.0)) (AreBuilt s w.text xs) (ActualsBuilt s w.text xs (formals_at s j))))
+      (λ j. OwnNameBuilt s w.text (found_at s x.token.0) (entry_of s.tables j) xs (ActualsBuilt s w.text xs (Listed (formals_at s j)))
+      (OfObjectBuilt s j (entry_of s.tables j) xs (ThisFoundBuilt s w.text (found_at s x.token.0)) (AreBuilt s w.text xs) (ActualsBuilt s w.text xs (parameters_at s j))))
       (NamedBuilt s w.text z xs (AreBuilt s w.text xs) (λ formals. ActualsBuilt s w.text xs formals))))
       (λ final site p q. ThroughAt (connection_at s x.token.0) (λ m. ConnectedNameAt s final site 0 (line_at s x.token.0) m z xs (ExprsAt s final site 1 xs) (λ formals. ActualsAt s final site 1 (line_at s x.token.0) false xs formals))
       (OwnAt (own_attribute s x.token.0)
-      (λ j. OwnNameAt s final site 0 (line_at s x.token.0) (found_at s x.token.0) (entry_of s.tables j) xs (ActualsAt s final site 1 (line_at s x.token.0) false xs (formals_at s j))
-      (OfObjectAt s final site 0 (line_at s x.token.0) j (entry_of s.tables j) xs (ThisFoundAt s final site 0 (found_at s x.token.0)) (ExprsAt s final site 1 xs) (ActualsAt s final site 1 (line_at s x.token.0) false xs (formals_at s j))))
+      (λ j. OwnNameAt s final site 0 (line_at s x.token.0) (found_at s x.token.0) (entry_of s.tables j) xs (ActualsAt s final site 1 (line_at s x.token.0) false xs (Listed (formals_at s j)))
+      (OfObjectAt s final site 0 (line_at s x.token.0) j (entry_of s.tables j) xs (ThisFoundAt s final site 0 (found_at s x.token.0)) (ExprsAt s final site 1 xs) (ActualsAt s final site 1 (line_at s x.token.0) false xs (parameters_at s j))))
       (NamedAt s final site 0 (line_at s x.token.0) z xs (ExprsAt s final site 0 xs) (ExprsAt s final site 1 xs) (λ formals. ActualsAt s final site 1 (line_at s x.token.0) false xs formals))) p q)) eo f in
       subst (NamedCall s w a d x xs) (sym none)
       (emits_as w _ _ _ _ a d (λ h. (h.1, tt)) (λ h. (same, h.0)) (λ final site p q _ _ r. (r.0, (same, r.1), subst (λ z. DropsAt final z r.0 q) (sym drops) r.2))
@@ -445,6 +445,7 @@ module _ (b : Bound) (w : Spot) where
         larger = g.larger;
         classed = g.classed;
         thunked = g.thunked;
+        listed = g.listed;
         built = λ h. g.built (over_list s w.text v es Body h);
         before = g.before;
         only = λ u. list_over s w.text v es Body (g.only u);

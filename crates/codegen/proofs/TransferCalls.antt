@@ -25,7 +25,7 @@ use Rattle.codegen_expr.specs.declared.operators.Object.{Object}
 use Rattle.codegen_expr.specs.declared.operators.Object.TheVariants as object
 use Rattle.codegen_expr.specs.declared.spot.Spot.{Spot}
 use Rattle.codegen_expr.specs.Built.{ActualsBuilt, AreBuilt, ConnectedNameBuilt, DotBuilt, IsBuilt, NamedBuilt, OfObjectBuilt, OwnBuilt, OwnNameBuilt, PlaceBuilt, ThisFoundBuilt, ThroughBuilt}
-use Rattle.codegen_expr.specs.CodeExpr.{ActualsAt, ConnectedNameAt, DotAt, ExprAt, ExprsAt, NamedAt, OfObjectAt, OwnAt, OwnNameAt, PlaceAt, ThisFoundAt, ThroughAt, gives}
+use Rattle.codegen_expr.specs.CodeExpr.{ActualsAt, ConnectedNameAt, DotAt, ExprAt, ExprsAt, Listed, NamedAt, OfObjectAt, OwnAt, OwnNameAt, PlaceAt, ThisFoundAt, ThroughAt, gives, parameters_at}
 use Rattle.codegen_expr.specs.Drafts.{DraftOf, Emits, given_up, with_instr}
 use Rattle.codegen_expr.specs.Emit.{Puts, PutsBefore, WritesList, moves_denoted}
 use Rattle.codegen_expr.specs.EmitObjects.{WritesThis}
@@ -52,15 +52,15 @@ NamedCall s w a d x es o =
     ((leaves s (Named x es) ≡ gives s (denoted s x.token.0)) × ThroughBuilt (connection_at s x.token.0)
     (λ k. ConnectedNameBuilt s w.text k (denoted s x.token.0) es (AreBuilt s w.text es) (λ formals. ActualsBuilt s w.text es formals))
     (OwnBuilt (own_attribute s x.token.0)
-    (λ j. OwnNameBuilt s w.text (found_at s x.token.0) (entry_of s.tables j) es (ActualsBuilt s w.text es (formals_at s j))
-    (OfObjectBuilt s j (entry_of s.tables j) es (ThisFoundBuilt s w.text (found_at s x.token.0)) (AreBuilt s w.text es) (ActualsBuilt s w.text es (formals_at s j))))
+    (λ j. OwnNameBuilt s w.text (found_at s x.token.0) (entry_of s.tables j) es (ActualsBuilt s w.text es (Listed (formals_at s j)))
+    (OfObjectBuilt s j (entry_of s.tables j) es (ThisFoundBuilt s w.text (found_at s x.token.0)) (AreBuilt s w.text es) (ActualsBuilt s w.text es (parameters_at s j))))
     (NamedBuilt s w.text (denoted s x.token.0) es (AreBuilt s w.text es) (λ formals. ActualsBuilt s w.text es formals)))))
     (λ final site p q. (y : ℕ) × OrTransferAt o (λ t. TransferAt final (line_at s x.token.0) t es (ThisFoundAt s final site 0 (found_at s x.token.0)) (ExprsAt s final site 0 es))
     (λ p q. (leaves s (Named x es) ≡ gives s (denoted s x.token.0)) × ThroughAt (connection_at s x.token.0)
     (λ k. ConnectedNameAt s final site 0 (line_at s x.token.0) k (denoted s x.token.0) es (ExprsAt s final site 1 es) (λ formals. ActualsAt s final site 1 (line_at s x.token.0) false es formals))
     (OwnAt (own_attribute s x.token.0)
-    (λ j. OwnNameAt s final site 0 (line_at s x.token.0) (found_at s x.token.0) (entry_of s.tables j) es (ActualsAt s final site 1 (line_at s x.token.0) false es (formals_at s j))
-    (OfObjectAt s final site 0 (line_at s x.token.0) j (entry_of s.tables j) es (ThisFoundAt s final site 0 (found_at s x.token.0)) (ExprsAt s final site 1 es) (ActualsAt s final site 1 (line_at s x.token.0) false es (formals_at s j))))
+    (λ j. OwnNameAt s final site 0 (line_at s x.token.0) (found_at s x.token.0) (entry_of s.tables j) es (ActualsAt s final site 1 (line_at s x.token.0) false es (Listed (formals_at s j)))
+    (OfObjectAt s final site 0 (line_at s x.token.0) j (entry_of s.tables j) es (ThisFoundAt s final site 0 (found_at s x.token.0)) (ExprsAt s final site 1 es) (ActualsAt s final site 1 (line_at s x.token.0) false es (parameters_at s j))))
     (NamedAt s final site 0 (line_at s x.token.0) (denoted s x.token.0) es (ExprsAt s final site 0 es) (ExprsAt s final site 1 es) (λ formals. ActualsAt s final site 1 (line_at s x.token.0) false es formals))) p q) p y
     × DropsAt final (leaves s (Named x es)) y q)
 

@@ -14,7 +14,7 @@ use Rattle.sim_code.specs.Code.{CodeOf}
 use Rattle.codegen_expr.specs.declared.spot.Spot.{Spot}
 use Rattle.codegen_expr.specs.Drafts.{Becomes, DraftOf, Emits, filled_in, with_hole, with_temp}
 use Rattle.codegen_expr.specs.Sites.{Ahead, Is, Site, lined}
-use Rattle.codegen_expr.proofs.Pieces.{becomes_filled, becomes_later, emits_as, emits_inside, emits_temp, emits_then, fronts_set, fronts_then, get_front, later_emits, more_before, more_then, run_set, set_same}
+use Rattle.codegen_expr.proofs.Pieces.{becomes_filled, becomes_later, emits_as, emits_inside, emits_temp, emits_then, fronts_set, fronts_then, get_front, later_emits, more_before, more_then, run_set, set_same, still_before, still_then}
 use Rattle.codegen.specs.declared.lists.Shared.{Shared}
 use Rattle.codegen.specs.BuiltProgram.{StatementBuilt}
 use Rattle.codegen.specs.CodeFor.{ElementsAt, ListAt, OneElementAt, ReturnsAt, TurnAt, Variable, is_empty}
@@ -165,7 +165,8 @@ module _ (b : Bound) (w : Spot) where
         roomier = omega (arith, rm, room, rr);
         larger = omega (arith, sm, size, sr);
         classed = r.classed ∙ ap (λ z. z.classes) e5' ∙ e14.classed;
-        thunked = more_then e14.thunked (more_before (ap (λ z. z.thunks) e5') r.thunked);
+        thunked = still_then e14.thunked (still_before (ap (λ z. z.thunks) e5') r.thunked);
+        listed = more_then e14.listed (more_before (ap (λ z. z.lists) e5') r.listed);
         built = λ p h. r.built p.1 (whole ∙ e14.built (tt, (p.0, tt)) h);
         before = λ h. e14.before (sym whole ∙ r.before h);
         only = λ h. ((e14.only (sym whole ∙ r.before h)).1.0, r.only h);

@@ -1,19 +1,15 @@
 -- Texts, one behind another.
-use Rattle.std.proofs.Common.{◌≡◌, ◌≢◌, ◌<◌, ◌≤◌, ◌+◌, ℕ, zero, suc, pos, true, false, List, [], ◌∷◌, ◌++◌, length, map, Bool, Bor, Option, Some, None, refl, sym, ap, ◌∙◌, subst, arith, append-nil, length-append}
-use Rattle.std.specs.Prelude.{⊤, slice_get, slice_set}
+use Rattle.std.proofs.Common.{◌≡◌, ◌≢◌, ◌<◌, ◌≤◌, ◌+◌, ℕ, zero, suc, pos, true, false, List, [], ◌∷◌, ◌++◌, length, map, Option, Some, refl, sym, ap, ◌∙◌, subst, arith, append-nil, length-append}
+use Rattle.std.specs.Prelude.{slice_get}
 use Rattle.sim_scope.specs.declared.bound.Bound.{Bound}
-use Rattle.sim_scope.specs.declared.types.StandardClass.{StandardClass}
 use Rattle.sim_scope.specs.Source.{Source, level_of, line_at, source_of}
-use Rattle.sim_tree.specs.declared.expr.Identifier.{Identifier}
-use Rattle.sim_tree.specs.declared.program.BlockPrefix.{BlockPrefix}
 use Rattle.sim_tree.specs.declared.stmt.Block.{Block}
-use Rattle.sim_tree.specs.declared.stmt.Class.{Class}
 use Rattle.sim_tree.specs.declared.stmt.Decl.{Decl}
 use Rattle.sim_tree.specs.declared.stmt.Procedure.{Procedure}
 use Rattle.sim_tree.specs.declared.stmt.Stmt.{Stmt}
 use Rattle.sim_tree.specs.declared.stmt.TypeName.{TypeName}
-use Rattle.sim_tree.specs.Syntax.{Also, Begin, Declarations, Heading, NoDeclaration, NoStatement, Statement, Statements, declarations, statements}
-use Rattle.sim_tree.specs.SyntaxOfProgram.{block_syntax, declaration_syntax, heading_syntax, prefix_syntax, statement_syntax}
+use Rattle.sim_tree.specs.Syntax.{Begin, Declarations, Heading, Statement, Statements, declarations, statements}
+use Rattle.sim_tree.specs.SyntaxOfProgram.{block_syntax, declaration_syntax, statement_syntax}
 use Rattle.sim_tree.proofs.ProgramSyntaxLemmas as v
 use Rattle.sim_code.specs.declared.code.BlockKind.{BlockKind}
 use Rattle.sim_code.specs.declared.code.BlockKind.TheVariants as kind
@@ -22,27 +18,23 @@ use Rattle.sim_code.specs.declared.code.CodeType.TheVariants as type
 use Rattle.sim_code.specs.declared.instr.Instr.{Instr}
 use Rattle.sim_code.specs.declared.instr.Instr.TheVariants as i
 use Rattle.sim_code.specs.declared.instr.Lined.{Lined}
-use Rattle.sim_code.specs.Classes.{class_numbered}
 use Rattle.sim_code.specs.Code.{BlockOf, CodeOf}
 use Rattle.sim_code.specs.Running.{AllRun, runs}
 use Rattle.sim_meaning.specs.Attributes as Attributes
-use Rattle.sim_meaning.specs.Texts.{BlockText, ClassText, ProcedureText, Text, text}
-use Rattle.program_texts.specs.declared.tree.TextTree.{TextTree}
+use Rattle.sim_meaning.specs.Texts.{BlockText, ProcedureText, Text, text}
 use Rattle.program_texts.specs.declared.tree.TextTree.TheVariants as tree
-use Rattle.program_texts.specs.TextTrees.{block_text, class_text, heading_of, prefixed_text, text_in}
+use Rattle.program_texts.specs.TextTrees.{block_text}
 use Rattle.codegen_expr.specs.declared.spot.Spot.{Spot}
-use Rattle.codegen_expr.specs.Drafts.{Becomes, DraftOf, Emits, Grows, ThunksGrow, class_of, given_up, planned_at, planned_front, planned_in, with_instr}
+use Rattle.codegen_expr.specs.Drafts.{Becomes, DraftOf, Emits, Grows, Longer, ThunksGrow, given_up, open_thunk, planned_at, planned_front, planned_in, with_instr}
 use Rattle.codegen_expr.proofs.Slots.{front_planned, start_planned}
-use Rattle.codegen_expr.specs.Sites.{Site, block_in_front, block_number, cells_in, class_in, expression_temps, lined, own_part, room_of_block}
-use Rattle.codegen.proofs.ClassLevels.{emits_to}
-use Rattle.codegen_expr.proofs.Pieces.{Fronts, append_at, emits_at, emits_then, fronts_le, fronts_then, get_front, grows_front, grows_then, more_before, more_behind, more_same}
-use Rattle.codegen.specs.declared.texts.ClassAt.{ClassAt}
+use Rattle.codegen_expr.specs.Sites.{Site, block_in_front, block_number, cells_in, expression_temps, lined, own_part, room_of_block}
+use Rattle.codegen_expr.proofs.Pieces.{Fronts, append_at, emits_at, emits_then, fronts_le, fronts_then, get_front, grows_front, grows_then, more_before, more_behind, more_same, still_before, still_behind, still_same}
 use Rattle.codegen.specs.declared.texts.Head.{Head}
 use Rattle.codegen.specs.declared.texts.Written.{Written}
-use Rattle.codegen.specs.BuiltProgram.{ArraysBuilt, LevelBuilt, StatementBuilt, StatementsBuilt, TextBuilt}
+use Rattle.codegen.specs.BuiltProgram.{ArraysBuilt, StatementBuilt, StatementsBuilt, TextBuilt}
 use Rattle.codegen.specs.CodeArrays.{ArraysAt}
-use Rattle.codegen.specs.CodeStm.{LevelAt, StmAt, StmsAt}
-use Rattle.codegen.specs.Compiled.{BlockBody, BodyOf, ClassTextOf, CodeHas, RecordOf, code_formal, parameters_of, site_of, type_of_cell, type_of_name}
+use Rattle.codegen.specs.CodeStm.{StmAt, StmsAt}
+use Rattle.codegen.specs.Compiled.{BlockBody, BodyOf, CodeHas, RecordOf, code_formal, parameters_of, site_of, type_of_cell, type_of_name}
 use Rattle.codegen.specs.Emit.{WritesStatement, WritesStatements}
 use Rattle.codegen.specs.EmitArrays.{WritesArrays}
 use Rattle.codegen.specs.EmitProgram.{AddsBlock, BlockAdded, Ends, Next, OwnEnd, TextEmitted, WritesBlockText, WritesProcedureText, blocks_in, formals_by_kind, is_planned}
@@ -77,7 +69,7 @@ spot n m = record { text = n; temps = m; used = m + expression_temps }
 
 -- a draft in which the code of a text begins
 abbrev pub restarted : DraftOf → ℕ → DraftOf
-restarted c n = record { instrs = c.instrs; room = 0; size = n; whole = c.whole; classes = c.classes; thunks = c.thunks }
+restarted c n = record { instrs = c.instrs; room = 0; size = n; whole = c.whole; classes = c.classes; thunks = c.thunks; lists = c.lists }
 
 -- What is known of a text whose record is added: the record in the end, where its code stands, and that its draft becomes the code.
 pub record Recorded (s : Source) (k used : ℕ) (x : Text) (c : DraftOf) (new : Written) (head : Head) (final : CodeOf) (b : BlockOf) : Type 0 where
@@ -87,7 +79,7 @@ pub record Recorded (s : Source) (k used : ℕ) (x : Text) (c : DraftOf) (new : 
   pub becomes : Becomes (spot k used) c final (site_of s final k b)
 
 unfoldable pub kinds_agree : (s : Source) (k : ℕ) (x : Text) → BlockKind → Type 0
-kinds_agree s k x a = map code_formal (formals_by_kind s a k) ≡ map code_formal (parameters_of s k (Some x))
+kinds_agree s k x a = formals_by_kind s a k ≡ parameters_of s k (Some x)
 
 -- Of c the text is written, and then its last instruction: what the code has in the end.
 pub recorded : (b : Bound) (k : ℕ) (x : Text) (c : DraftOf) (stop : Instr) (before mid new : Written) (head : Head) (final : CodeOf) (used : ℕ) (added : BlockAdded (source_of b) mid new head)
@@ -123,7 +115,7 @@ recorded b k x c stop before mid new head final used added next one eu em ne eb 
         cells = ap (λ z. z.cells) own ∙ planned.cells ∙ ap (λ z. z.cells + length (cells_in s k (text s k))) (sym front);
         class_free = added.class_free ∙ ap (Rattle.sim_meaning.specs.Texts.is_class_free s) et;
         gives = added.gives;
-        formals = added.formals ∙ ap (λ z. map code_formal (formals_by_kind s head.kind z)) et ∙ agrees ∙ ap (λ z. map code_formal (parameters_of s k z)) (sym next.is);
+        formals = added.formals final (λ j. g.classed j ∙ ap (λ z. planned_at z.classes j) added.same) ∙ ap (map (code_formal s final)) (ap (formals_by_kind s head.kind) et ∙ agrees ∙ ap (parameters_of s k) (sym next.is));
         temps = planned.temps;
         types = ap (λ z. z.types) own ∙ planned.types ∙ ap (λ z. z.types ++ (map type_of_cell (own_part s k) ++ planned.temps)) (sym front);
         counted = added.temps;
@@ -139,6 +131,8 @@ recorded b k x c stop before mid new head final used added next one eu em ne eb 
         follows = within final.instrs (length c.instrs) (lined stop 0) there;
         classed = λ j. g.classed j ∙ ap (λ z. planned_at z.classes j) draft;
         thunked = subst (λ z. ThunksGrow z final.thunks) (ap (λ z. z.thunks) draft) g.thunked;
+        belongs = sym g.closed ∙ ap (λ z. open_thunk z.thunks) draft;
+        listed = subst (λ z. Longer z final.actual_lists) (ap (λ z. z.lists) draft) g.listed;
       };
     }
 
@@ -149,13 +143,13 @@ Body = CodeOf → Site → ℕ → ℕ → Type 0
 
 -- Behind old the body of a text begins at c2 and ends at c3, and one more instruction ends it. Its record is added last.
 text_emitted : (b : Bound) (k : ℕ) (x : Text) (old mid new : Written) (c2 c3 : DraftOf) (P : Type 0) (There : Body) (stop : Instr) (head : Head) (used : ℕ)
-    → OwnEnd b old.draft.classes k used → Fronts old.draft.instrs c2.instrs → c2.whole ≡ old.draft.whole → c2.classes ≡ old.draft.classes → c2.thunks ≡ old.draft.thunks → (AllRun old.draft.instrs → AllRun c2.instrs)
+    → OwnEnd b old.draft.classes k used → Fronts old.draft.instrs c2.instrs → c2.whole ≡ old.draft.whole → c2.classes ≡ old.draft.classes → c2.thunks ≡ old.draft.thunks → c2.lists ≡ old.draft.lists → (AllRun old.draft.instrs → AllRun c2.instrs)
     → Emits (spot k used) c2 c3 P There → mid.draft ≡ with_instr c3 stop 0 → stop ≢ i.Halt → runs stop ≡ true → mid.blocks.items ≡ old.blocks.items → mid.classes.items ≡ old.classes.items
     → BlockAdded (source_of b) mid new head → Next (source_of b) old k x → head.text ≡ k → kinds_agree (source_of b) k x head.kind → blocks_in x ≡ 1 → is_planned x ≡ true → (TextBuilt (source_of b) k x → P)
     → ((final : CodeOf) (blk : BlockOf) → Grows new.draft.instrs final.instrs → blk.entry ≡ head.entry → RecordOf (source_of b) final k head.kind head.result_type blk → BodyOf final (There final (site_of (source_of b) final k blk)) stop (length c2.instrs) → CodeHas (source_of b) final k x (Some blk))
     → TextEmitted (source_of b) old new k x
 unfolding with_instr
-text_emitted b k x old mid new c2 c3 P There stop head used eu fr ew ecl ect run e em ne rs ebl ecs added next et agrees one all from code =
+text_emitted b k x old mid new c2 c3 P There stop head used eu fr ew ecl ect els run e em ne rs ebl ecs added next et agrees one all from code =
     let s = source_of b in
     let draft : new.draft ≡ with_instr c3 stop 0 = added.same ∙ em in
     let i4 : new.draft.instrs ≡ c3.instrs ++ (lined stop 0 ∷ []) = ap (λ z. z.instrs) draft in
@@ -168,7 +162,8 @@ text_emitted b k x old mid new c2 c3 P There stop head used eu fr ew ecl ect run
       rest = all_there.0;
       front = all_there.1;
       classed = ap (λ z. z.classes) draft ∙ classed;
-      thunked = more_behind (ap (λ z. z.thunks) draft) (more_before ect e.thunked);
+      thunked = still_behind (ap (λ z. z.thunks) draft) (still_before ect e.thunked);
+      listed = more_behind (ap (λ z. z.lists) draft) (more_before els e.listed);
       fits = λ h. last.fits (e.fits (run h));
       added = added.block ∷ [];
       blocks = added.is ∙ ap (λ z. z ++ (added.block ∷ [])) ebl;
@@ -217,7 +212,7 @@ module _ (b : Bound) where
       let start : length c1.instrs ≡ entry = ap length i1 ∙ sym ee in
       subst (λ z. Next s old (suc n) (block_text z) → TextEmitted s old new (suc n) (block_text z)) (sym (syntax_of_block k ds ss ed es))
       (λ next. text_emitted b (suc n) (BlockText k.token.0 xs ys) old mid new c1 c3 (ArraysBuilt s (suc n) xs × StatementsBuilt s (suc n) ys) (Parts xs ys) i.Leave (head_of kind.SubBlock (suc n) entry type.Nothing) m eo
-      (subst (λ z. Fronts old.draft.instrs z) (sym i1) ([], sym (append-nil old.draft.instrs))) (ap (λ z. z.whole) e1) (ap (λ z. z.classes) e1) (ap (λ z. z.thunks) e1) (subst AllRun (sym i1))
+      (subst (λ z. Fronts old.draft.instrs z) (sym i1) ([], sym (append-nil old.draft.instrs))) (ap (λ z. z.whole) e1) (ap (λ z. z.classes) e1) (ap (λ z. z.thunks) e1) (ap (λ z. z.lists) e1) (subst AllRun (sym i1))
       (emits_then (spot (suc n) m) (ArraysBuilt s (suc n) xs) (StatementsBuilt s (suc n) ys) (λ f site. ArraysAt s f site xs) (λ f site. StmsAt s f site 0 ys) c1 c2 c3 (subst (λ z. WritesArrays b z c1 c2 ds) is fa) (subst (λ z. WritesStatements b z c2 c3 ss) is fs))
       e4 (λ z. cc) refl (ap (λ z. z.items) ebl) (ap (λ z. z.items) ecs) fb next refl refl refl refl (λ h. h)
       (λ final blk g eb rec body. record { heads = rec; body = subst (λ z. BodyOf final (BlockBody s final (site_of s final (suc n) blk) xs ys) i.Leave z) (start ∙ sym eb) body }))
@@ -236,7 +231,7 @@ module _ (b : Bound) where
       let i1 : c1.instrs ≡ old.draft.instrs = ap (λ z. z.instrs) e1 in
       let start : length c1.instrs ≡ entry = ap length i1 ∙ sym ee in
       text_emitted b n (ProcedureText result h y) old mid new c1 c3 (StatementBuilt s n y) (λ final site p q. StmAt s final site 0 y p q) i.Return (head_of kind.Procedure n entry (type_of_name result)) m eo
-      (subst (λ z. Fronts old.draft.instrs z) (sym i1) ([], sym (append-nil old.draft.instrs))) (ap (λ z. z.whole) e1) (ap (λ z. z.classes) e1) (ap (λ z. z.thunks) e1) (subst AllRun (sym i1)) (subst (λ z. WritesStatement b z c1 c3 a) is fs) e4 (λ z. cc) refl (ap (λ z. z.items) ebl) (ap (λ z. z.items) ecs)
+      (subst (λ z. Fronts old.draft.instrs z) (sym i1) ([], sym (append-nil old.draft.instrs))) (ap (λ z. z.whole) e1) (ap (λ z. z.classes) e1) (ap (λ z. z.thunks) e1) (ap (λ z. z.lists) e1) (subst AllRun (sym i1)) (subst (λ z. WritesStatement b z c1 c3 a) is fs) e4 (λ z. cc) refl (ap (λ z. z.items) ebl) (ap (λ z. z.items) ecs)
       (subst (λ z. BlockAdded s mid new (head_of kind.Procedure n entry z)) er fb) next refl refl refl refl (λ z. z)
       (λ final blk g eb rec body. procedure_code final n result h y blk rec (subst (λ z. BodyOf final (StmAt s final (site_of s final n blk) 0 y) i.Return z) (start ∙ sym eb) body))
 
@@ -260,7 +255,7 @@ module _ (b : Bound) where
       let one : length c.instrs ≡ 1 = (let h : length c.instrs ≡ length old.draft.instrs + 1 = ap length ic ∙ length-append old.draft.instrs (lined (i.Jump (pos 1)) line ∷ []) in omega (arith, h, none)) in
       let at : slice_get c.instrs 0 ≡ Some (lined (i.Jump (pos 1)) line) = ap (λ z. slice_get z 0) ic ∙ ap (λ z. slice_get (old.draft.instrs ++ (lined (i.Jump (pos 1)) line ∷ [])) z) (sym none) ∙ append_at old.draft.instrs (lined (i.Jump (pos 1)) line) in
       text_emitted b 0 (BlockText k.token.0 xs ys) old mid new c c3 (ArraysBuilt s 0 xs × StatementsBuilt s 0 ys) (Parts xs ys) (i.EndLevel (pos 0)) (head_of kind.SubBlock 0 0 type.Nothing) m eo
-      (lined (i.Jump (pos 1)) line ∷ [], ic) (ap (λ z. z.whole) ec ∙ ap (λ z. z.whole) e1) (ap (λ z. z.classes) ec ∙ ap (λ z. z.classes) e1) (ap (λ z. z.thunks) ec ∙ ap (λ z. z.thunks) e1) (λ h. jump.fits (subst AllRun (sym i1) h)) body e4 (λ z. cc) refl (ap (λ z. z.items) ebl) (ap (λ z. z.items) ecs) fb next refl refl refl refl (λ h. h)
+      (lined (i.Jump (pos 1)) line ∷ [], ic) (ap (λ z. z.whole) ec ∙ ap (λ z. z.whole) e1) (ap (λ z. z.classes) ec ∙ ap (λ z. z.classes) e1) (ap (λ z. z.thunks) ec ∙ ap (λ z. z.thunks) e1) (ap (λ z. z.lists) ec ∙ ap (λ z. z.lists) e1) (λ h. jump.fits (subst AllRun (sym i1) h)) body e4 (λ z. cc) refl (ap (λ z. z.items) ebl) (ap (λ z. z.items) ecs) fb next refl refl refl refl (λ h. h)
       (λ final blk g eb rec bd. record {
         heads = rec;
         start = 1;
@@ -288,7 +283,8 @@ text_given_up s old new k x never e eb ec =
       rest = [];
       front = ei ∙ sym (append-nil old.draft.instrs);
       classed = ap (λ z. z.classes) e;
-      thunked = more_same (ap (λ z. z.thunks) e);
+      thunked = still_same (ap (λ z. z.thunks) e);
+      listed = more_same (ap (λ z. z.lists) e);
       fits = subst AllRun (sym ei);
       added = [];
       blocks = ap (λ z. z.items) eb ∙ sym (append-nil old.blocks.items);

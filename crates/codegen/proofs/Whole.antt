@@ -20,13 +20,13 @@ use Rattle.sim_meaning.specs.Texts.{BlockText, ClassText, ConnectionText, Prefix
 use Rattle.program_texts.specs.declared.tree.TextTree.{TextTree}
 use Rattle.program_texts.specs.TextTrees.{AreTexts, text_in}
 use Rattle.codegen_expr.specs.Sites.{block_number, blocks_before, class_in, class_number, counted_unless, is_connected, is_connection}
-use Rattle.codegen_expr.specs.Drafts.{DraftOf, PlannedOf, class_of, planned_at, planned_in, planned_or_none}
-use Rattle.codegen_expr.proofs.Pieces.{get_front}
+use Rattle.codegen_expr.specs.Drafts.{DraftOf, PlannedOf, class_of, open_thunk, planned_at, planned_in, planned_or_none}
+use Rattle.codegen_expr.proofs.Pieces.{get_front, grows_front, grows_then, more_same, more_then, thunks_grow}
 use Rattle.codegen.specs.declared.texts.ClassAt.{ClassAt}
 use Rattle.codegen.specs.declared.texts.Written.{Written}
 use Rattle.codegen.specs.Agrees.{Agrees}
 use Rattle.codegen.specs.BuiltProgram.{ProgramBuilt, TextBuilt, TextsBuilt, texts_of}
-use Rattle.codegen.specs.Compiled.{ClassIs, CodeHas, Compiled, StandardTextOf, actual_lists, matches_of}
+use Rattle.codegen.specs.Compiled.{ClassIs, CodeHas, Compiled, StandardTextOf, matches_of}
 use Rattle.codegen.specs.EmitMatches.{AreTextsOfClasses}
 use Rattle.codegen.specs.EmitProgram.{Begins, Ends, Next, Plans, TextEmitted, TextsEmitted, WritesProgram, WritesText, WritesTo, blocks_in}
 use Rattle.codegen.specs.EmitRecords.{AreClasses, AreRecords, ClassesAre, matches_in_class, record_with}
@@ -133,11 +133,13 @@ text_built s (y ∷ xs) n (suc k) m x e h is = text_built s xs (suc n) k m x (om
 -- what is written later keeps what was there
 ends_before : (s : Source) (old new : Written) (k : ℕ) (x : Text) (final : CodeOf) → TextEmitted s old new k x → Ends new final → Ends old final
 ends_before s old new k x final f g = record {
-  grows = Rattle.codegen_expr.proofs.Pieces.grows_then old.draft.instrs new.draft.instrs final.instrs (Rattle.codegen_expr.proofs.Pieces.grows_front old.draft.instrs new.draft.instrs (f.rest, f.front)) g.grows;
+  grows = grows_then old.draft.instrs new.draft.instrs final.instrs (grows_front old.draft.instrs new.draft.instrs (f.rest, f.front)) g.grows;
   blocks = λ j b is. g.blocks j b (ap (λ z. slice_get z j) f.blocks ∙ get_front old.blocks.items f.added j b is);
   classes = λ j c is. g.classes j c (f.kept j c is);
   classed = λ j. g.classed j ∙ ap (λ z. planned_at z j) f.classed;
-  thunked = Rattle.codegen_expr.proofs.Pieces.thunks_grow old.draft.thunks new.draft.thunks final.thunks f.thunked g.thunked;
+  thunked = thunks_grow old.draft.thunks new.draft.thunks final.thunks f.thunked g.thunked;
+  closed = sym f.thunked.opened ∙ g.closed;
+  listed = more_then f.listed g.listed;
 }
 
 -- ---- the first texts
@@ -145,6 +147,10 @@ ends_before s old new k x final f g = record {
 none_runs : AllRun []
 unfolding AllRun
 none_runs k x e = absurd (cc)
+
+none_open : open_thunk [] ≡ None
+unfolding open_thunk
+none_open = refl
 
 none_before : (s : Source) → block_number s 0 ≡ 0
 unfolding block_number
@@ -155,6 +161,7 @@ started s w f = record {
   whole = f.whole;
   fits = subst AllRun (sym f.none) none_runs;
   plan = f.plan;
+  closed = ap open_thunk f.no_thunk ∙ none_open;
   classed = refl;
   counted = none_before s ∙ ap length (sym f.no_block);
   started = λ e. ap length f.none;
@@ -216,6 +223,7 @@ module _ (s : Source) (built : ProgramBuilt s) (old now new : Written) (k : ℕ)
         whole = whole;
         fits = f.fits e.fits;
         plan = e.plan;
+        closed = f.thunked.opened ∙ e.closed;
         classed = f.classed ∙ e.classed;
         counted = number_next s k x built.agrees is ∙ ap (λ z. z + blocks_in x) e.counted ∙ sym blocks;
         started = λ q. absurd (omega (arith, q));
@@ -330,10 +338,10 @@ module _ (s : Source) (code : CodeOf) (agrees : Agrees s) (each : (k : ℕ) (x :
 -- ---- the code
 
 abbrev whole_code : List (List ℕ) → List ClassOf → Written → CodeOf
-whole_code texts classes w = record { texts = texts; blocks = w.blocks.items; classes = classes; thunks = w.draft.thunks; actual_lists = actual_lists; instrs = w.draft.instrs }
+whole_code texts classes w = record { texts = texts; blocks = w.blocks.items; classes = classes; thunks = w.draft.thunks; actual_lists = w.draft.lists; instrs = w.draft.instrs }
 
 abbrev nothing : List PlannedOf → DraftOf
-nothing plan = record { instrs = []; room = 0; size = 0; whole = true; classes = plan; thunks = [] }
+nothing plan = record { instrs = []; room = 0; size = 0; whole = true; classes = plan; thunks = []; lists = [] }
 
 map_length : {A B : Type 0} (f : A → B) (xs : List A) → length (map f xs) ≡ length xs
 map_length f [] = refl
@@ -349,7 +357,7 @@ module _ (b : Bound) (old new : Written) (ts : List TextTree) (plan : List Plann
   plans = planned built.agrees are
 
   begins : Begins (source_of b) old
-  begins = record { none = ap (λ z. z.instrs) no_draft; whole = ap (λ z. z.whole) no_draft; plan = subst (Plans (source_of b)) (sym (ap (λ z. z.classes) no_draft)) plans; no_block = no_block }
+  begins = record { none = ap (λ z. z.instrs) no_draft; whole = ap (λ z. z.whole) no_draft; plan = subst (Plans (source_of b)) (sym (ap (λ z. z.classes) no_draft)) plans; no_thunk = ap (λ z. z.thunks) no_draft; no_block = no_block }
 
   emitted : TextsEmitted (source_of b) old new (length ts)
   unfolding WritesProgram WritesTo
@@ -414,6 +422,8 @@ module _ (b : Bound) (old new : Written) (ts : List TextTree) (plan : List Plann
       classes = λ j y there. let r = recorded j (Some y) there in (matches_in_class (source_of b) r.0, r.2);
       classed = classed;
       thunked = record { keeps = λ k x is some'. is };
+      closed = emitted.closed;
+      listed = more_same refl;
     }
 
     each : (k : ℕ) (x : Text) → text (source_of b) k ≡ Some x → CodeHas (source_of b) all k x (slice_get all.blocks (block_number (source_of b) k))
@@ -448,16 +458,16 @@ module _ (b : Bound) (old new : Written) (ts : List TextTree) (plan : List Plann
         with_matches (Some c) ms = refl
 
     stands : texts ≡ constants_of (source_of b) → Compiled (source_of b) all
-    stands et = record { agrees = built.agrees; texts = et; actuals = refl; each = each; matches = matches; as_many = blocks_many }
+    stands et = record { agrees = built.agrees; texts = et; each = each; matches = matches; as_many = blocks_many }
 
 pub code_stands : (b : Bound) (old new : Written) (ts for_plan for_code : List TextTree) (plan : List PlannedOf) (texts : List (List ℕ)) (classes : List ClassOf) (thunks : List ThunkRecord) (lists : List (List CodeActual)) (instrs : List Lined)
     → ProgramBuilt (source_of b) → AreTexts b.program ts → old.draft ≡ nothing plan → old.blocks.items ≡ [] → for_plan ≡ ts → IsPlan b plan for_plan → for_code ≡ ts → WritesProgram b old new for_code → texts ≡ constants_of (source_of b)
-    → AreClasses b new classes → thunks ≡ new.draft.thunks → lists ≡ actual_lists → instrs ≡ new.draft.instrs → Compiled (source_of b) (record { texts = texts; blocks = new.blocks.items; classes = classes; thunks = thunks; actual_lists = lists; instrs = instrs })
+    → AreClasses b new classes → thunks ≡ new.draft.thunks → lists ≡ new.draft.lists → instrs ≡ new.draft.instrs → Compiled (source_of b) (record { texts = texts; blocks = new.blocks.items; classes = classes; thunks = thunks; actual_lists = lists; instrs = instrs })
 code_stands b old new ts for_plan for_code plan texts classes thunks lists instrs built are ed eb e1 ep e2 f et g eth el ei =
     let s = source_of b in
     let blocks = new.blocks.items in
     let first = stands b old new ts plan built are ed eb (subst (IsPlan b plan) e1 ep) (subst (WritesProgram b old new) e2 f) texts classes g et in
-    let with_thunks = subst (λ z. Compiled s (record { texts = texts; blocks = blocks; classes = classes; thunks = z; actual_lists = actual_lists; instrs = new.draft.instrs })) (sym eth) first in
+    let with_thunks = subst (λ z. Compiled s (record { texts = texts; blocks = blocks; classes = classes; thunks = z; actual_lists = new.draft.lists; instrs = new.draft.instrs })) (sym eth) first in
     let with_lists = subst (λ z. Compiled s (record { texts = texts; blocks = blocks; classes = classes; thunks = thunks; actual_lists = z; instrs = new.draft.instrs })) (sym el) with_thunks in
     subst (λ z. Compiled s (record { texts = texts; blocks = blocks; classes = classes; thunks = thunks; actual_lists = lists; instrs = z })) (sym ei) with_lists
 

@@ -1,5 +1,5 @@
 -- That the tables of scopes agree with each other and with the texts, as far as code rests on it: the tables of each program do.
-use Rattle.std.specs.Prelude.{◌≡◌, ◌<◌, ◌+◌, ℕ, suc, Bool, true, false, [], length, slice_get, Option, Some, None}
+use Rattle.std.specs.Prelude.{◌≡◌, ◌<◌, ◌+◌, ℕ, suc, Bool, true, false, length, slice_get, Option, Some, None}
 use Rattle.sim_base.specs.declared.numbering.DeclNo.{DeclNo}
 use Rattle.sim_scope.specs.declared.types.Entry.TheVariants as entry
 use Rattle.sim_scope.specs.declared.types.Formal.{Formal}
@@ -17,7 +17,7 @@ use Rattle.sim_tree.specs.declared.stmt.TypeName.{TypeName}
 use Rattle.sim_tree.specs.Syntax.{Heading, Statement}
 use Rattle.sim_meaning.specs.Attributes.{first_in, is_connection}
 use Rattle.sim_meaning.specs.Closing.{has_type}
-use Rattle.sim_meaning.specs.Entries.{formals_of, numbers_of}
+use Rattle.sim_meaning.specs.Entries.{numbers_of}
 use Rattle.sim_meaning.specs.Levels.{has_levels, is_class}
 use Rattle.sim_meaning.specs.Meaning.{has_result}
 use Rattle.sim_meaning.specs.Texts.{ProcedureText, StandardText, program_texts, text}
@@ -69,7 +69,7 @@ pub record ProcessBrought (s : Source) (k : ℕ) : Type 0 where
   pub head : text s (block + 3) ≡ Some (StandardText standard.Head)
   pub around : encloser s.tables k ≡ Some block
 
--- A procedure that matches a virtual in the class of a text stands in a level of that, has no parameters, and has a result where the virtual has one.
+-- A procedure that matches a virtual in the class of a text stands in a level of that, and has a result where the virtual has one.
 pub record MatchThere (s : Source) (virtual own match : ℕ) : Type 0 where
   pub around : ℕ
   pub is : encloser s.tables match ≡ Some around
@@ -78,7 +78,6 @@ pub record MatchThere (s : Source) (virtual own match : ℕ) : Type 0 where
   pub heading : Heading
   pub body : Statement
   pub procedure : text s match ≡ Some (ProcedureText given heading body)
-  pub alone : formals_of s match ≡ []
   pub same : has_result given ≡ has_type (result_in (entry_of s.tables (record { 0 = virtual })))
 
 pub record Agrees (s : Source) : Type 0 where

@@ -16,7 +16,7 @@ use Rattle.sim_meaning.specs.Statements.{begin_of, leaves, simulation_around}
 use Rattle.sim_meaning.specs.Pending.{Connection, Declared, Result}
 use Rattle.sim_meaning.specs.Texts.{BlockText, ClassText, ConnectionText, PrefixedText, ProcedureText, StandardText, Text, declared_at, program_texts, text}
 use Rattle.codegen_expr.specs.Built.{ActualsBuilt, AreBuilt, CellBuilt, ClassBuilt, ConnectedNameBuilt, DotBuilt, IsBuilt, KeyBuilt, NamedBuilt, OfObjectBuilt, OwnBuilt, OwnNameBuilt, StandsIn, PlaceBuilt, ReferenceBuilt, ThisFoundBuilt, ThroughBuilt, is_there, slot_in}
-use Rattle.codegen_expr.specs.CodeExpr.{gives}
+use Rattle.codegen_expr.specs.CodeExpr.{Listed, parameters_at, gives}
 use Rattle.codegen_expr.specs.Sites.{Varies, frame_text, prefix_of}
 use Rattle.codegen.specs.Agrees.{Agrees, is_prefixed}
 use Rattle.codegen.specs.CodeFor.{OfCell, OfPlace, OfReference, Variable, assigned_by, variable_of}
@@ -93,7 +93,7 @@ EnterBuilt s text (Some (suc k)) = encloser s.tables (suc k) ≡ Some text
 abbrev pub PrefixBuilt : Source → (text : ℕ) → Expressions → Option ℕ → Type 0
 PrefixBuilt s text es None = ⊥
 PrefixBuilt s text es (Some zero) = ⊥
-PrefixBuilt s text es (Some (suc k)) = (is_prefixed s.tables (suc k) ≡ true) × (encloser s.tables (suc k) ≡ Some text) × ActualsBuilt s text es (class_parameters s (Some (suc k)))
+PrefixBuilt s text es (Some (suc k)) = (is_prefixed s.tables (suc k) ≡ true) × (encloser s.tables (suc k) ≡ Some text) × ActualsBuilt s text es (Listed (class_parameters s (Some (suc k))))
 
 -- a transfer of control: `detach` has no actual parameter and stands where it is found, `call` and `resume` have one
 abbrev pub TransferBuilt : Transfer → Expressions → (Around Operands : Type 0) → Type 0
@@ -113,8 +113,8 @@ CalledBuilt s text (syntax.Named name es) =
     ((leaves s (syntax.Named name es) ≡ gives s (denoted s name.token.0)) × ThroughBuilt (connection_at s name.token.0)
     (λ k. ConnectedNameBuilt s text k (denoted s name.token.0) es (AreBuilt s text es) (λ formals. ActualsBuilt s text es formals))
     (OwnBuilt (own_attribute s name.token.0)
-    (λ d. OwnNameBuilt s text (found_at s name.token.0) (entry_of s.tables d) es (ActualsBuilt s text es (formals_at s d))
-    (OfObjectBuilt s d (entry_of s.tables d) es (ThisFoundBuilt s text (found_at s name.token.0)) (AreBuilt s text es) (ActualsBuilt s text es (formals_at s d))))
+    (λ d. OwnNameBuilt s text (found_at s name.token.0) (entry_of s.tables d) es (ActualsBuilt s text es (Listed (formals_at s d)))
+    (OfObjectBuilt s d (entry_of s.tables d) es (ThisFoundBuilt s text (found_at s name.token.0)) (AreBuilt s text es) (ActualsBuilt s text es (parameters_at s d))))
     (NamedBuilt s text (denoted s name.token.0) es (AreBuilt s text es) (λ formals. ActualsBuilt s text es formals))))
 CalledBuilt s text (syntax.Dot token a name es) =
     OrTransferBuilt (transfer_at s name.token.0) (λ t. TransferBuilt Detaching es (IsBuilt s text a) (AreBuilt s text es))

@@ -25,7 +25,7 @@ use Rattle.sim_meaning.specs.Virtuals.{text_of_procedure}
 use Rattle.codegen_expr.specs.Sites.{At, HasCell, Inside, Is, Pushes, Site, class_number, slot_of}
 use Rattle.codegen_expr.specs.CodeExpr.{ByNameAt, ElementAt, ExprAt, ExprsAt, HeldAt, PlaceAt, ReferencePlaceAt}
 
--- What a left side is in code: a cell, by its level and its slot; the address on the stack of an element, of an attribute of an object, or of
+-- What a left side is in code: a cell, by its level and its slot; the address on the stack of an element, of what is found anew, or of
 -- a reference, which is held against its class; a text on the stack to which a text is assigned, which is the value of an expression or lies
 -- in the cell of the result of a procedure; or not built.
 pub data Stored : Type 0 where
@@ -49,26 +49,32 @@ abbrev pub stored_element : DeclNo → Expressions → (line : ℕ) → Stored
 stored_element d NoMore line = NotBuilt
 stored_element d (Then e es) line = AtAddress d (Then e es) line
 
-abbrev pub stored_formal : Source → DeclNo → Expressions → (line : ℕ) → Mode → FormalKind → Stored
-stored_formal s d es line mode.ByName kind = NotBuilt
-stored_formal s d es line mode shape.Simple = stored_variable s d es
-stored_formal s d es line mode shape.Array = stored_element d es line
-stored_formal s d es line mode shape.Procedure = NotBuilt
+-- an element of an array by name is found anew, as the whole left side is
+abbrev pub stored_anew : Expression → Expressions → Stored
+stored_anew e NoMore = NotBuilt
+stored_anew e (Then a es) = AtAttribute e
+
+abbrev pub stored_formal : Source → Expression → DeclNo → Expressions → (line : ℕ) → Mode → FormalKind → Stored
+stored_formal s e d es line mode.ByName shape.Simple = NotBuilt
+stored_formal s e d es line mode.ByName shape.Array = stored_anew e es
+stored_formal s e d es line mode shape.Simple = stored_variable s d es
+stored_formal s e d es line mode shape.Array = stored_element d es line
+stored_formal s e d es line mode shape.Procedure = NotBuilt
 
 abbrev pub stored_result : (text : ℕ) → Expressions → Stored
 stored_result text NoMore = InCell text Result
 stored_result text (Then e es) = NotBuilt
 
-abbrev pub stored_declared : Source → DeclNo → Expressions → (line : ℕ) → Option Entry → Stored
-stored_declared s d es line (Some (entry.Variable type)) = stored_variable s d es
-stored_declared s d es line (Some (entry.Array element dimensions)) = stored_element d es line
-stored_declared s d es line (Some (entry.Formal f)) = stored_formal s d es line f.mode f.kind
-stored_declared s d es line (Some (entry.Procedure result text)) = stored_result text es
-stored_declared s d es line _ = NotBuilt
+abbrev pub stored_declared : Source → Expression → DeclNo → Expressions → (line : ℕ) → Option Entry → Stored
+stored_declared s e d es line (Some (entry.Variable type)) = stored_variable s d es
+stored_declared s e d es line (Some (entry.Array element dimensions)) = stored_element d es line
+stored_declared s e d es line (Some (entry.Formal f)) = stored_formal s e d es line f.mode f.kind
+stored_declared s e d es line (Some (entry.Procedure result text)) = stored_result text es
+stored_declared s e d es line _ = NotBuilt
 
-abbrev pub stored_named : Source → Option Denotation → Expressions → (line : ℕ) → Stored
-stored_named s (Some (denotation.Declared d)) es line = stored_declared s d es line (entry_of s.tables d)
-stored_named s _ es line = NotBuilt
+abbrev pub stored_named : Source → Expression → Option Denotation → Expressions → (line : ℕ) → Stored
+stored_named s e (Some (denotation.Declared d)) es line = stored_declared s e d es line (entry_of s.tables d)
+stored_named s e _ es line = NotBuilt
 
 -- what is seen behind a dot or through a connection is an attribute of an object
 abbrev pub stored_found : {A : Type 0} → Option A → Expression → Stored → Stored
@@ -82,7 +88,7 @@ stored_match (Some text) other = InCell text Result
 
 -- a variable as a left side
 abbrev pub stored_left : Source → Expression → Stored
-stored_left s (syntax.Named name es) = stored_found (connection_at s name.token.0) (syntax.Named name es) (stored_match (text_of_procedure s (own_match s (syntax.Named name es))) (stored_named s (denoted s name.token.0) es (line_at s name.token.0)))
+stored_left s (syntax.Named name es) = stored_found (connection_at s name.token.0) (syntax.Named name es) (stored_match (text_of_procedure s (own_match s (syntax.Named name es))) (stored_named s (syntax.Named name es) (denoted s name.token.0) es (line_at s name.token.0)))
 stored_left s (syntax.Dot token a name es) = stored_found (declared_attribute (denoted s name.token.0)) (syntax.Dot token a name es) NotBuilt
 stored_left s e = NotBuilt
 

@@ -1,5 +1,5 @@
 -- Which code stands for a statement. There are n values on the operand stack before it and behind it.
-use Rattle.std.specs.Prelude.{◌≡◌, ◌||◌, ◌&&◌, ◌+◌, ℕ, zero, suc, Bool, true, false, pos, List, [], ◌∷◌, length, slice_get, Option, Some, None}
+use Rattle.std.specs.Prelude.{◌≡◌, ◌||◌, ◌&&◌, ◌+◌, ◌-◌, ◌==◌, ℕ, zero, suc, Bool, true, false, pos, List, [], ◌∷◌, length, slice_get, Option, Some, None}
 use Rattle.sim_scope.specs.Assignments.{last_value, left_sides}
 use Rattle.sim_scope.specs.Access.{encloser}
 use Rattle.sim_scope.specs.Scopes.{entry_of}
@@ -15,14 +15,14 @@ use Rattle.sim_code.specs.Scheduling.{AtTime, Beside, Directly, Timing, WithDela
 use Rattle.sim_code.specs.Transfers.{Calling, Detaching, Resuming, Transfer}
 use Rattle.sim_meaning.specs.Attributes.{cell_of_connection, connection_at, own_attribute, transfer_at}
 use Rattle.sim_meaning.specs.Closing.{class_parameters, formals_at, is_attribute, is_text, is_variable, stream_of}
-use Rattle.sim_meaning.specs.Levels.{class_at, end_line_of}
+use Rattle.sim_meaning.specs.Levels.{class_at, last_line}
 use Rattle.sim_meaning.specs.Objects.{no_line}
-use Rattle.sim_meaning.specs.Pending.{Connection}
+use Rattle.sim_meaning.specs.Pending.{Connection, Origin}
 use Rattle.sim_meaning.specs.Statements.{begin_of, is_again, leaves, simulation_around, timing}
 use Rattle.sim_meaning.specs.Texts.{ClassText, ConnectionText, Text, text}
 use Rattle.sim_meaning.specs.Texts as Texts
 use Rattle.codegen_expr.specs.Sites.{Ahead, At, HasCell, IfAt, Inside, Is, LoopAt, Pushes, Site, WhenAt, block_number, class_number, frame_text, slot_of}
-use Rattle.codegen_expr.specs.CodeExpr.{ActualsAt, ConnectedNameAt, DotAt, ExprAt, ExprsAt, NamedAt, OfObjectAt, OwnAt, OwnNameAt, PlaceAt, ThisFoundAt, ThroughAt, gives, operands}
+use Rattle.codegen_expr.specs.CodeExpr.{ActualsAt, Listed, parameters_at, ConnectedNameAt, DotAt, ExprAt, ExprsAt, NamedAt, OfObjectAt, OwnAt, OwnNameAt, PlaceAt, ThisFoundAt, ThroughAt, gives, operands}
 use Rattle.codegen.specs.Agrees.{is_prefixed}
 use Rattle.codegen.specs.CodeFor.{ForAt, assigned_by, is_empty, variable_of}
 use Rattle.codegen.specs.CodeLeft.{AssignAt, each_stored}
@@ -45,7 +45,7 @@ pub record PrefixAt (s : Source) (code : CodeOf) (site : Site) (n line text : �
   pub x : ℕ
   pub is : is_prefixed s.tables text ≡ true
   pub around : encloser s.tables text ≡ Some site.text
-  pub actuals : ActualsAt s code site n line true es (class_parameters s (Some text)) p x
+  pub actuals : ActualsAt s code site n line true es (Listed (class_parameters s (Some text))) p x
   pub enter : At code (i.Pref (pos (block_number s text)) (pos (operands es))) line x q
 
 abbrev pub PrefixedAt : Source → CodeOf → Site → (n line : ℕ) → Expressions → Option ℕ → ℕ → ℕ → Type 0
@@ -80,8 +80,8 @@ CalledAt s code site n (syntax.Named name es) p q =
     (λ p q. (leaves s (syntax.Named name es) ≡ gives s (denoted s name.token.0)) × ThroughAt (connection_at s name.token.0)
     (λ k. ConnectedNameAt s code site n (line_at s name.token.0) k (denoted s name.token.0) es (ExprsAt s code site (suc n) es) (λ formals. ActualsAt s code site (suc n) (line_at s name.token.0) false es formals))
     (OwnAt (own_attribute s name.token.0)
-    (λ d. OwnNameAt s code site n (line_at s name.token.0) (found_at s name.token.0) (entry_of s.tables d) es (ActualsAt s code site (suc n) (line_at s name.token.0) false es (formals_at s d))
-    (OfObjectAt s code site n (line_at s name.token.0) d (entry_of s.tables d) es (ThisFoundAt s code site n (found_at s name.token.0)) (ExprsAt s code site (suc n) es) (ActualsAt s code site (suc n) (line_at s name.token.0) false es (formals_at s d))))
+    (λ d. OwnNameAt s code site n (line_at s name.token.0) (found_at s name.token.0) (entry_of s.tables d) es (ActualsAt s code site (suc n) (line_at s name.token.0) false es (Listed (formals_at s d)))
+    (OfObjectAt s code site n (line_at s name.token.0) d (entry_of s.tables d) es (ThisFoundAt s code site n (found_at s name.token.0)) (ExprsAt s code site (suc n) es) (ActualsAt s code site (suc n) (line_at s name.token.0) false es (parameters_at s d))))
     (NamedAt s code site n (line_at s name.token.0) (denoted s name.token.0) es (ExprsAt s code site n es) (ExprsAt s code site (suc n) es) (λ formals. ActualsAt s code site (suc n) (line_at s name.token.0) false es formals))) p q) p q
 CalledAt s code site n (syntax.Dot token a name es) p q =
     OrTransferAt (transfer_at s name.token.0) (λ t. TransferAt code (line_at s name.token.0) Detaching es (ExprAt s code site n a) (ExprsAt s code site n es))
@@ -297,14 +297,65 @@ pub record EndOfAt (s : Source) (code : CodeOf) (site : Site) (around class : �
   pub link : Pushes code site 0 (i.Link (pos (level_of s around))) c d
   pub number : ℕ
   pub numbered : slice_get standard_names number ≡ Some name_of.Passivate
-  pub done : At code (i.Std (pos number)) (end_line_of s (Some class)) d e
+  pub done : At code (i.Std (pos number)) (last_line s class) d e
   pub over : Is code (i.Jump (pos q)) e y
   pub past : Ahead code e q
   pub more : More y q
 
-abbrev pub EndsAt : Source → CodeOf → Site → (around : ℕ) → (classes : List ℕ) → ℕ → ℕ → Type 0
-EndsAt s code site around [] p q = q ≡ p
-EndsAt s code site around (k ∷ ks) p q = EndOfAt s code site around k (EndsAt s code site around ks) p q
+-- The end of an object of `process` itself, which tells by a token where it was generated: the line is that of `new`.
+pub record OriginEndAt (s : Source) (code : CodeOf) (site : Site) (around token : ℕ) (More : ℕ → ℕ → Type 0) (p q : ℕ) : Type 0 where
+  pub a : ℕ
+  pub b : ℕ
+  pub c : ℕ
+  pub d : ℕ
+  pub e : ℕ
+  pub f : ℕ
+  pub y : ℕ
+  pub kept : Pushes code site 0 (i.Load (pos (level_of s site.text)) (pos (slot_of s code site.text Origin))) p a
+  pub given : Pushes code site 1 (i.Int (pos token)) a b
+  pub test : Is code (i.Rel (pos 2)) b c
+  pub jump : Is code (i.JumpF (pos y)) c d
+  pub leads : Ahead code c y
+  pub link : Pushes code site 0 (i.Link (pos (level_of s around))) d e
+  pub number : ℕ
+  pub numbered : slice_get standard_names number ≡ Some name_of.Passivate
+  pub done : At code (i.Std (pos number)) (line_at s (token - 1)) e f
+  pub over : Is code (i.Jump (pos q)) f y
+  pub past : Ahead code f q
+  pub within : HasCell s site.text Origin
+  pub more : More y q
+
+-- the tokens at which a class is meant by its identifier: among them are those behind each `new`
+abbrev pub is_same : (class : ℕ) → Option ℕ → Bool
+is_same k None = false
+is_same k (Some j) = j == k
+
+abbrev pub means : Source → (class token : ℕ) → Bool
+means s k token = is_same k (class_at s token)
+
+abbrev pub origins_from : Source → (class token count : ℕ) → List ℕ
+origins_from s k t zero = []
+origins_from s k t (suc n) = with_subclass (means s k t) t (origins_from s k (suc t) n)
+
+unfoldable pub origins : Source → (class : ℕ) → List ℕ
+origins s k = origins_from s k 0 (length s.uses)
+
+-- behind the last of them, for no token
+pub record LastEndAt (s : Source) (code : CodeOf) (site : Site) (around p q : ℕ) : Type 0 where
+  pub a : ℕ
+  pub link : Pushes code site 0 (i.Link (pos (level_of s around))) p a
+  pub number : ℕ
+  pub numbered : slice_get standard_names number ≡ Some name_of.Passivate
+  pub done : At code (i.Std (pos number)) (line_at s 0) a q
+
+abbrev pub OriginsAt : Source → CodeOf → Site → (around : ℕ) → (tokens : List ℕ) → ℕ → ℕ → Type 0
+OriginsAt s code site around [] p q = LastEndAt s code site around p q
+OriginsAt s code site around (t ∷ ts) p q = OriginEndAt s code site around t (OriginsAt s code site around ts) p q
+
+-- by the class of the process; behind that it is an object of `process` itself
+abbrev pub EndsAt : Source → CodeOf → Site → (around : ℕ) → (classes tokens : List ℕ) → ℕ → ℕ → Type 0
+EndsAt s code site around [] ts p q = OriginsAt s code site around ts p q
+EndsAt s code site around (k ∷ ks) ts p q = EndOfAt s code site around k (EndsAt s code site around ks ts) p q
 
 -- A process detaches itself; then comes what stands for `inner`, and behind it the end.
 pub record ProcessAt (s : Source) (code : CodeOf) (site : Site) (place statements after q : ℕ) : Type 0 where
@@ -315,4 +366,4 @@ pub record ProcessAt (s : Source) (code : CodeOf) (site : Site) (place statement
   pub this : Pushes code site 0 (i.This (pos (level_of s site.text))) statements a
   pub detach : At code i.Detach no_line a b
   pub inner : Is code (i.Inner (pos place)) b after
-  pub ends : EndsAt s code site around (subclasses s site.text) after q
+  pub ends : EndsAt s code site around (subclasses s site.text) (origins s site.text) after q

@@ -5,8 +5,6 @@ use Rattle.sim_scope.specs.declared.types.FormalKind.{FormalKind}
 use Rattle.sim_scope.specs.declared.types.FormalKind.TheVariants as of
 use Rattle.sim_scope.specs.declared.types.Mode.{Mode}
 use Rattle.sim_scope.specs.declared.types.Mode.TheVariants as by
-use Rattle.sim_scope.specs.declared.types.SimType.{SimType}
-use Rattle.sim_scope.specs.declared.types.SimType.TheVariants as t
 use Rattle.sim_scope.specs.declared.types.StandardClass.{StandardClass}
 use Rattle.sim_scope.specs.declared.types.StandardClass.TheVariants as standard
 use Rattle.sim_scope.specs.declared.scopes.Declaration.{Declaration}
@@ -16,7 +14,6 @@ use Rattle.sim_tree.specs.declared.stmt.TypeName.{TypeName}
 use Rattle.sim_tree.specs.declared.stmt.TypeName.TheVariants as type_name
 use Rattle.sim_tree.specs.Syntax.{Declarations, NoDeclaration, NoStatement, Statement, Statements}
 use Rattle.sim_values.specs.Plain.{Plain, Integer, Truth, Character, Text, Object, MainOf, Nothing}
-use Rattle.sim_code.specs.declared.code.CodeActual.{CodeActual}
 use Rattle.sim_code.specs.declared.code.Match.{Match}
 use Rattle.sim_code.specs.declared.code.BlockKind.{BlockKind}
 use Rattle.sim_code.specs.declared.code.BlockKind.TheVariants as kind
@@ -34,10 +31,11 @@ use Rattle.sim_code.specs.Code.{BlockOf, ClassOf, CodeOf}
 use Rattle.sim_meaning.specs.Constants.{constants_of}
 use Rattle.sim_meaning.specs.Closing.{class_parameters}
 use Rattle.sim_meaning.specs.Entries.{formals_of}
-use Rattle.sim_meaning.specs.Levels.{has_levels, is_process_text, levels_of, writes_inner}
+use Rattle.sim_meaning.specs.Levels.{has_levels, qualification, is_process_text, levels_of, writes_inner}
 use Rattle.sim_meaning.specs.Virtuals.{match_in_text}
 use Rattle.sim_meaning.specs.Pending.{Held, Of, Val}
 use Rattle.sim_meaning.specs.Texts.{BlockText, ClassText, ConnectionText, PrefixedText, ProcedureText, StandardText, Text as TextOf, is_class_free, text}
+use Rattle.codegen_expr.specs.CodeExpr.{class_or_none, type_of}
 use Rattle.codegen_expr.specs.Sites.{At, Is, Site, block_in_front, block_number, blocks_before, cells_in, cells_of_block, class_in, class_number, expression_temps, own_end, own_part, prefix_of, room_of_block, types_in}
 use Rattle.codegen.specs.Agrees.{Agrees}
 use Rattle.codegen.specs.CodeArrays.{ArraysAt}
@@ -82,18 +80,8 @@ code_shape of.Simple = shape.Simple
 code_shape of.Array = shape.Array
 code_shape of.Procedure = shape.Procedure
 
-abbrev pub type_of : Option SimType → CodeType
-type_of None = type.Nothing
-type_of (Some t.Integer) = type.Integer
-type_of (Some t.Boolean) = type.Boolean
-type_of (Some t.Character) = type.Character
-type_of (Some t.Text) = type.Text
-type_of (Some (t.Ref class)) = type.Reference
-type_of (Some t.NoneType) = type.Reference
-
--- the classes of references are not built
-abbrev pub code_formal : Formal → CodeFormal
-code_formal f = record { mode = code_mode f.mode; shape = code_shape f.kind; code_type = type_of f.ty; class = 0 }
+abbrev pub code_formal : Source → CodeOf → Formal → CodeFormal
+code_formal s code f = record { mode = code_mode f.mode; shape = code_shape f.kind; code_type = type_of f.ty; class = class_or_none s code (qualification s f.ty) }
 
 -- ---- blocks
 
@@ -112,7 +100,7 @@ pub record RecordOf (s : Source) (code : CodeOf) (k : ℕ) (kind : BlockKind) (r
   pub cells : b.cells ≡ cells_of_block (block_in_front s code k) + length (cells_in s k (text s k))
   pub class_free : b.class_free ≡ is_class_free s k
   pub gives : b.result_type ≡ result_type
-  pub formals : b.formals ≡ map code_formal (parameters_of s k (text s k))
+  pub formals : b.formals ≡ map (code_formal s code) (parameters_of s k (text s k))
   pub temps : List CodeType
   pub types : b.types ≡ types_in (block_in_front s code k) ++ (map type_of_cell (own_part s k) ++ temps)
   pub counted : b.cells + b.temps ≡ length b.types
@@ -120,7 +108,7 @@ pub record RecordOf (s : Source) (code : CodeOf) (k : ℕ) (kind : BlockKind) (r
 
 -- where the code of a text stands: the three temps of expressions lie behind its own part
 abbrev pub site_of : Source → CodeOf → (text : ℕ) → BlockOf → Site
-site_of s code k b = record { text = k; room = b.room; temps = own_end s code k; used = own_end s code k + expression_temps; size = length b.types }
+site_of s code k b = record { text = k; room = b.room; temps = own_end s code k; used = own_end s code k + expression_temps; size = length b.types; thunk = None }
 
 -- the code of a text from its entry on, up to the instruction that ends it
 pub record BodyOf (code : CodeOf) (Body : ℕ → ℕ → Type 0) (end : Instr) (entry : ℕ) : Type 0 where
@@ -246,13 +234,6 @@ pub record PrefixedProgramOf (s : Source) (code : CodeOf) (line : ℕ) (ds : Dec
 
 -- ---- programs
 
--- no actual parameter, and one of which nothing is said
-abbrev pub some_actual : CodeActual
-some_actual = record { code_type = type.Nothing; variable = false; array = type.Nothing; procedure = false; result_type = type.Nothing; formals = 0; class = 0 }
-
-abbrev pub actual_lists : List (List CodeActual)
-actual_lists = [] ∷ (some_actual ∷ []) ∷ []
-
 -- The program's block is the first text, and no class. A class of SIMSET has no declarations and no statements of its own.
 abbrev pub StandardTextOf : Source → CodeOf → (text : ℕ) → StandardClass → BlockOf → Type 0
 StandardTextOf s code k standard.Process b = ProcessTextOf s code k b
@@ -280,7 +261,6 @@ CodeHas s code k x (Some b) = TextCode s code k x b
 pub record Compiled (s : Source) (code : CodeOf) : Type 0 where
   pub agrees : Agrees s
   pub texts : code.texts ≡ constants_of s
-  pub actuals : code.actual_lists ≡ actual_lists
   pub each : (k : ℕ) (x : TextOf) → text s k ≡ Some x → CodeHas s code k x (slice_get code.blocks (block_number s k))
   -- the class of a text lists its matches
   pub matches : (k : ℕ) (x : ClassOf) → has_levels (text s k) ≡ true → class_numbered code (class_number s code k) ≡ Some x → x.matches ≡ matches_of s k

@@ -19,7 +19,7 @@ use Rattle.sim_meaning.specs.Closing.{class_parameters}
 use Rattle.sim_meaning.specs.Statements.{leaves}
 use Rattle.codegen_expr.specs.declared.spot.Spot.{Spot}
 use Rattle.codegen_expr.specs.Built.{ActualsBuilt, IsBuilt}
-use Rattle.codegen_expr.specs.CodeExpr.{ActualsAt, operands}
+use Rattle.codegen_expr.specs.CodeExpr.{ActualsAt, Listed, operands}
 use Rattle.codegen_expr.specs.Drafts.{DraftOf, Emits}
 use Rattle.codegen_expr.specs.declared.operators.Object.{Object}
 use Rattle.codegen_expr.specs.Emit.{PutsBefore, moves_denoted}
@@ -63,8 +63,8 @@ unfoldable pub WritesPrefix : Bound → Spot → (old new : DraftOf) → Identif
 WritesPrefix b w old new x ys k =
     let s = source_of b in
     let es = expressions (map syntax_of ys) in
-    Emits w old new (ActualsBuilt s w.text es (class_parameters s (Some k)))
-    (λ final site p q. (y : ℕ) × ActualsAt s final site 0 (line_at s x.token.0) true es (class_parameters s (Some k)) p y × At final (i.Pref (pos (block_number s k)) (pos (operands es))) (line_at s x.token.0) y q)
+    Emits w old new (ActualsBuilt s w.text es (Listed (class_parameters s (Some k))))
+    (λ final site p q. (y : ℕ) × ActualsAt s final site 0 (line_at s x.token.0) true es (Listed (class_parameters s (Some k))) p y × At final (i.Pref (pos (block_number s k)) (pos (operands es))) (line_at s x.token.0) y q)
 
 -- a call behind its tick
 unfoldable pub WritesCall : Bound → Spot → (old new : DraftOf) → Expr → Type 0

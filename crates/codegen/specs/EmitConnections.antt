@@ -16,7 +16,7 @@ use Rattle.sim_code.specs.Running.{AllRun}
 use Rattle.sim_meaning.specs.Levels.{class_at}
 use Rattle.codegen_expr.specs.declared.spot.Spot.{Spot}
 use Rattle.codegen_expr.specs.Built.{ClassBuilt}
-use Rattle.codegen_expr.specs.Drafts.{Becomes, DraftOf, Emits, Longer, filled_in}
+use Rattle.codegen_expr.specs.Drafts.{Becomes, DraftOf, Emits, Longer, MoreThunks, filled_in}
 use Rattle.codegen_expr.specs.Sites.{Ahead, Is, Site, lined}
 use Rattle.codegen.specs.BuiltProgram.{ConnectsBuilt, StatementBuilt, StatementsBuilt}
 use Rattle.codegen.specs.CodeStm.{ArmOfAt, ConnectsAt, StmAt, StmsAt}
@@ -66,7 +66,8 @@ pub record OpenEmits (spot : Spot) (old new : DraftOf) (holes : List ℕ) (Built
   pub roomier : old.room ≤ new.room
   pub larger : old.size ≤ new.size
   pub classed : new.classes ≡ old.classes
-  pub thunked : Longer old.thunks new.thunks
+  pub thunked : MoreThunks old.thunks new.thunks
+  pub listed : Longer old.lists new.lists
   pub built : Built → old.whole ≡ true → new.whole ≡ true
   pub before : new.whole ≡ true → old.whole ≡ true
   pub only : new.whole ≡ true → Built

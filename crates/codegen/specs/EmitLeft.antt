@@ -77,15 +77,16 @@ FindsElement b w token d es r = IsVariable (source_of b) w r (stored_element d (
 unfoldable pub FindsResult : Bound → Spot → (text : ℕ) → List Expr → Left → Type 0
 FindsResult b w k es r = IsVariable (source_of b) w r (stored_result k (operands_in es))
 
+-- of an expression that is an identifier with subscripts
 unfoldable pub FindsFormal : Bound → Spot → TokenNo → DeclNo → Mode → FormalKind → List Expr → Left → Type 0
-FindsFormal b w token d mode kind es r = IsVariable (source_of b) w r (stored_formal (source_of b) d (operands_in es) (line_at (source_of b) token.0) mode kind)
+FindsFormal b w token d mode kind es r = (e : Expression) → IsWhole (source_of b) w e r (stored_formal (source_of b) e d (operands_in es) (line_at (source_of b) token.0) mode kind)
 
 unfoldable pub FindsDeclared : Bound → Spot → TokenNo → DeclNo → List Expr → Left → Type 0
-FindsDeclared b w token d es r = IsVariable (source_of b) w r (stored_declared (source_of b) d (operands_in es) (line_at (source_of b) token.0) (entry_of (source_of b).tables d))
+FindsDeclared b w token d es r = (e : Expression) → IsWhole (source_of b) w e r (stored_declared (source_of b) e d (operands_in es) (line_at (source_of b) token.0) (entry_of (source_of b).tables d))
 
 -- an identifier, by its token and its subscripts
 unfoldable pub FindsLeft : Bound → Spot → TokenNo → List Expr → Left → Type 0
-FindsLeft b w token es r = IsVariable (source_of b) w r (stored_named (source_of b) (denoted (source_of b) token.0) (operands_in es) (line_at (source_of b) token.0))
+FindsLeft b w token es r = (e : Expression) → IsWhole (source_of b) w e r (stored_named (source_of b) e (denoted (source_of b) token.0) (operands_in es) (line_at (source_of b) token.0))
 
 -- the same also where it is seen through a connection
 unfoldable pub FindsNamed : Bound → Spot → Identifier → List Expr → Left → Type 0

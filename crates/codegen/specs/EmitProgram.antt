@@ -5,6 +5,11 @@ use Rattle.sim_base.specs.declared.numbering.TokenNo.{TokenNo}
 use Rattle.sim_scope.specs.declared.bound.Bound.{Bound}
 use Rattle.sim_scope.specs.declared.types.Entry.{Entry}
 use Rattle.sim_scope.specs.declared.types.Formal.{Formal}
+use Rattle.sim_scope.specs.declared.types.FormalKind.{FormalKind}
+use Rattle.sim_scope.specs.declared.types.FormalKind.TheVariants as shape
+use Rattle.sim_scope.specs.declared.types.Mode.{Mode}
+use Rattle.sim_scope.specs.declared.types.Mode.TheVariants as mode
+use Rattle.sim_scope.specs.declared.types.SimType.{SimType}
 use Rattle.sim_scope.specs.declared.types.StandardClass.{StandardClass}
 use Rattle.sim_scope.specs.declared.types.StandardClass.TheVariants as standard
 use Rattle.sim_scope.specs.Tables.{BlockOf as TableBlock}
@@ -19,6 +24,7 @@ use Rattle.sim_tree.specs.Syntax.{Declarations, Expressions, Heading, NoDeclarat
 use Rattle.sim_tree.specs.SyntaxOfProgram.{block_syntax, declaration_syntax, prefix_syntax, statement_syntax}
 use Rattle.sim_code.specs.declared.code.BlockKind.{BlockKind}
 use Rattle.sim_code.specs.declared.code.BlockKind.TheVariants as kind
+use Rattle.sim_code.specs.declared.code.CodeFormal.{CodeFormal}
 use Rattle.sim_code.specs.declared.code.CodeType.{CodeType}
 use Rattle.sim_code.specs.declared.code.Match.{Match}
 use Rattle.sim_code.specs.declared.code.CodeType.TheVariants as type
@@ -28,13 +34,15 @@ use Rattle.sim_code.specs.Code.{BlockOf, ClassOf, CodeOf}
 use Rattle.sim_code.specs.Running.{AllRun}
 use Rattle.sim_meaning.specs.Closing.{class_parameters}
 use Rattle.sim_meaning.specs.Entries.{cells_from, formals_of, numbers_of, with_cell, with_result}
-use Rattle.sim_meaning.specs.Levels.{is_process_class, is_process_text, levels_of, writes_inner}
+use Rattle.sim_meaning.specs.Levels.{is_process_class, is_process_itself, is_process_text, levels_of, writes_inner}
 use Rattle.sim_meaning.specs.Texts.{ClassText, ConnectionText, PrefixedText, ProcedureText, StandardText, Text, is_class_free, is_class_kind, text}
 use Rattle.program_texts.specs.declared.tree.TextTree.{TextTree}
 use Rattle.program_texts.specs.TextTrees.{AreTexts, block_text, prefixed_text, text_in}
 use Rattle.codegen_expr.specs.declared.spot.Spot.{Spot}
-use Rattle.codegen_expr.specs.Drafts.{DraftOf, Emits, Grows, Longer, PlannedOf, ThunksGrow, class_of, planned_at, planned_front, planned_in, planned_start, with_instr}
-use Rattle.codegen_expr.specs.Sites.{block_number, cells_in, hidden_from, hidden_in, own_part}
+use Rattle.codegen_expr.specs.CodeExpr.{type_of}
+use Rattle.codegen_expr.specs.Drafts.{DraftOf, Emits, Grows, Longer, MoreThunks, PlannedOf, ThunksGrow, class_of, open_thunk, planned_at, planned_front, planned_in, planned_start, with_instr}
+use Rattle.codegen_expr.specs.Thunks.{AsPlanned}
+use Rattle.codegen_expr.specs.Sites.{block_number, cells_in, hidden_from, hidden_in, origin_in, own_part}
 use Rattle.codegen.specs.declared.class_texts.LevelHead.{LevelHead}
 use Rattle.codegen.specs.declared.level_records.LevelStart.{LevelStart}
 use Rattle.codegen.specs.declared.levels.InnerPlace.{InnerPlace}
@@ -89,21 +97,24 @@ pub record Next (s : Source) (w : Written) (k : ℕ) (x : Text) : Type 0 where
 abbrev pub class_record : ClassAt → List Match → ClassOf
 class_record c matches = record { prefix = c.prefix; block = c.block; declarations = c.declarations; statements = c.statements; after_inner = c.after_inner; process = c.process; matches = matches }
 
--- A code that what is written becomes in the end: it keeps the instructions that are no holes, the thunks, the blocks and the classes, and its
--- blocks are as planned.
+-- A code that what is written becomes in the end: it keeps the instructions that are no holes, the thunks, the lists of actual parameters, the
+-- blocks and the classes, and its blocks are as planned.
 pub record Ends (w : Written) (final : CodeOf) : Type 0 where
   pub grows : Grows w.draft.instrs final.instrs
   pub blocks : (j : ℕ) (b : BlockOf) → slice_get w.blocks.items j ≡ Some b → slice_get final.blocks j ≡ Some b
   pub classes : (j : ℕ) (c : ClassAt) → slice_get w.classes.items j ≡ Some (Some c) → (matches : List Match) × (slice_get final.classes j ≡ Some (class_record c matches))
   pub classed : (j : ℕ) → planned_in (slice_get final.blocks j) ≡ planned_at w.draft.classes j
   pub thunked : ThunksGrow w.draft.thunks final.thunks
+  pub closed : open_thunk w.draft.thunks ≡ None
+  pub listed : Longer w.draft.lists final.actual_lists
 
 -- A text is written. The draft stays whole where the text is built; and if it is whole, then whatever the code is in the end, that of the
 -- text stands in it.
 pub record TextEmitted (s : Source) (old new : Written) (k : ℕ) (x : Text) : Type 0 where
   pub rest : List Lined
   pub front : new.draft.instrs ≡ old.draft.instrs ++ rest
-  pub thunked : Longer old.draft.thunks new.draft.thunks
+  pub thunked : MoreThunks old.draft.thunks new.draft.thunks
+  pub listed : Longer old.draft.lists new.draft.lists
   pub classed : new.draft.classes ≡ old.draft.classes
   pub fits : AllRun old.draft.instrs → AllRun new.draft.instrs
   pub added : List BlockOf
@@ -146,6 +157,7 @@ pub record Entered (before old : Written) : Type 0 where
   pub rest : List Lined
   pub front : old.draft.instrs ≡ before.draft.instrs ++ rest
   pub thunks : old.draft.thunks ≡ before.draft.thunks
+  pub lists : old.draft.lists ≡ before.draft.lists
   pub whole : old.draft.whole ≡ before.draft.whole
   pub planned : old.draft.classes ≡ before.draft.classes
   pub fits : AllRun before.draft.instrs → AllRun old.draft.instrs
@@ -157,7 +169,7 @@ pub record LevelIs (s : Source) (before old : Written) (h : LevelHead) (ds : Dec
   pub entered : Entered before old
   pub parts : TextBuilt s h.text x → ArraysBuilt s h.text ds × LevelBuilt s h.text h.inner ss
   pub planned : is_planned x ≡ true
-  pub formals : map code_formal (formals_by_kind s h.kind h.text) ≡ map code_formal (parameters_of s h.text (Some x))
+  pub formals : formals_by_kind s h.kind h.text ≡ parameters_of s h.text (Some x)
   pub one_block : 1 ≡ blocks_in x
   pub one_class : 0 < classes_in x
   pub code : (final : CodeOf) (block : BlockOf) (class : ClassOf) → Grows old.draft.instrs final.instrs → block.entry ≡ h.entry → class.declarations ≡ length old.draft.instrs
@@ -233,6 +245,7 @@ pub record TextsEmitted (s : Source) (old now : Written) (done : ℕ) : Type 0 w
   pub whole : now.draft.whole ≡ true
   pub fits : AllRun now.draft.instrs
   pub plan : Plans s old.draft.classes
+  pub closed : open_thunk now.draft.thunks ≡ None
   pub classed : now.draft.classes ≡ old.draft.classes
   pub counted : block_number s done ≡ length now.blocks.items
   pub started : done ≡ 0 → length now.draft.instrs ≡ 0
@@ -244,6 +257,7 @@ pub record Begins (s : Source) (w : Written) : Type 0 where
   pub none : w.draft.instrs ≡ []
   pub whole : w.draft.whole ≡ true
   pub plan : Plans s w.draft.classes
+  pub no_thunk : w.draft.thunks ≡ []
   pub no_block : w.blocks.items ≡ []
 
 unfoldable pub WritesTo : Bound → (old now : Written) → List TextTree → (done : ℕ) → Type 0
@@ -270,6 +284,15 @@ PushesCells b old new ds = new ≡ old ++ map type_of_cell (cells_from (source_o
 unfoldable pub OwesCells : Bound → (old : List CodeType) → List DeclNo → (now : List CodeType) → List DeclNo → Type 0
 OwesCells b old all now rest = now ++ map type_of_cell (cells_from (source_of b) rest) ≡ old ++ map type_of_cell (cells_from (source_of b) all)
 
+-- what the cell of a formal parameter holds at the entry
+abbrev pub type_of_simple : FormalKind → Option SimType → CodeType
+type_of_simple shape.Simple ty = type_of ty
+type_of_simple kind ty = type.Nothing
+
+abbrev pub type_of_formal : Mode → FormalKind → Option SimType → CodeType
+type_of_formal mode.ByName kind ty = type.Nothing
+type_of_formal mode kind ty = type_of_simple kind ty
+
 -- the cell that a declaration has, if it has one
 unfoldable pub PushesCell : (old new : List CodeType) → Option Entry → Type 0
 PushesCell old new entry = (d : DeclNo) → new ≡ old ++ map type_of_cell (with_cell d entry [])
@@ -282,13 +305,27 @@ abbrev pub with_hidden : Bool → List CodeType → List CodeType
 with_hidden true types = types ++ (type.Nothing ∷ [])
 with_hidden false types = types
 
--- the cells of the connections that stand in a text
+-- the cells of the connections that stand in a text, behind which that of an origin is still to come; and all hidden cells
 unfoldable pub HidesConnections : Bound → (old new : List CodeType) → (text : ℕ) → Type 0
-HidesConnections b old new k = new ≡ old ++ map type_of_cell (hidden_in (source_of b) k)
+HidesConnections b old new k = new ++ map type_of_cell (origin_in (is_process_itself (source_of b) k)) ≡ old ++ map type_of_cell (hidden_in (source_of b) k)
+
+unfoldable pub HidesCells : Bound → (old new : List CodeType) → (text : ℕ) → Type 0
+HidesCells b old new k = new ≡ old ++ map type_of_cell (hidden_in (source_of b) k)
 
 -- in a loop over the blocks: those of the rest
 unfoldable pub OwesHidden : Bound → (old : List CodeType) → (text : ℕ) → (now : List CodeType) → (done : ℕ) → Type 0
 OwesHidden b old k now done = now ++ map type_of_cell (hidden_from (source_of b) k done (drop done b.scopes.blocks)) ≡ old ++ map type_of_cell (hidden_in (source_of b) k)
+
+-- a formal parameter, and several, in each code that a draft may become
+unfoldable pub FormalGiven : Bound → DraftOf → Formal → CodeFormal → Type 0
+FormalGiven b c f r = (final : CodeOf) → AsPlanned c final → r ≡ code_formal (source_of b) final f
+
+unfoldable pub FormalsGiven : Bound → DraftOf → List Formal → List CodeFormal → Type 0
+FormalsGiven b c fs r = (final : CodeOf) → AsPlanned c final → r ≡ map (code_formal (source_of b) final) fs
+
+-- in a loop: those so far, and the rest
+unfoldable pub OwesFormals : Bound → DraftOf → List Formal → (now : List CodeFormal) → (rest : List Formal) → Type 0
+OwesFormals b c fs now rest = (final : CodeOf) → AsPlanned c final → now ++ map (code_formal (source_of b) final) rest ≡ map (code_formal (source_of b) final) fs
 
 -- the block of a text whose code is written
 pub record BlockAdded (s : Source) (old new : Written) (head : Head) : Type 0 where
@@ -301,7 +338,7 @@ pub record BlockAdded (s : Source) (old new : Written) (head : Head) : Type 0 wh
   pub starts : block.entry ≡ head.entry
   pub class_free : block.class_free ≡ is_class_free s head.text
   pub gives : block.result_type ≡ head.result_type
-  pub formals : block.formals ≡ map code_formal (formals_by_kind s head.kind head.text)
+  pub formals : (final : CodeOf) → AsPlanned old.draft final → block.formals ≡ map (code_formal s final) (formals_by_kind s head.kind head.text)
   pub planned : planned_in (Some block) ≡ planned_at old.draft.classes (block_number s head.text)
   pub temps : block.cells + block.temps ≡ length block.types
   pub room : old.draft.room ≤ block.room

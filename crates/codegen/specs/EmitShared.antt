@@ -10,7 +10,7 @@ use Rattle.sim_code.specs.declared.instr.Lined.{Lined}
 use Rattle.sim_code.specs.Code.{CodeOf}
 use Rattle.sim_code.specs.Running.{AllRun}
 use Rattle.codegen_expr.specs.declared.spot.Spot.{Spot}
-use Rattle.codegen_expr.specs.Drafts.{Becomes, DraftOf, Emits, Longer, filled_in}
+use Rattle.codegen_expr.specs.Drafts.{Becomes, DraftOf, Emits, Longer, MoreThunks, filled_in}
 use Rattle.codegen_expr.specs.Sites.{Ahead, Is, Pushes, Site, lined}
 use Rattle.codegen.specs.declared.lists.Shared.{Shared}
 use Rattle.codegen.specs.declared.targets.Target.{Target}
@@ -48,7 +48,8 @@ pub record Turns (spot : Spot) (old new : DraftOf) (holes : List ℕ) (low : ℕ
   pub roomier : old.room ≤ new.room
   pub larger : old.size ≤ new.size
   pub classed : new.classes ≡ old.classes
-  pub thunked : Longer old.thunks new.thunks
+  pub thunked : MoreThunks old.thunks new.thunks
+  pub listed : Longer old.lists new.lists
   pub built : Built → old.whole ≡ true → new.whole ≡ true
   pub before : new.whole ≡ true → old.whole ≡ true
   pub only : new.whole ≡ true → Built

@@ -14,7 +14,6 @@ use Rattle.sim_code.specs.declared.instr.Lined.{Lined}
 use Rattle.sim_code.specs.Code.{BlockOf, ClassOf, CodeOf}
 use Rattle.sim_code.specs.Outcome.{Shown, shown}
 use Rattle.sim_code.specs.Rows.{mrun}
-use Rattle.codegen.specs.Compiled.{actual_lists}
 use Rattle.sim_meaning.specs.ClassExamples.{objects_without_end}
 use Rattle.sim_meaning.specs.Examples.{dimensions, endless, factorial_166, factorial_20, factorial_21, fields, for_list, large_array, limits, seen, sub_block, subscript, value_array}
 
@@ -37,7 +36,7 @@ block kind level cells temps entry result_type types formals = record {
 }
 
 abbrev pub code : List BlockOf → List Lined → CodeOf
-code blocks instrs = record { texts = []; blocks = blocks; classes = []; thunks = []; actual_lists = actual_lists; instrs = instrs }
+code blocks instrs = record { texts = []; blocks = blocks; classes = []; thunks = []; actual_lists = []; instrs = instrs }
 
 abbrev pub seen_code : CodeOf → Limits → ℕ → Shown
 seen_code c l n = shown (mrun c l [] n)
@@ -52,13 +51,13 @@ abbrev pub for_list_code : CodeOf
 for_list_code = code (block kind.SubBlock 1 1 4 0 (type.Nothing) (type.Integer ∷ type.Nothing ∷ type.Nothing ∷ type.Nothing ∷ type.Nothing ∷ []) ([]) ∷ []) (at 1 (i.Jump (pos 1)) ∷ at 0 i.Tick ∷ at 0 (i.Jump (pos 18)) ∷ at 0 i.Tick ∷ at 0 (i.Load (pos 1) (pos 0)) ∷ at 0 (i.Int (pos 3)) ∷ at 1 (i.Std (pos 40)) ∷ at 0 (i.Load (pos 1) (pos 4)) ∷ at 0 (i.Int (pos 0)) ∷ at 0 (i.Rel (pos 2)) ∷ at 0 (i.JumpF (pos 12)) ∷ at 0 (i.Jump (pos 30)) ∷ at 0 (i.Load (pos 1) (pos 4)) ∷ at 0 (i.Int (pos 1)) ∷ at 0 (i.Rel (pos 2)) ∷ at 0 (i.JumpF (pos 17)) ∷ at 0 (i.Jump (pos 43)) ∷ at 0 (i.Jump (pos 55)) ∷ at 0 (i.Int (pos 3)) ∷ at 0 (i.Store (pos 1) (pos 0)) ∷ at 0 (i.Int (pos 1)) ∷ at 1 i.Neg ∷ at 0 i.Tick ∷ at 0 (i.Load (pos 1) (pos 0)) ∷ at 0 (i.Int (pos 1)) ∷ at 0 i.StepTest ∷ at 0 (i.JumpF (pos 37)) ∷ at 0 (i.Int (pos 0)) ∷ at 0 (i.Store (pos 1) (pos 4)) ∷ at 0 (i.Jump (pos 3)) ∷ at 0 (i.Int (pos 1)) ∷ at 1 i.Neg ∷ at 0 i.Dup ∷ at 0 (i.Load (pos 1) (pos 0)) ∷ at 1 i.Add ∷ at 0 (i.Store (pos 1) (pos 0)) ∷ at 0 (i.Jump (pos 22)) ∷ at 0 i.Tick ∷ at 0 (i.Int (pos 10)) ∷ at 0 (i.Store (pos 1) (pos 0)) ∷ at 0 (i.Int (pos 1)) ∷ at 0 (i.Store (pos 1) (pos 4)) ∷ at 0 (i.Jump (pos 3)) ∷ at 0 i.Tick ∷ at 0 (i.Load (pos 1) (pos 0)) ∷ at 0 (i.Int (pos 1)) ∷ at 1 i.Add ∷ at 0 (i.Store (pos 1) (pos 0)) ∷ at 0 (i.Load (pos 1) (pos 0)) ∷ at 0 (i.Int (pos 13)) ∷ at 1 (i.Rel (pos 0)) ∷ at 0 (i.JumpF (pos 56)) ∷ at 0 (i.Int (pos 2)) ∷ at 0 (i.Store (pos 1) (pos 4)) ∷ at 0 (i.Jump (pos 3)) ∷ at 0 (i.Jump (pos 43)) ∷ at 0 i.Tick ∷ at 1 (i.Std (pos 37)) ∷ at 0 (i.EndLevel (pos 0)) ∷ [])
 
 abbrev pub factorial_20_code : CodeOf
-factorial_20_code = code (block kind.SubBlock 1 0 0 17 (type.Nothing) ([]) ([]) ∷ block kind.Procedure 2 2 0 1 (type.Integer) (type.Integer ∷ type.Nothing ∷ []) (record { mode = by.Value; shape = shape.Simple; code_type = type.Integer; class = 0 } ∷ []) ∷ []) (at 0 (i.Jump (pos 17)) ∷ at 0 i.Tick ∷ at 0 (i.Load (pos 2) (pos 1)) ∷ at 0 (i.Int (pos 0)) ∷ at 1 (i.Rel (pos 2)) ∷ at 0 (i.JumpF (pos 8)) ∷ at 0 (i.Int (pos 1)) ∷ at 0 (i.Jump (pos 15)) ∷ at 0 (i.Load (pos 2) (pos 1)) ∷ at 0 (i.Link (pos 1)) ∷ at 0 (i.Load (pos 2) (pos 1)) ∷ at 0 (i.Int (pos 1)) ∷ at 1 i.Sub ∷ at 1 (i.Call (pos 1) (pos 1)) ∷ at 1 i.Mul ∷ at 0 (i.Store (pos 2) (pos 0)) ∷ at 0 i.Return ∷ at 1 (i.Jump (pos 18)) ∷ at 0 i.Tick ∷ at 0 (i.Link (pos 1)) ∷ at 0 (i.Int (pos 20)) ∷ at 1 (i.Call (pos 1) (pos 1)) ∷ at 0 (i.Int (pos 20)) ∷ at 1 (i.Std (pos 40)) ∷ at 0 i.Tick ∷ at 1 (i.Std (pos 37)) ∷ at 0 (i.EndLevel (pos 0)) ∷ [])
+factorial_20_code = code (block kind.SubBlock 1 0 0 17 (type.Nothing) ([]) ([]) ∷ block kind.Procedure 2 2 0 1 (type.Integer) (type.Integer ∷ type.Integer ∷ []) (record { mode = by.Value; shape = shape.Simple; code_type = type.Integer; class = 0 } ∷ []) ∷ []) (at 0 (i.Jump (pos 17)) ∷ at 0 i.Tick ∷ at 0 (i.Load (pos 2) (pos 1)) ∷ at 0 (i.Int (pos 0)) ∷ at 1 (i.Rel (pos 2)) ∷ at 0 (i.JumpF (pos 8)) ∷ at 0 (i.Int (pos 1)) ∷ at 0 (i.Jump (pos 15)) ∷ at 0 (i.Load (pos 2) (pos 1)) ∷ at 0 (i.Link (pos 1)) ∷ at 0 (i.Load (pos 2) (pos 1)) ∷ at 0 (i.Int (pos 1)) ∷ at 1 i.Sub ∷ at 1 (i.Call (pos 1) (pos 1)) ∷ at 1 i.Mul ∷ at 0 (i.Store (pos 2) (pos 0)) ∷ at 0 i.Return ∷ at 1 (i.Jump (pos 18)) ∷ at 0 i.Tick ∷ at 0 (i.Link (pos 1)) ∷ at 0 (i.Int (pos 20)) ∷ at 1 (i.Call (pos 1) (pos 1)) ∷ at 0 (i.Int (pos 20)) ∷ at 1 (i.Std (pos 40)) ∷ at 0 i.Tick ∷ at 1 (i.Std (pos 37)) ∷ at 0 (i.EndLevel (pos 0)) ∷ [])
 
 abbrev pub factorial_21_code : CodeOf
-factorial_21_code = code (block kind.SubBlock 1 0 0 17 (type.Nothing) ([]) ([]) ∷ block kind.Procedure 2 2 0 1 (type.Integer) (type.Integer ∷ type.Nothing ∷ []) (record { mode = by.Value; shape = shape.Simple; code_type = type.Integer; class = 0 } ∷ []) ∷ []) (at 0 (i.Jump (pos 17)) ∷ at 0 i.Tick ∷ at 0 (i.Load (pos 2) (pos 1)) ∷ at 0 (i.Int (pos 0)) ∷ at 1 (i.Rel (pos 2)) ∷ at 0 (i.JumpF (pos 8)) ∷ at 0 (i.Int (pos 1)) ∷ at 0 (i.Jump (pos 15)) ∷ at 0 (i.Load (pos 2) (pos 1)) ∷ at 0 (i.Link (pos 1)) ∷ at 0 (i.Load (pos 2) (pos 1)) ∷ at 0 (i.Int (pos 1)) ∷ at 1 i.Sub ∷ at 1 (i.Call (pos 1) (pos 1)) ∷ at 1 i.Mul ∷ at 0 (i.Store (pos 2) (pos 0)) ∷ at 0 i.Return ∷ at 1 (i.Jump (pos 18)) ∷ at 0 i.Tick ∷ at 0 (i.Link (pos 1)) ∷ at 0 (i.Int (pos 21)) ∷ at 1 (i.Call (pos 1) (pos 1)) ∷ at 0 (i.Int (pos 20)) ∷ at 1 (i.Std (pos 40)) ∷ at 0 i.Tick ∷ at 1 (i.Std (pos 37)) ∷ at 0 (i.EndLevel (pos 0)) ∷ [])
+factorial_21_code = code (block kind.SubBlock 1 0 0 17 (type.Nothing) ([]) ([]) ∷ block kind.Procedure 2 2 0 1 (type.Integer) (type.Integer ∷ type.Integer ∷ []) (record { mode = by.Value; shape = shape.Simple; code_type = type.Integer; class = 0 } ∷ []) ∷ []) (at 0 (i.Jump (pos 17)) ∷ at 0 i.Tick ∷ at 0 (i.Load (pos 2) (pos 1)) ∷ at 0 (i.Int (pos 0)) ∷ at 1 (i.Rel (pos 2)) ∷ at 0 (i.JumpF (pos 8)) ∷ at 0 (i.Int (pos 1)) ∷ at 0 (i.Jump (pos 15)) ∷ at 0 (i.Load (pos 2) (pos 1)) ∷ at 0 (i.Link (pos 1)) ∷ at 0 (i.Load (pos 2) (pos 1)) ∷ at 0 (i.Int (pos 1)) ∷ at 1 i.Sub ∷ at 1 (i.Call (pos 1) (pos 1)) ∷ at 1 i.Mul ∷ at 0 (i.Store (pos 2) (pos 0)) ∷ at 0 i.Return ∷ at 1 (i.Jump (pos 18)) ∷ at 0 i.Tick ∷ at 0 (i.Link (pos 1)) ∷ at 0 (i.Int (pos 21)) ∷ at 1 (i.Call (pos 1) (pos 1)) ∷ at 0 (i.Int (pos 20)) ∷ at 1 (i.Std (pos 40)) ∷ at 0 i.Tick ∷ at 1 (i.Std (pos 37)) ∷ at 0 (i.EndLevel (pos 0)) ∷ [])
 
 abbrev pub factorial_166_code : CodeOf
-factorial_166_code = code (block kind.SubBlock 1 0 0 17 (type.Nothing) ([]) ([]) ∷ block kind.Procedure 2 2 0 1 (type.Integer) (type.Integer ∷ type.Nothing ∷ []) (record { mode = by.Value; shape = shape.Simple; code_type = type.Integer; class = 0 } ∷ []) ∷ []) (at 0 (i.Jump (pos 17)) ∷ at 0 i.Tick ∷ at 0 (i.Load (pos 2) (pos 1)) ∷ at 0 (i.Int (pos 0)) ∷ at 1 (i.Rel (pos 2)) ∷ at 0 (i.JumpF (pos 8)) ∷ at 0 (i.Int (pos 1)) ∷ at 0 (i.Jump (pos 15)) ∷ at 0 (i.Load (pos 2) (pos 1)) ∷ at 0 (i.Link (pos 1)) ∷ at 0 (i.Load (pos 2) (pos 1)) ∷ at 0 (i.Int (pos 1)) ∷ at 1 i.Sub ∷ at 1 (i.Call (pos 1) (pos 1)) ∷ at 1 i.Mul ∷ at 0 (i.Store (pos 2) (pos 0)) ∷ at 0 i.Return ∷ at 1 (i.Jump (pos 18)) ∷ at 0 i.Tick ∷ at 0 (i.Link (pos 1)) ∷ at 0 (i.Int (pos 166)) ∷ at 1 (i.Call (pos 1) (pos 1)) ∷ at 0 (i.Int (pos 20)) ∷ at 1 (i.Std (pos 40)) ∷ at 0 i.Tick ∷ at 1 (i.Std (pos 37)) ∷ at 0 (i.EndLevel (pos 0)) ∷ [])
+factorial_166_code = code (block kind.SubBlock 1 0 0 17 (type.Nothing) ([]) ([]) ∷ block kind.Procedure 2 2 0 1 (type.Integer) (type.Integer ∷ type.Integer ∷ []) (record { mode = by.Value; shape = shape.Simple; code_type = type.Integer; class = 0 } ∷ []) ∷ []) (at 0 (i.Jump (pos 17)) ∷ at 0 i.Tick ∷ at 0 (i.Load (pos 2) (pos 1)) ∷ at 0 (i.Int (pos 0)) ∷ at 1 (i.Rel (pos 2)) ∷ at 0 (i.JumpF (pos 8)) ∷ at 0 (i.Int (pos 1)) ∷ at 0 (i.Jump (pos 15)) ∷ at 0 (i.Load (pos 2) (pos 1)) ∷ at 0 (i.Link (pos 1)) ∷ at 0 (i.Load (pos 2) (pos 1)) ∷ at 0 (i.Int (pos 1)) ∷ at 1 i.Sub ∷ at 1 (i.Call (pos 1) (pos 1)) ∷ at 1 i.Mul ∷ at 0 (i.Store (pos 2) (pos 0)) ∷ at 0 i.Return ∷ at 1 (i.Jump (pos 18)) ∷ at 0 i.Tick ∷ at 0 (i.Link (pos 1)) ∷ at 0 (i.Int (pos 166)) ∷ at 1 (i.Call (pos 1) (pos 1)) ∷ at 0 (i.Int (pos 20)) ∷ at 1 (i.Std (pos 40)) ∷ at 0 i.Tick ∷ at 1 (i.Std (pos 37)) ∷ at 0 (i.EndLevel (pos 0)) ∷ [])
 
 abbrev pub value_array_code : CodeOf
 value_array_code = code (block kind.SubBlock 1 1 0 8 (type.Nothing) (type.Nothing ∷ []) ([]) ∷ block kind.Procedure 2 1 0 1 (type.Nothing) (type.Nothing ∷ []) (record { mode = by.Value; shape = shape.Array; code_type = type.Integer; class = 0 } ∷ []) ∷ []) (at 0 (i.Jump (pos 8)) ∷ at 0 i.Tick ∷ at 0 (i.Load (pos 2) (pos 0)) ∷ at 0 (i.Int (pos 1)) ∷ at 1 (i.Elem (pos 1) (pos 0)) ∷ at 0 (i.Int (pos 7)) ∷ at 0 i.Put ∷ at 0 i.Return ∷ at 1 (i.Jump (pos 9)) ∷ at 0 (i.Int (pos 1)) ∷ at 0 (i.Int (pos 1)) ∷ at 1 (i.Array (pos 1) (pos 1)) ∷ at 0 (i.Store (pos 1) (pos 0)) ∷ at 0 i.Tick ∷ at 0 (i.Link (pos 1)) ∷ at 0 (i.Load (pos 1) (pos 0)) ∷ at 1 i.CopyArr ∷ at 1 (i.Call (pos 1) (pos 1)) ∷ at 0 i.Tick ∷ at 0 (i.Load (pos 1) (pos 0)) ∷ at 0 (i.Int (pos 1)) ∷ at 1 (i.Elem (pos 1) (pos 0)) ∷ at 0 i.Fetch ∷ at 0 (i.Int (pos 2)) ∷ at 1 (i.Std (pos 40)) ∷ at 0 i.Tick ∷ at 1 (i.Std (pos 37)) ∷ at 0 (i.EndLevel (pos 0)) ∷ [])

@@ -3,7 +3,7 @@ ghost use Rattle.std.specs.Prelude.{◌≡◌, ◌+◌, IfOk};
 ghost use Rattle.codegen_expr.specs.Known.{Known};
 ghost use Rattle.codegen.specs.EmitProgram.{FrontClass, OwnEnd};
 
-use crate::records::{hide_connections, number};
+use crate::records::{hide_cells, number};
 use codegen_expr::{Cells, Draft, block_number, cell_count, cell_number, prefix_of};
 use sim_scope::Bound;
 use std::alloc::{AllocError, Global};
@@ -38,7 +38,7 @@ pub(crate) fn own_end(
     ensures { IfOk result (λ n. OwnEnd bound.now draft.now.classes text n) }
 {
     let mut hidden = Vec::new(alloc);
-    hide_connections(bound, text, &mut hidden)?;
+    hide_cells(bound, cells, text, &mut hidden)?;
     let count = number(hidden.len())?;
     let own = sum(cell_count(bound, cells, text), count)?;
     let end = cell_number(bound, cells, draft, text, own)?;

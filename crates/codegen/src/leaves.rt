@@ -20,13 +20,14 @@ fn result_of(scopes: &Scopes, declaration: DeclNo) -> Option<SimType>
     }
 }
 
-/// Whether a call of what is declared leaves a value, also where that is a procedure of SIMSET.
+/// Whether a call of what is declared leaves a value, also where that is a procedure of SIMSET or a formal parameter.
 #[tactic(auto, unfolding(sim_scope::specs::Source::source_of))]
 fn entry_leaves(bound: &Bound, declaration: DeclNo) -> bool
     ensures { result ≡ entry_leaves (source_of bound.now) declaration (entry_of (source_of bound.now).tables declaration) }
 {
     match entry_of(&bound.scopes, declaration) {
         Some(Entry::Attribute { result, .. }) => result.is_some(),
+        Some(Entry::Formal(formal)) => formal.ty.is_some(),
         _ => result_of(&bound.scopes, declaration).is_some(),
     }
 }

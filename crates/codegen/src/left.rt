@@ -39,7 +39,7 @@ pub(crate) enum Left<'a> {
         home: u32,
         place: u32,
     },
-    /// An attribute of an object, where it lies.
+    /// An attribute of an object, or an element of an array by name: where it lies is found anew.
     Attribute,
     /// A reference, which is held against its class.
     Reference,
@@ -154,7 +154,16 @@ fn find_formal<'a>(
     ensures { FindsFormal bound.now spot token declaration mode kind subscripts.now result }
 {
     match mode {
-        Mode::ByName => Left::NotBuilt,
+        Mode::ByName => match kind {
+            FormalKind::Array => {
+                if subscripts.len() == 0 {
+                    return Left::NotBuilt;
+                }
+                Left::Attribute
+            }
+            FormalKind::Simple => Left::NotBuilt,
+            FormalKind::Procedure => Left::NotBuilt,
+        },
         Mode::ByValue => match kind {
             FormalKind::Simple => find_variable(bound, cells, spot, declaration, subscripts),
             FormalKind::Array => find_element(bound, spot, token, declaration, subscripts),

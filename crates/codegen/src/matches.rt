@@ -7,7 +7,7 @@ ghost use Rattle.program_texts.specs.TextTrees.{AreTexts};
 ghost use Rattle.sim_meaning.specs.Virtuals.{match_in_text as match_in_text_of};
 ghost use Rattle.sim_scope.specs.Scopes.{entry_is, is_virtual as is_virtual_of};
 ghost use Rattle.sim_scope.specs.Source.{source_of};
-ghost use Rattle.codegen.specs.Compiled.{actual_lists as actual_lists_of, match_listed, some_actual as some_actual_of};
+ghost use Rattle.codegen.specs.Compiled.{match_listed};
 ghost use Rattle.codegen.specs.EmitMatches.{AreMatches, AreTextsOfClasses, AreVirtuals, class_if, joined, text_put, virtual_in};
 ghost use Rattle.codegen.specs.Planning.{has_number};
 
@@ -17,7 +17,7 @@ use crate::records::number;
 use codegen_expr::{Cells, Draft, block_number, block_of};
 use program_texts::TextTree;
 use sim_base::DeclNo;
-use sim_code::{ActualList, CodeActual, CodeType, Match};
+use sim_code::Match;
 use sim_scope::{Bound, Entry, entry_of, has_level};
 use std::alloc::{AllocError, Global};
 use virtual_match::{match_in, name_of};
@@ -163,33 +163,4 @@ pub(crate) fn texts_of_classes(
         put_text(&mut texts, class, text);
     }
     Ok(texts)
-}
-
-/// An actual parameter of which nothing is said.
-fn some_actual() -> CodeActual
-    ensures { result ≡ some_actual_of }
-{
-    CodeActual {
-        code_type: CodeType::Nothing,
-        variable: false,
-        array: CodeType::Nothing,
-        procedure: false,
-        result_type: CodeType::Nothing,
-        formals: 0,
-        class: 0,
-    }
-}
-
-/// The lists of actual parameters: one of none, and one of one.
-pub(crate) fn actual_lists(alloc: Global) -> Result<Vec<ActualList>, AllocError>
-    ensures { IfOk result (λ v. v.items ≡ actual_lists_of) }
-{
-    let mut one = Vec::new(alloc);
-    one.push(some_actual())?;
-    let mut lists = Vec::new(alloc);
-    lists.push(ActualList {
-        actuals: Vec::new(alloc),
-    })?;
-    lists.push(ActualList { actuals: one })?;
-    Ok(lists)
 }

@@ -124,8 +124,11 @@ fn measure_tree(
             )
         }
         TextTree::Connection => Ok(()),
-        // behind `inner` of the class `process` there are no more values
-        TextTree::Standard(StandardClass::Process) => emit_detached(bound, spot, draft),
+        // behind `inner` of the class `process` there are two values at most
+        TextTree::Standard(StandardClass::Process) => {
+            emit_detached(bound, spot, draft)?;
+            draft.make_room(1)
+        }
         TextTree::Standard(_) => Ok(()),
     }
 }

@@ -9,7 +9,7 @@ ghost use Rattle.codegen.specs.EmitProgram.{is_planned as is_planned_text};
 ghost use Rattle.codegen.specs.Planning.{AreBlank, AreTypesBehind, ChainOf, IsFront, IsPlan, NextClass, NoMarks, OwnOf, OwnTypes, PlannedBehind, PlansChain, PlansLevel, PlansText, PutsPlanned, has_number, is_done as is_block_done};
 
 use crate::measure::{Measured, measure_text};
-use crate::records::{cell_types, hide_connections, number, pad};
+use crate::records::{cell_types, hide_cells, number, pad};
 use codegen_expr::{Cells, Planned, block_number, cell_count, deeper, prefix_of};
 use program_texts::TextTree;
 use sim_base::DeclNo;
@@ -92,13 +92,15 @@ fn is_done(planning: &Planning, block: u32) -> bool
 fn own_of(
     alloc: Global,
     bound: &Bound,
+    cells: &Cells,
     text: u32,
     result_type: &Option<TypeName>,
 ) -> Result<Vec<CodeType>, AllocError>
+    requires cells { Known bound.now cells.now }
     ensures { IfOk result (λ v. OwnOf bound.now text result_type.now v.items) }
 {
     let mut types = cell_types(alloc, bound, text, result_type)?;
-    hide_connections(bound, text, &mut types)?;
+    hide_cells(bound, cells, text, &mut types)?;
     Ok(types)
 }
 
@@ -107,19 +109,21 @@ fn own_of(
 fn own_types(
     alloc: Global,
     bound: &Bound,
+    cells: &Cells,
     text: u32,
     tree: TextTree,
 ) -> Result<Vec<CodeType>, AllocError>
+    requires cells { Known bound.now cells.now }
     ensures { IfOk result (λ v. OwnTypes bound.now text tree.entry v.items) }
 {
     match tree {
-        TextTree::Block(_) => own_of(alloc, bound, text, &None),
-        TextTree::Procedure { result, .. } => own_of(alloc, bound, text, result),
-        TextTree::Class { .. } => own_of(alloc, bound, text, &None),
-        TextTree::ClassOfStatement { .. } => own_of(alloc, bound, text, &None),
-        TextTree::Prefixed { .. } => own_of(alloc, bound, text, &None),
-        TextTree::Connection => own_of(alloc, bound, text, &None),
-        TextTree::Standard(_) => own_of(alloc, bound, text, &None),
+        TextTree::Block(_) => own_of(alloc, bound, cells, text, &None),
+        TextTree::Procedure { result, .. } => own_of(alloc, bound, cells, text, result),
+        TextTree::Class { .. } => own_of(alloc, bound, cells, text, &None),
+        TextTree::ClassOfStatement { .. } => own_of(alloc, bound, cells, text, &None),
+        TextTree::Prefixed { .. } => own_of(alloc, bound, cells, text, &None),
+        TextTree::Connection => own_of(alloc, bound, cells, text, &None),
+        TextTree::Standard(_) => own_of(alloc, bound, cells, text, &None),
     }
 }
 
@@ -275,7 +279,7 @@ fn plan_text(
     ensures { OnOk result (PlansText bound.now planning.old planning.new text tree.entry) }
 {
     let measured = measure_text(alloc, bound, cells, declared, text, tree)?;
-    let own = own_types(alloc, bound, text, tree)?;
+    let own = own_types(alloc, bound, cells, text, tree)?;
     let count = cell_count(bound, cells, text);
     let class = next_class(planning.last, tree)?;
     let nothing = blank(alloc);

@@ -1,12 +1,12 @@
 //! Processes: which objects are processes, and the level of the class `process`.
 ghost use Rattle.std.specs.Prelude.{◌≡◌, IfOk, OnOk};
 ghost use Rattle.program_texts.specs.TextTrees.{AreTexts, text_in};
-ghost use Rattle.sim_meaning.specs.Levels.{end_line_of, is_process_text};
+ghost use Rattle.sim_meaning.specs.Levels.{is_process_text, last_line};
 ghost use Rattle.sim_scope.specs.Source.{source_of};
 ghost use Rattle.std.specs.Prelude.{Some};
 ghost use Rattle.codegen_expr.specs.Known.{Known};
-ghost use Rattle.codegen.specs.CodeStm.{is_class_text, is_subclass as is_subclass_of, subclasses as subclasses_of};
-ghost use Rattle.codegen.specs.EmitProcesses.{WritesDetached, WritesEnd, WritesEnds, WritesProcess};
+ghost use Rattle.codegen.specs.CodeStm.{is_class_text, is_subclass as is_subclass_of, means, origins as origins_of, subclasses as subclasses_of};
+ghost use Rattle.codegen.specs.EmitProcesses.{WritesDetached, WritesEnd, WritesEnds, WritesLastEnd, WritesOriginEnd, WritesOrigins, WritesProcess};
 ghost use Rattle.codegen.specs.EmitProgram.{WritesProcessText};
 
 use crate::class_texts::LevelHead;
@@ -16,8 +16,9 @@ use crate::levels::{emit_inner, next_instr};
 use crate::records::number;
 use crate::texts::Written;
 use codegen_expr::{
-    Cells, Draft, Spot, block_number, is_process, level_of, line_at, link_instr, member_instr,
-    spot_in, standard_instr, this_instr,
+    Cells, Draft, Spot, block_number, cell_number, class_at, integer_instr, is_process, level_of,
+    line_at, link_instr, load_instr, member_instr, origin_slot, spot_in, standard_instr,
+    this_instr,
 };
 use program_texts::TextTree;
 use sim_base::{Line, TokenNo};
@@ -53,7 +54,7 @@ pub(crate) fn has_process(bound: &Bound, cells: &Cells, text: u32) -> bool
 /// The line of the last token of a text.
 #[tactic(auto, unfolding(sim_scope::specs::Source::source_of))]
 fn end_line(bound: &Bound, text: u32) -> Line
-    ensures { result.0 ≡ end_line_of (source_of bound.now) (Some text) }
+    ensures { result.0 ≡ last_line (source_of bound.now) text }
 {
     match bound.scopes.blocks().get(text as usize) {
         Some(block) => line_at(bound, TokenNo(block.end().0.saturating_sub(1))),
@@ -151,23 +152,121 @@ fn emit_end(
     Ok(over)
 }
 
-/// The end of a process, by its class.
+/// Whether a token is that of an identifier that means a class.
+#[tactic(auto, using(crate::proofs::OriginEnds::meanings))]
+fn is_origin(bound: &Bound, cells: &Cells, class: u32, token: u32) -> bool
+    requires cells { Known bound.now cells.now }
+    ensures { result ≡ means (source_of bound.now) class token }
+{
+    match class_at(bound, cells, TokenNo(token)) {
+        Some(found) => found == class,
+        None => false,
+    }
+}
+
+/// The tokens at which a class is meant by its identifier. Time is linear in the number of tokens.
+fn origins(alloc: Global, bound: &Bound, cells: &Cells, class: u32) -> Result<Vec<u32>, AllocError>
+    requires cells { Known bound.now cells.now }
+    ensures { IfOk result (λ found. found.items ≡ origins_of (source_of bound.now) class) }
+{
+    let mut found = Vec::new(alloc);
+    for index in 0..bound.uses.len() {
+        let token = number(index)?;
+        if is_origin(bound, cells, class, token) {
+            found.push(token)?;
+        }
+    }
+    Ok(found)
+}
+
+/// The end of an object of `process` itself that keeps this token in a cell, but for the jump behind it. The answer is the place of the jump.
+#[tactic(auto, using(crate::proofs::OriginEnds::origin_ends))]
+fn emit_origin_end(
+    bound: &Bound,
+    cells: &Cells,
+    spot: Spot,
+    draft: &mut Draft,
+    around: u32,
+    place: u32,
+    token: u32,
+) -> Result<usize, AllocError>
+    requires cells { Known bound.now cells.now }
+    ensures { IfOk result (λ over. WritesOriginEnd bound.now spot around place token draft.old draft.new over) }
+{
+    let slot = cell_number(bound, cells, draft, spot.text, place)?;
+    draft.push(0, load_instr(level_of(bound, spot.text), slot), Line(0))?;
+    draft.push(1, integer_instr(token), Line(0))?;
+    draft.put(Instr::Rel(2), Line(0))?;
+    let jump = draft.here();
+    draft.leave_hole()?;
+    draft.push(0, link_instr(level_of(bound, around)), Line(0))?;
+    let line = line_at(bound, TokenNo(token.saturating_sub(1)));
+    draft.put(standard_instr(PASSIVATE), line)?;
+    let over = draft.here();
+    draft.leave_hole()?;
+    let start = draft.place()?;
+    draft.fill_in(jump, Instr::JumpF(start));
+    Ok(over)
+}
+
+/// The end of an object of `process` itself that keeps none of the tokens.
+#[tactic(auto, using(crate::proofs::OriginEnds::origin_ends))]
+fn emit_last_end(
+    bound: &Bound,
+    spot: Spot,
+    draft: &mut Draft,
+    around: u32,
+) -> Result<(), AllocError>
+    ensures { OnOk result (WritesLastEnd bound.now spot around draft.old draft.new) }
+{
+    draft.push(0, link_instr(level_of(bound, around)), Line(0))?;
+    draft.put(standard_instr(PASSIVATE), line_at(bound, TokenNo(0)))
+}
+
+/// The end of an object of `process` itself, by the token that it keeps in a cell.
+fn emit_origin_ends(
+    bound: &Bound,
+    cells: &Cells,
+    spot: Spot,
+    draft: &mut Draft,
+    around: u32,
+    place: u32,
+    tokens: &[u32],
+) -> Result<(), AllocError>
+    requires cells { Known bound.now cells.now }
+    ensures { OnOk result (WritesOrigins bound.now spot around place tokens.now draft.old draft.new) }
+{
+    let mut overs = Vec::new(draft.alloc());
+    for token in tokens {
+        let over = emit_origin_end(bound, cells, spot, draft, around, place, *token)?;
+        overs.push(over)?;
+    }
+    emit_last_end(bound, spot, draft, around)?;
+    let end = draft.place()?;
+    fill_all(draft, &overs, end);
+    Ok(())
+}
+
+/// The end of a process, by its class; an object of `process` itself keeps a token in a cell.
 fn emit_ends(
     bound: &Bound,
     cells: &Cells,
     spot: Spot,
     draft: &mut Draft,
     around: u32,
+    place: u32,
     classes: &[u32],
+    tokens: &[u32],
 ) -> Result<(), AllocError>
     requires cells { Known bound.now cells.now }
-    ensures { OnOk result (WritesEnds bound.now spot around classes.now draft.old draft.new) }
+    ensures { OnOk result (WritesEnds bound.now spot around place classes.now tokens.now draft.old draft.new) }
 {
     let mut overs = Vec::new(draft.alloc());
     for class in classes {
         let over = emit_end(bound, cells, spot, draft, around, *class)?;
         overs.push(over)?;
     }
+    emit_origin_ends(bound, cells, spot, draft, around, place, tokens)?;
     let end = draft.place()?;
     fill_all(draft, &overs, end);
     Ok(())
@@ -194,9 +293,11 @@ fn emit_process(
         return Ok(draft.here());
     };
     let classes = subclasses(alloc, bound, trees, spot.text)?;
+    let tokens = origins(alloc, bound, cells, spot.text)?;
+    let place = origin_slot(bound, cells, spot.text)?;
     emit_detached(bound, spot, draft)?;
     let after = emit_inner(draft, level)?;
-    emit_ends(bound, cells, spot, draft, around, &classes)?;
+    emit_ends(bound, cells, spot, draft, around, place, &classes, &tokens)?;
     Ok(after)
 }
 

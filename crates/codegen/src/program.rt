@@ -9,7 +9,7 @@ ghost use Rattle.codegen.specs.EmitMatches.{AreVirtuals};
 ghost use Rattle.codegen.specs.EmitRecords.{AreClasses, AreRecords, matches_in_class, record_with};
 ghost use Rattle.program_texts.specs.TextTrees.{AreTexts};
 
-use crate::matches::{actual_lists, matches_of, texts_of_classes, virtuals_of};
+use crate::matches::{matches_of, texts_of_classes, virtuals_of};
 use crate::plan::plan_texts;
 use crate::texts::{ClassAt, Written, emit_texts};
 use codegen_expr::{Cells, Draft, Planned};
@@ -143,8 +143,7 @@ pub fn compile(alloc: Global, bound: &Bound) -> Result<Code, AllocError>
     };
     emit_texts(alloc, bound, &cells, &declared, &mut written, &trees)?;
     let classes = classes_of(alloc, bound, &cells, &written, &trees)?;
-    let lists = actual_lists(alloc)?;
-    let (instrs, thunks) = written.draft.into_parts();
+    let (instrs, thunks, lists) = written.draft.into_parts();
     Ok(Code {
         texts,
         blocks: written.blocks,

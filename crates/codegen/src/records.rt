@@ -1,36 +1,24 @@
 //! Records of blocks: what the frames of a text hold.
 ghost use Rattle.std.specs.List.{list_any};
-ghost use Rattle.std.specs.Prelude.{◌≡◌, IfOk, OnOk, Some, map};
+ghost use Rattle.std.specs.Prelude.{◌≡◌, IfOk, OnOk, Some};
 ghost use Rattle.sim_code.specs.declared.code.CodeType.{CodeType as CodeTypeOf};
 ghost use Rattle.sim_meaning.specs.Entries.{numbers_of};
 ghost use Rattle.sim_meaning.specs.Texts.{has_class_in, is_class_free as is_class_free_of, is_class_kind as is_class_kind_of};
 ghost use Rattle.sim_scope.specs.Source.{source_of};
 ghost use Rattle.codegen_expr.specs.Known.{Known, is_hidden};
-ghost use Rattle.codegen.specs.Compiled.{code_formal as code_formal_of, code_mode as code_mode_of, code_shape as code_shape_of, type_of, type_of_cell, type_of_name as type_of_name_of};
-ghost use Rattle.codegen.specs.EmitProgram.{CellTypes, HidesConnections, Padded, PushesCell, PushesCells, PushesResult, class_inside, formals_by_kind, with_hidden};
+ghost use Rattle.codegen.specs.Compiled.{code_mode as code_mode_of, code_shape as code_shape_of, type_of_cell, type_of_name as type_of_name_of};
+ghost use Rattle.codegen.specs.EmitProgram.{CellTypes, FormalGiven, FormalsGiven, HidesCells, HidesConnections, Padded, PushesCell, PushesCells, PushesResult, class_inside, formals_by_kind, type_of_formal, type_of_simple, with_hidden};
 
 use crate::texts::Head;
-use codegen_expr::{Cells, class_parameters, formals_of_block, is_kept_in};
+use codegen_expr::{
+    Cells, Draft, class_or_none, class_parameters, code_type, formals_of_block, is_kept_in,
+    is_process, qualification,
+};
 use sim_base::DeclNo;
 use sim_code::{BlockKind as CodeBlock, CodeFormal, CodeMode, CodeType, FormalShape};
-use sim_scope::{Block, BlockKind, Bound, Entry, Formal, FormalKind, Mode, SimType, entry_of};
+use sim_scope::{Block, BlockKind, Bound, Entry, Formal, FormalKind, Mode, entry_of};
 use sim_tree::TypeName;
 use std::alloc::{AllocError, Global};
-
-/// The type of a value, as code has it.
-fn code_type(ty: Option<SimType>) -> CodeType
-    ensures { result ≡ type_of ty }
-{
-    match ty {
-        None => CodeType::Nothing,
-        Some(SimType::Integer) => CodeType::Integer,
-        Some(SimType::Boolean) => CodeType::Boolean,
-        Some(SimType::Character) => CodeType::Character,
-        Some(SimType::Text) => CodeType::Text,
-        Some(SimType::Ref(_)) => CodeType::Reference,
-        Some(SimType::NoneType) => CodeType::Reference,
-    }
-}
 
 /// The type of a result, as code has it.
 pub(crate) fn type_of_name(name: &Option<TypeName>) -> CodeType
@@ -43,6 +31,30 @@ pub(crate) fn type_of_name(name: &Option<TypeName>) -> CodeType
         Some(TypeName::Character(_)) => CodeType::Character,
         Some(TypeName::Text(_)) => CodeType::Text,
         Some(TypeName::Reference { .. }) => CodeType::Reference,
+    }
+}
+
+/// What the cell of a formal parameter holds at the entry: that of a simple one a value of its type, unless it is by name.
+#[tactic(auto, using(crate::proofs::Heads::formal_cells))]
+fn formal_cell(formal: Formal) -> CodeType
+    ensures { result ≡ type_of_formal formal.mode formal.kind formal.ty }
+{
+    match formal.mode {
+        Mode::ByName => CodeType::Nothing,
+        Mode::ByValue => simple_type(formal),
+        Mode::ByReference => simple_type(formal),
+    }
+}
+
+/// The type of a formal parameter, if it is simple.
+#[tactic(auto, using(crate::proofs::Heads::formal_cells))]
+fn simple_type(formal: Formal) -> CodeType
+    ensures { result ≡ type_of_simple formal.kind formal.ty }
+{
+    match formal.kind {
+        FormalKind::Simple => code_type(formal.ty),
+        FormalKind::Array => CodeType::Nothing,
+        FormalKind::Procedure => CodeType::Nothing,
     }
 }
 
@@ -64,8 +76,8 @@ fn push_cell(types: &mut Vec<CodeType>, entry: Option<Entry>) -> Result<(), Allo
             types.push(CodeType::Nothing)?;
             Ok(())
         }
-        Some(Entry::Formal(_)) => {
-            types.push(CodeType::Nothing)?;
+        Some(Entry::Formal(formal)) => {
+            types.push(formal_cell(formal))?;
             Ok(())
         }
         Some(Entry::Procedure { .. }) => Ok(()),
@@ -200,16 +212,31 @@ fn hide(bound: &Bound, block: u32, text: u32, types: &mut Vec<CodeType>) -> Resu
 }
 
 /// The cells of the connections that stand in a text, which hold nothing at the entry.
-pub(crate) fn hide_connections(
-    bound: &Bound,
-    text: u32,
-    types: &mut Vec<CodeType>,
-) -> Result<(), AllocError>
+fn hide_connections(bound: &Bound, text: u32, types: &mut Vec<CodeType>) -> Result<(), AllocError>
     ensures { OnOk result (HidesConnections bound.now types.old.items types.new.items text) }
 {
     for index in 0..bound.scopes.block_count() {
         let block = number(index)?;
         hide(bound, block, text, types)?;
+    }
+    Ok(())
+}
+
+/// All cells of a text that cost no words: those of connections, and of the class `process` that of an origin.
+#[tactic(auto, using(crate::proofs::Heads::origins))]
+pub(crate) fn hide_cells(
+    bound: &Bound,
+    cells: &Cells,
+    text: u32,
+    types: &mut Vec<CodeType>,
+) -> Result<(), AllocError>
+    requires cells { Known bound.now cells.now }
+    ensures { OnOk result (HidesCells bound.now types.old.items types.new.items text) }
+{
+    hide_connections(bound, text, types)?;
+    if is_process(bound, cells, text) {
+        types.push(CodeType::Integer)?;
+        return Ok(());
     }
     Ok(())
 }
@@ -244,14 +271,18 @@ fn code_shape(kind: FormalKind) -> FormalShape
     }
 }
 
-fn code_formal(formal: Formal) -> CodeFormal
-    ensures { result ≡ code_formal_of formal }
+/// A formal parameter as code has it.
+#[tactic(auto, using(crate::proofs::Heads::formals))]
+fn code_formal(bound: &Bound, cells: &Cells, draft: &Draft, formal: Formal) -> CodeFormal
+    requires cells { Known bound.now cells.now }
+    ensures { FormalGiven bound.now draft.now formal result }
 {
+    let class = class_or_none(bound, cells, draft, qualification(bound, cells, formal.ty));
     CodeFormal {
         mode: code_mode(formal.mode),
         shape: code_shape(formal.kind),
         code_type: code_type(formal.ty),
-        class: 0,
+        class,
     }
 }
 
@@ -274,15 +305,16 @@ pub(crate) fn code_formals(
     alloc: Global,
     bound: &Bound,
     cells: &Cells,
+    draft: &Draft,
     head: Head,
 ) -> Result<Vec<CodeFormal>, AllocError>
     requires cells { Known bound.now cells.now }
-    ensures { IfOk result (λ formals. formals.items ≡ map code_formal_of (formals_by_kind (source_of bound.now) head.kind head.text)) }
+    ensures { IfOk result (λ formals. FormalsGiven bound.now draft.now (formals_by_kind (source_of bound.now) head.kind head.text) formals.items) }
 {
     let mut formals = Vec::new(alloc);
     let list = formals_of_head(bound, cells, head);
     for formal in list {
-        formals.push(code_formal(*formal))?;
+        formals.push(code_formal(bound, cells, draft, *formal))?;
     }
     Ok(formals)
 }

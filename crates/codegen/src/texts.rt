@@ -82,7 +82,7 @@ pub(crate) fn add_block(
         return Err(AllocError);
     }
     let temps = rest_of(size, count)?;
-    let formals = code_formals(alloc, bound, cells, head)?;
+    let formals = code_formals(alloc, bound, cells, &written.draft, head)?;
     written.blocks.push(BlockRecord {
         kind: head.kind,
         level: level_of(bound, head.text),

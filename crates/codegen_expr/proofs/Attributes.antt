@@ -1,5 +1,5 @@
 -- What stands before a dot, and what behind it.
-use Rattle.std.proofs.Common.{◌≡◌, ◌≢◌, ◌<◌, ◌≤◌, ◌-◌, ℕ, zero, suc, Bool, false, List, [], ◌∷◌, length, map, drop, Bor, Option, Some, None, refl, sym, ap, ◌∙◌, subst, arith}
+use Rattle.std.proofs.Common.{◌≡◌, ◌≢◌, ◌<◌, ◌≤◌, ◌-◌, ℕ, zero, suc, Bool, true, false, List, [], ◌∷◌, length, map, drop, Bor, Option, Some, None, refl, sym, ap, ◌∙◌, subst, arith}
 use Rattle.std.specs.Prelude.{slice_index_or}
 use Rattle.std.specs.declared.alloc.Global.{Global}
 use Rattle.std.specs.declared.vec.Vec.{Vec}
@@ -16,7 +16,7 @@ use Rattle.sim_tree.specs.declared.expr.Selector.TheVariants as w
 use Rattle.sim_tree.specs.declared.operator.Operator.{Operator}
 use Rattle.sim_tree.specs.Syntax.{Constant, Binary, Dot, Expression, Expressions, If, Member, Named, New, Not, Parentheses, Qua, Signed, This, expressions}
 use Rattle.sim_tree.specs.SyntaxOf.{Cast, Selection, Tail, Take, expr_layer, factor_layer, factor_syntax, operand_layer, operand_syntax, selected, selector_layer, selector_syntax, syntax_of, term_layer, term_syntax}
-use Rattle.sim_meaning.specs.Closing.{is_attribute, is_attribute_denoted, is_image_behind, is_image_denoted, is_variable, is_variable_denoted, stream_denoted, stream_of, typed_token}
+use Rattle.sim_meaning.specs.Closing.{has_operands, is_attribute, is_attribute_denoted, is_image_behind, is_image_denoted, is_variable, is_variable_denoted, stream_denoted, stream_of, typed_token}
 use Rattle.codegen_expr.specs.declared.forms.Form.{Form}
 use Rattle.codegen_expr.specs.declared.forms.Form.TheVariants as form
 use Rattle.codegen_expr.specs.Emit.{moves_denoted, moves_next, moves_selection, takes_attribute, takes_image}
@@ -111,9 +111,9 @@ variable_other s (This i k) h = refl
 variable_other s (New i k args) h = absurd h
 variable_other s (Parentheses i a) h = refl
 
-pub variable_named_form : (b : Bound) (x : Expr) (f : Form) (k : Bor Identifier) (l : Bor (List Expr)) (o : Bool) (u : Option Denotation) → FindsForm f x → f ≡ form.Named k l → u ≡ denoted (source_of b) k.now.token.0 → ((es : Expressions) → o ≡ is_variable_denoted (source_of b) u es) → o ≡ is_variable (source_of b) (syntax_of x)
+pub variable_named_form : (b : Bound) (x : Expr) (f : Form) (k : Bor Identifier) (l : Bor (List Expr)) (o : Bool) (u : Option Denotation) → FindsForm f x → f ≡ form.Named k l → u ≡ denoted (source_of b) k.now.token.0 → o ≡ is_variable_denoted (source_of b) u (expressions (map syntax_of l.now)) → o ≡ is_variable (source_of b) (syntax_of x)
 unfolding is_variable
-variable_named_form b x f k l o u h is eu eo = eo (expressions (map syntax_of l.now)) ∙ ap (λ z. is_variable_denoted (source_of b) z (expressions (map syntax_of l.now))) eu ∙ sym (ap (is_variable (source_of b)) (form_at f (form.Named k l) x h is))
+variable_named_form b x f k l o u h is eu eo = eo ∙ ap (λ z. is_variable_denoted (source_of b) z (expressions (map syntax_of l.now))) eu ∙ sym (ap (is_variable (source_of b)) (form_at f (form.Named k l) x h is))
 
 pub variable_taken_form : (b : Bound) (x : Expr) (f : Form) (p : Bor Expr) (l : Bor (List Selector)) (o : Bool) → FindsForm f x → f ≡ form.Taken p l → (length l.now ≢ 0 → o ≡ is_variable (source_of b) (selected (syntax_of p.now) (map selector_syntax l.now))) → o ≡ is_variable (source_of b) (syntax_of x)
 variable_taken_form b x f p l o h is eo = let g = form_at f (form.Taken p l) x h is in eo g.1 ∙ sym (ap (is_variable (source_of b)) g.0)
@@ -244,9 +244,9 @@ attribute_new_form b x f h is = attribute_new (source_of b) (syntax_of x) (form_
 pub attribute_other_form : (b : Bound) (x : Expr) (f : Form) → FindsForm f x → f ≡ form.Other → false ≡ is_attribute (source_of b) (syntax_of x)
 attribute_other_form b x f h is = attribute_other (source_of b) (syntax_of x) (form_at f form.Other x h is)
 
-pub attribute_dot : (b : Bound) (y : Selector) (i : TokenNo) (k : Identifier) (args : Vec Expr Global) (u : Option Denotation) (r : Bool) → y ≡ w.Dot i k args → u ≡ denoted (source_of b) k.token.0 → ((es : Expressions) → r ≡ is_attribute_denoted (source_of b) u es) → r ≡ takes_attribute (source_of b) (selector_syntax y)
+pub attribute_dot : (b : Bound) (y : Selector) (i : TokenNo) (k : Identifier) (args : Vec Expr Global) (u : Option Denotation) (r : Bool) → y ≡ w.Dot i k args → u ≡ denoted (source_of b) k.token.0 → r ≡ is_attribute_denoted (source_of b) u (expressions (map syntax_of args.items)) → r ≡ takes_attribute (source_of b) (selector_syntax y)
 attribute_dot b y i k args u r ey eu er =
-    er (expressions (map syntax_of args.items)) ∙ ap (λ z. is_attribute_denoted (source_of b) z (expressions (map syntax_of args.items))) eu ∙ sym (ap (takes_attribute (source_of b)) (ap selector_syntax ey ∙ selector-Dot i k args))
+    er ∙ ap (λ z. is_attribute_denoted (source_of b) z (expressions (map syntax_of args.items))) eu ∙ sym (ap (takes_attribute (source_of b)) (ap selector_syntax ey ∙ selector-Dot i k args))
 
 pub attribute_qua : (b : Bound) (y : Selector) (i : TokenNo) (k : Identifier) → y ≡ w.Qua i k → false ≡ takes_attribute (source_of b) (selector_syntax y)
 attribute_qua b y i k ey = sym (ap (takes_attribute (source_of b)) (ap selector_syntax ey ∙ selector-Qua i k))
@@ -318,4 +318,12 @@ fewer_closings x f p h is =
 pub typed_closed : (x : Expr) (f : Form) (p : Bor Expr) (k : ℕ) → FindsForm f x → f ≡ form.Closed p → k ≡ typed_token (syntax_of p.now) → k ≡ typed_token (syntax_of x)
 typed_closed x f p k h is ek = ek ∙ sym (ap typed_token (form_at f (form.Closed p) x h is).1)
 
-pub ruleset dots = (stream_named_form, stream_taken_form, stream_closed_form, stream_other_form, stream_new_form, variable_named_form, variable_taken_form, variable_closed_form, variable_other_form, variable_new_form, image_of_several, image_of_stream, image_of_no_stream, image_of_cast, moves_dot, moves_qua, takes_dot, takes_qua, moves_there, moves_past, attribute_named_form, attribute_taken_form, attribute_closed_form, attribute_other_form, attribute_new_form, attribute_dot, attribute_qua, attribute_last, attribute_none)
+pub no_operands : (es : List Expr) → length es ≡ 0 → false ≡ has_operands (expressions (map syntax_of es))
+no_operands [] none = refl
+no_operands (e ∷ es) none = absurd (omega (arith, none))
+
+pub some_operands : (es : List Expr) → length es ≢ 0 → true ≡ has_operands (expressions (map syntax_of es))
+some_operands [] some' = absurd (some' refl)
+some_operands (e ∷ es) some' = refl
+
+pub ruleset dots = (no_operands, some_operands, stream_named_form, stream_taken_form, stream_closed_form, stream_other_form, stream_new_form, variable_named_form, variable_taken_form, variable_closed_form, variable_other_form, variable_new_form, image_of_several, image_of_stream, image_of_no_stream, image_of_cast, moves_dot, moves_qua, takes_dot, takes_qua, moves_there, moves_past, attribute_named_form, attribute_taken_form, attribute_closed_form, attribute_other_form, attribute_new_form, attribute_dot, attribute_qua, attribute_last, attribute_none)

@@ -1,5 +1,5 @@
 -- Standard names, and names of texts behind their text.
-use Rattle.std.proofs.Common.{◌≡◌, ◌+◌, ◌≢◌, ◌<◌, ◌-◌, ℕ, pos, suc, true, false, List, [], ◌∷◌, length, map, Option, Some, None, refl, sym, ap, ◌∙◌, subst, arith}
+use Rattle.std.proofs.Common.{◌≡◌, ◌+◌, ◌≢◌, ◌<◌, ◌-◌, ℕ, pos, suc, Bool, true, false, List, [], ◌∷◌, length, map, Option, Some, None, refl, sym, ap, ◌∙◌, subst, arith}
 use Rattle.std.specs.Prelude.{⊤, slice_get}
 use Rattle.sim_base.specs.declared.numbering.DeclNo.{DeclNo}
 use Rattle.sim_base.specs.declared.numbering.TokenNo.{TokenNo}
@@ -39,7 +39,7 @@ use Rattle.codegen_expr.specs.declared.spot.Spot.{Spot}
 use Rattle.codegen_expr.specs.Built.{AreBuilt, ConnectedBuilt, DeclaredPlaceBuilt, FormalPlaceBuilt, ImageNameBuilt, NamedPlaceBuilt, PlaceBehindBuilt, PlaceBuilt, StandardBuilt, ThroughBuilt, is_around, is_there, slot_in}
 use Rattle.codegen_expr.specs.CodeExpr.{ConnectedAt, DeclaredPlaceAt, ExprsAt, FormalPlaceAt, NameAt, NamedPlaceAt, PlaceBehindAt, StandardAt, ThroughAt, operands}
 use Rattle.codegen_expr.specs.Drafts.{DraftOf, Emits, given_up, planned_at, planned_in, planned_start, with_instr, with_push}
-use Rattle.codegen_expr.specs.Emit.{AloneAt, AloneBuilt, Numbered, OnImageIs, PutsPlace, SeenPlaceAt, SeenPlaceBuilt, WritesAlone, WritesBehind, WritesCellPlace, WritesElement, WritesImage, WritesList, WritesNamePlace, WritesNamedPlace, WritesPlace, WritesSeenPlace, WritesStandard, WritesUnconnectedPlace, WritesUse, is_named, seen_formal, seen_of}
+use Rattle.codegen_expr.specs.Emit.{AloneAt, AloneBuilt, Numbered, OnImageIs, PutsPlace, SeenPlaceAt, SeenPlaceBuilt, WritesAlone, WritesBehind, WritesCellPlace, WritesElement, WritesImage, WritesList, WritesNamePlace, WritesNamedElement, WritesNamedPlace, WritesPlace, WritesSeenPlace, WritesStandard, WritesUnconnectedPlace, WritesUse, is_named, seen_formal, seen_of}
 use Rattle.codegen_expr.specs.EmitObjects.{OfConnection, PutsBase, WritesPlaceBehind}
 use Rattle.codegen_expr.specs.Forms.{FindsForm, FormIs, IsOther}
 use Rattle.codegen_expr.specs.Sites.{At, HasCell, Inside, Pushes, Site, slot_of}
@@ -253,6 +253,20 @@ module _ (b : Bound) (w : Spot) (n : ℕ) where
   place_not_named a c class token d x [] is some' ec = absurd (some' refl)
   place_not_named a c class token d x (y ∷ ys) is some' ec = subst (Lies a c class token d (expressions (map syntax_of (y ∷ ys)))) (sym is) (emits_nothing w a c _ _ (λ z. z) ec)
 
+  pub place_named_element : (a c : DraftOf) (class : ℕ) (token : TokenNo) (d : DeclNo) (x : Seen) (es : List Expr) → x ≡ seen.NamedArray → length es ≢ 0 → WritesNamedElement b w n a c class token d es → WritesSeenPlace b w n a c class token d x es
+  unfolding WritesSeenPlace WritesNamedElement
+  place_named_element a c class token d x [] is some' f = absurd (some' refl)
+  place_named_element a c class token d x (y ∷ ys) is some' f = subst (Lies a c class token d (expressions (map syntax_of (y ∷ ys)))) (sym is) f
+
+  pub place_named_array : (a c : DraftOf) (class : ℕ) (token : TokenNo) (d : DeclNo) (x : Seen) (es : List Expr) → x ≡ seen.NamedArray → length es ≡ 0 → c ≡ given_up a → WritesSeenPlace b w n a c class token d x es
+  unfolding WritesSeenPlace
+  place_named_array a c class token d x [] is none ec = subst (Lies a c class token d NoMore) (sym is) (emits_nothing w a c _ _ (λ z. z) ec)
+  place_named_array a c class token d x (y ∷ ys) is none ec = absurd (omega (arith, none))
+
+  pub place_procedure : (a c : DraftOf) (class : ℕ) (token : TokenNo) (d : DeclNo) (x : Seen) (named : Bool) (es : List Expr) → x ≡ seen.Procedure named → c ≡ given_up a → WritesSeenPlace b w n a c class token d x es
+  unfolding WritesSeenPlace
+  place_procedure a c class token d x named es is ec = subst (Lies a c class token d (expressions (map syntax_of es))) (sym is) (emits_nothing w a c _ _ (λ z. z) ec)
+
   pub place_nothing : (a c : DraftOf) (class : ℕ) (token : TokenNo) (d : DeclNo) (x : Seen) (es : List Expr) → x ≡ seen.Nothing → c ≡ given_up a → WritesSeenPlace b w n a c class token d x es
   unfolding WritesSeenPlace
   place_nothing a c class token d x es is ec = subst (Lies a c class token d (expressions (map syntax_of es))) (sym is) (emits_nothing w a c _ _ (λ z. z) ec)
@@ -273,7 +287,7 @@ module _ (b : Bound) (w : Spot) (n : ℕ) where
     where
       formal : (m : Mode) (k : FormalKind)
           → Emits w a c (SeenPlaceBuilt (source_of b) w.text d (seen_formal m k) es O) (λ final site p q. SeenPlaceAt (source_of b) final site n line class d (seen_formal m k) es (A final site) p q)
-          → Emits w a c (FormalPlaceBuilt (source_of b) w.text d m k es O) (λ final site p q. FormalPlaceAt (source_of b) final site n line class d m k es (A final site) p q)
+          → Emits w a c (FormalPlaceBuilt (source_of b) w.text d k es O) (λ final site p q. FormalPlaceAt (source_of b) final site n line class d m k es (A final site) p q)
       formal mode.ByName shape.Simple f = f
       formal mode.ByName shape.Array f = f
       formal mode.ByName shape.Procedure f = f
@@ -347,4 +361,4 @@ module _ (b : Bound) (w : Spot) (n : ℕ) where
 pub ruleset behind = (alone_performed, alone_no_number, alone_other_number, behind_performed, behind_no_number, behind_no_operand, behind_other_number, image_itself, image_with_operands, image_of_text, image_nothing)
 
 -- where variables lie
-pub ruleset lies = (place_cell, place_no_slot, place_outside, place_variable, place_no_variable, place_element, place_array, place_constant, place_call, place_virtual, place_named, place_not_named, place_nothing, place_declared, place_standard, place_undeclared, place_through, place_unconnected)
+pub ruleset lies = (place_cell, place_no_slot, place_outside, place_variable, place_no_variable, place_element, place_array, place_constant, place_call, place_virtual, place_named, place_not_named, place_named_element, place_named_array, place_procedure, place_nothing, place_declared, place_standard, place_undeclared, place_through, place_unconnected)

@@ -1,6 +1,6 @@
 -- Parameters by name.
-use Rattle.std.proofs.Common.{◌≡◌, ◌≢◌, ◌+◌, ◌<◌, ℕ, zero, suc, ℤ, pos, Bool, true, false, List, [], ◌∷◌, length, map, Bor, Option, Some, None, refl, sym, ap, ◌∙◌, subst, arith}
-use Rattle.std.specs.Prelude.{⊤, slice_get}
+use Rattle.std.proofs.Common.{◌≡◌, ◌≢◌, ◌+◌, ◌<◌, ℕ, zero, suc, ℤ, pos, Bool, true, false, List, [], ◌∷◌, length, map, Bor, Option, Some, None, refl, sym, ap, ◌∙◌, subst}
+use Rattle.std.specs.Prelude.{⊤}
 use Rattle.sim_base.specs.declared.numbering.DeclNo.{DeclNo}
 use Rattle.sim_base.specs.declared.numbering.TokenNo.{TokenNo}
 use Rattle.sim_scope.specs.declared.bound.Bound.{Bound}
@@ -10,7 +10,7 @@ use Rattle.sim_scope.specs.Source.{Source, block_of, denoted, level_of, line_at,
 use Rattle.sim_tree.specs.declared.expr.Expr.{Expr}
 use Rattle.sim_tree.specs.declared.expr.Identifier.{Identifier}
 use Rattle.sim_tree.specs.declared.expr.Selector.{Selector}
-use Rattle.sim_tree.specs.Syntax.{Binary, Constant, Dot, Expression, Expressions, If, Member, Named, New, Not, Parentheses, Qua, Signed, This, expressions}
+use Rattle.sim_tree.specs.Syntax.{Binary, Constant, Dot, Expression, If, Member, Named, New, NoMore, Not, Parentheses, Qua, Signed, This, expressions}
 use Rattle.sim_tree.specs.SyntaxOf.{Cast, Selection, Take, selected, selector_syntax, syntax_of}
 use Rattle.sim_code.specs.declared.instr.Instr.{Instr}
 use Rattle.sim_code.specs.declared.instr.Instr.TheVariants as i
@@ -22,18 +22,19 @@ use Rattle.sim_meaning.specs.Pending.{Declared, ForPlace, ForValue, Use}
 use Rattle.codegen_expr.specs.declared.forms.Form.{Form}
 use Rattle.codegen_expr.specs.declared.forms.Form.TheVariants as form
 use Rattle.codegen_expr.specs.declared.spot.Spot.{Spot}
-use Rattle.codegen_expr.specs.Built.{IsBuilt, ObjectBuilt, PlaceBuilt, is_around, is_there, slot_in}
-use Rattle.codegen_expr.specs.CodeExpr.{ExprAt, ObjectAt, PlaceAt, class_given, class_or_none, class_unless, line_of_use, truth_number, use_instr}
+use Rattle.codegen_expr.specs.Built.{AreBuilt, IsBuilt, ObjectBuilt, PlaceBuilt, is_around, is_there, slot_in}
+use Rattle.codegen_expr.specs.CodeExpr.{ByNameAt, ExprAt, ExprsAt, ObjectAt, PlaceAt, class_given, class_or_none, class_unless, line_of_use, operands, truth_number, use_instr}
 use Rattle.codegen_expr.specs.Drafts.{DraftOf, Emits, class_of, filled_in, given_up, planned_start, thunk_begun, thunk_ended, with_hole, with_instr, with_push}
-use Rattle.codegen_expr.specs.Emit.{PutsPlace, Puts, ThunkGivesAt, Writes, WritesGiven, WritesName, WritesNamePlace, WritesPlace, WritesThunk, WritesUse}
+use Rattle.codegen_expr.specs.Emit.{GivenBuilt, PutsPlace, Puts, ThunkGivesAt, Writes, WritesGiven, WritesList, WritesName, WritesNamePlace, WritesNameWhole, WritesNamedElement, WritesPast, WritesPlace, WritesThunk, WritesUse}
+use Rattle.codegen_expr.specs.EmitVirtuals.{WritesProcedure}
 use Rattle.codegen_expr.specs.Forms.{FindsForm, IsNew, IsOther}
 use Rattle.codegen_expr.specs.Sites.{At, HasCell, Inside, block_number, slot_of}
 use Rattle.codegen_expr.specs.Thunks.{AsPlanned, ClassGiven, ClassOrNone, name_if}
 use Rattle.codegen_expr.proofs.Around.{inside}
 use Rattle.codegen_expr.proofs.Attributes.{form_at}
-use Rattle.codegen_expr.proofs.Pieces.{class_numbered, emits_as, emits_classed, emits_nothing, emits_push_at}
+use Rattle.codegen_expr.proofs.Pieces.{class_numbered, emits_as, emits_at, emits_classed, emits_nothing, emits_push_at, emits_then}
 use Rattle.codegen_expr.proofs.Slots.{slot_found, slot_within}
-use Rattle.codegen_expr.proofs.ThunkPieces.{emits_thunk}
+use Rattle.codegen_expr.proofs.ThunkPieces.{emits_past, emits_thunk}
 
 -- ---- which formal parameter an expression is
 
@@ -153,10 +154,10 @@ placed_taken_by : (s : Source) (x p : Expression) (l : List Selector) (o : Bool)
 placed_taken_by s x p [] o is some' eo = absurd (some' refl)
 placed_taken_by s x p (y ∷ ys) o is some' eo = eo ∙ placed_selected s p (selector_syntax y) (map selector_syntax ys) ∙ sym (ap (is_placed s) is)
 
-pub placed_named : (b : Bound) (x : Expr) (f : Form) (k : Bor Identifier) (l : Bor (List Expr)) (o : Bool) (u : Option Denotation) → FindsForm f x → f ≡ form.Named k l → u ≡ denoted (source_of b) k.now.token.0 → ((es : Expressions) → o ≡ is_attribute_denoted (source_of b) u es) → o ≡ is_placed (source_of b) (syntax_of x)
+pub placed_named : (b : Bound) (x : Expr) (f : Form) (k : Bor Identifier) (l : Bor (List Expr)) (o : Bool) (u : Option Denotation) → FindsForm f x → f ≡ form.Named k l → u ≡ denoted (source_of b) k.now.token.0 → o ≡ is_attribute_denoted (source_of b) u (expressions (map syntax_of l.now)) → o ≡ is_placed (source_of b) (syntax_of x)
 unfolding is_placed
 placed_named b x f k l o u h is eu eo =
-    eo (expressions (map syntax_of l.now)) ∙ ap (λ z. is_attribute_denoted (source_of b) z (expressions (map syntax_of l.now))) eu ∙ sym (ap (is_placed (source_of b)) (form_at f (form.Named k l) x h is))
+    eo ∙ ap (λ z. is_attribute_denoted (source_of b) z (expressions (map syntax_of l.now))) eu ∙ sym (ap (is_placed (source_of b)) (form_at f (form.Named k l) x h is))
 
 pub placed_taken : (b : Bound) (x : Expr) (f : Form) (p : Bor Expr) (l : Bor (List Selector)) (o : Bool) → FindsForm f x → f ≡ form.Taken p l → ((y : Expression) → length l.now ≢ 0 → o ≡ is_attribute (source_of b) (selected y (map selector_syntax l.now))) → o ≡ is_placed (source_of b) (syntax_of x)
 placed_taken b x f p l o h is eo = let g = form_at f (form.Taken p l) x h is in placed_taken_by (source_of b) (syntax_of x) (syntax_of p.now) l.now o g.0 g.1 (eo (syntax_of p.now) g.1)
@@ -244,6 +245,23 @@ module _ (b : Bound) (w : Spot) (n : ℕ) where
       clash : {p q r : ℤ} → i.NameAddr p q r ≡ i.Halt → ⊥
       clash h = cc
 
+  pub use_whole : (a c : DraftOf) (token : TokenNo) (d : DeclNo) (block k m v line : ℕ) (slot : Option ℕ) (x : Instr) → block ≡ block_of (source_of b) d → slot ≡ slot_in (source_of b) (block_of (source_of b) d) (Declared d.0) → slot ≡ Some k → is_around b.scopes (length b.scopes.blocks) w.text block ≡ true → v ≡ planned_start (source_of b) a.classes block + k
+      → m ≡ level_of (source_of b) block → x ≡ i.NameVal (pos m) (pos v) (pos 0) → line ≡ line_at (source_of b) token.0 → c ≡ with_push a n x line → WritesNameWhole b w n a c token d
+  unfolding WritesNameWhole source_of
+  use_whole a c token d block k m v line slot x eb es some around ev em ex el e =
+      let s = source_of b in
+      let found : slot_in s (block_of s d) (Declared d.0) ≡ Some k = sym es ∙ some in
+      let number : v ≡ planned_start s a.classes (block_of s d) + k = ev ∙ ap (λ z. planned_start s a.classes z + k) eb in
+      let there : is_around s.tables (length s.tables.blocks) w.text (block_of s d) ≡ true = ap (λ z. is_around s.tables (length s.tables.blocks) w.text z) (sym eb) ∙ around in
+      let is : x ≡ i.NameVal (pos (level_of s (block_of s d))) (pos v) (pos 0) = ex ∙ ap (λ z. i.NameVal (pos z) (pos v) (pos 0)) (em ∙ ap (level_of s) eb) in
+      let solid : x ≢ i.Halt = λ h. absurd (clash (sym is ∙ h)) in
+      used a c d (ForValue None (line_at s token.0)) k x found there
+      (λ final known. is ∙ ap (λ z. i.NameVal (pos (level_of s (block_of s d))) (pos z) (pos 0)) (slot_found s final a.classes (block_of s d) (Declared d.0) k v known found number))
+      solid (ap runs is) (e ∙ ap (with_push a n x) el)
+    where
+      clash : {p q r : ℤ} → i.NameVal p q r ≡ i.Halt → ⊥
+      clash h = cc
+
   no_use : (a c : DraftOf) (d : DeclNo) (wanted : Use) (slot : Option ℕ) → slot ≡ slot_in (source_of b) (block_of (source_of b) d) (Declared d.0) → slot ≡ None → c ≡ given_up a → WritesUse b w n a c d wanted
   unfolding WritesUse
   no_use a c d wanted slot es none ec = emits_nothing w a c _ _ (λ h. let k : true ≡ false = sym h.has ∙ ap is_there (sym es ∙ none) in cc) ec
@@ -269,28 +287,71 @@ module _ (b : Bound) (w : Spot) (n : ℕ) where
   unfolding WritesNamePlace
   use_outside a c value_too token d block eb out ec = not_around a c d _ block eb out ec
 
+  pub whole_no_slot : (a c : DraftOf) (token : TokenNo) (d : DeclNo) (slot : Option ℕ) → slot ≡ slot_in (source_of b) (block_of (source_of b) d) (Declared d.0) → slot ≡ None → c ≡ given_up a → WritesNameWhole b w n a c token d
+  unfolding WritesNameWhole
+  whole_no_slot a c token d slot es none ec = no_use a c d _ slot es none ec
+
+  pub whole_outside : (a c : DraftOf) (token : TokenNo) (d : DeclNo) (block : ℕ) → block ≡ block_of (source_of b) d → is_around b.scopes (length b.scopes.blocks) w.text block ≡ false → c ≡ given_up a → WritesNameWhole b w n a c token d
+  unfolding WritesNameWhole
+  whole_outside a c token d block eb out ec = not_around a c d _ block eb out ec
+
+  -- an element of an array by name
+  pub named_element : (a c0 c1 c : DraftOf) (token : TokenNo) (d : DeclNo) (es : List Expr) (m k class line : ℕ) (x : Instr) → m ≡ suc n → WritesNameWhole b w n a c0 token d → WritesList b w m c0 c1 es → k ≡ length es → x ≡ i.Elem (pos k) (pos class) → line ≡ line_at (source_of b) token.0 → c ≡ with_instr c1 x line → WritesNamedElement b w n a c class token d es
+  unfolding WritesNamedElement WritesNameWhole WritesUse WritesList
+  named_element a c0 c1 c token d es m k class line x em f g ek ex el ec =
+      let s = source_of b in
+      let xs = expressions (map syntax_of es) in
+      let g' = subst (λ z. Emits w c0 c1 (AreBuilt s w.text xs) (λ final site p q. ExprsAt s final site z xs p q)) em g in
+      let at : x ≡ i.Elem (pos (operands xs)) (pos class) = ex ∙ ap (λ z. i.Elem (pos z) (pos class)) (ek ∙ sym (count es)) in
+      emits_as w _ _ _ _ a c (λ t. (t.0, (t.1, tt))) (λ t. (t.0, t.1.0)) (λ final site p q _ _ r. record { x = r.0; y = r.2.0; array = r.1; subscripts = r.2.1; found = r.2.2 })
+      (emits_then w _ _ (λ z site p q. ByNameAt s z site n d NoMore (ForValue None (line_at s token.0)) p q) (λ z site p q. (y : ℕ) × ExprsAt s z site (suc n) xs p y × At z (i.Elem (pos (operands xs)) (pos class)) (line_at s token.0) y q) a c0 c f
+      (emits_then w _ _ (λ z site. ExprsAt s z site (suc n) xs) (λ z site. At z (i.Elem (pos (operands xs)) (pos class)) (line_at s token.0)) c0 c1 c g'
+      (emits_at w c1 c (i.Elem (pos (operands xs)) (pos class)) (line_at s token.0) (ec ∙ ap (λ z. with_instr c1 z line) at ∙ ap (λ z. with_instr c1 (i.Elem (pos (operands xs)) (pos class)) z) el) (λ z. cc) refl)))
+    where
+      count : (ys : List Expr) → operands (expressions (map syntax_of ys)) ≡ length ys
+      count [] = refl
+      count (y ∷ ys) = ap suc (count ys)
+
 -- ---- thunks
 
 module _ (b : Bound) (w : Spot) where
-  pub given_placed : (a c : DraftOf) (x : Expr) (o : Bool) (class : ℕ) → o ≡ is_placed (source_of b) (syntax_of x) → o ≡ true → ClassGiven b a x class → WritesPlace b w 0 a c class x → WritesGiven b w a c x
-  unfolding WritesGiven WritesPlace PutsPlace ClassGiven
-  given_placed a c x o class eo so f g =
+  -- what is given as no procedure
+  abbrev Other : (a c : DraftOf) → Expression → (placed : Bool) → Type 0
+  Other a c e z = Emits w a c (ObjectBuilt z (PlaceBuilt (source_of b) w.text e) (IsBuilt (source_of b) w.text e)) (λ final site p q. ObjectAt z (PlaceAt (source_of b) final site 0 (class_given (source_of b) final e) e) (ExprAt (source_of b) final site 0 e) p q)
+
+  other_given : (a c : DraftOf) (k : Bool) (x : Expr) (o : Bool) → k ≡ false → o ≡ is_placed (source_of b) (syntax_of x) → Other a c (syntax_of x) o → WritesGiven b w a c k x
+  unfolding WritesGiven
+  other_given a c k x o ek eo f =
+      subst (λ z. Emits w a c (GivenBuilt (source_of b) w.text z (syntax_of x)) (λ final site p q. ThunkGivesAt (source_of b) final site z (syntax_of x) p q)) (sym ek)
+      (subst (Other a c (syntax_of x)) eo f)
+
+  pub given_placed : (a c : DraftOf) (k : Bool) (x : Expr) (o : Bool) (class : ℕ) → k ≡ false → o ≡ is_placed (source_of b) (syntax_of x) → o ≡ true → ClassGiven b a x class → WritesPlace b w 0 a c class x → WritesGiven b w a c k x
+  unfolding WritesPlace PutsPlace ClassGiven
+  given_placed a c k x o class ek eo so f g =
       let s = source_of b in
       let e = syntax_of x in
-      subst (λ z. Emits w a c (ObjectBuilt z (PlaceBuilt s w.text e) (IsBuilt s w.text e)) (λ final site p q. ObjectAt z (PlaceAt s final site 0 (class_given s final e) e) (ExprAt s final site 0 e) p q)) (sym so ∙ eo)
-      (emits_classed w (PlaceBuilt s w.text e) (λ final site p q. PlaceAt s final site 0 class e p q) _ a c (λ final site p q known r. subst (λ z. PlaceAt s final site 0 z e p q) (f final known) r) g)
+      other_given a c k x o ek eo (subst (Other a c e) (sym so)
+      (emits_classed w (PlaceBuilt s w.text e) (λ final site p q. PlaceAt s final site 0 class e p q) _ a c (λ final site p q known r. subst (λ z. PlaceAt s final site 0 z e p q) (f final known) r) g))
 
-  pub given_value : (a c : DraftOf) (x : Expr) (o : Bool) → o ≡ is_placed (source_of b) (syntax_of x) → o ≡ false → Writes b w 0 a c x → WritesGiven b w a c x
-  unfolding WritesGiven Writes Puts
-  given_value a c x o eo so g =
-      let s = source_of b in
-      let e = syntax_of x in
-      subst (λ z. Emits w a c (ObjectBuilt z (PlaceBuilt s w.text e) (IsBuilt s w.text e)) (λ final site p q. ObjectAt z (PlaceAt s final site 0 (class_given s final e) e) (ExprAt s final site 0 e) p q)) (sym so ∙ eo) g
+  pub given_value : (a c : DraftOf) (k : Bool) (x : Expr) (o : Bool) → k ≡ false → o ≡ is_placed (source_of b) (syntax_of x) → o ≡ false → Writes b w 0 a c x → WritesGiven b w a c k x
+  unfolding Writes Puts
+  given_value a c k x o ek eo so g = other_given a c k x o ek eo (subst (Other a c (syntax_of x)) (sym so) g)
 
-  pub thunk_written : (n : ℕ) (c0 c1 c2 c3 c4 c5 c6 c7 : DraftOf) (x : Expr) (over outside number : ℕ) (end : ℤ) (y z : Instr) → over ≡ length c0.instrs → c1 ≡ with_hole c0 → outside ≡ c1.room → number ≡ length c1.thunks → c2 ≡ thunk_begun c1 → WritesGiven b w c2 c3 x
-      → c4 ≡ with_instr c3 i.EndThunk 0 → c5 ≡ thunk_ended c4 number outside → end ≡ pos (length c5.instrs) → y ≡ i.Jump end → c6 ≡ filled_in c5 over y → z ≡ i.Thunk (pos number) → c7 ≡ with_push c6 n z 0 → WritesThunk b w n c0 c7 x
-  unfolding WritesThunk WritesGiven
-  thunk_written n c0 c1 c2 c3 c4 c5 c6 c7 x over outside number end y z eo e1 eu en e2 f e4 e5 ee ey e6 ez e7 =
-      emits_thunk w n _ (λ final site p q. ThunkGivesAt (source_of b) final site (syntax_of x) p q) c0 c1 c2 c3 c4 c5 c6 c7 over outside number end eo e1 eu en e2 f e4 e5 ee (e6 ∙ ap (filled_in c5 over) ey) (e7 ∙ ap (λ v. with_push c6 n v 0) ez)
+  pub given_procedure : (a c : DraftOf) (k : Bool) (x : Expr) → k ≡ true → WritesProcedure b w 0 a c x → WritesGiven b w a c k x
+  unfolding WritesGiven WritesProcedure
+  given_procedure a c k x ek g = subst (λ z. Emits w a c (GivenBuilt (source_of b) w.text z (syntax_of x)) (λ final site p q. ThunkGivesAt (source_of b) final site z (syntax_of x) p q)) (sym ek) g
 
-pub ruleset thunks = (class_none, class_some, given_class, given_handed, given_placed, given_value, name_found, name_of_form, name_subscripted, no_name_closed, no_name_new, no_name_other, no_name_taken, placed_closed, placed_named, placed_new, placed_other, placed_taken, thunk_written, use_no_slot, use_outside, use_place, use_value, value_no_slot, value_outside)
+  pub past_written : (c0 c1 c2 c3 c4 c5 c6 : DraftOf) (k : Bool) (x : Expr) (over outside number : ℕ) (end : ℤ) (y : Instr) → over ≡ length c0.instrs → c1 ≡ with_hole c0 → outside ≡ c1.room → number ≡ length c1.thunks → c2 ≡ thunk_begun c1 → WritesGiven b w c2 c3 k x
+      → c4 ≡ with_instr c3 i.EndThunk 0 → c5 ≡ thunk_ended c4 number outside → end ≡ pos (length c5.instrs) → y ≡ i.Jump end → c6 ≡ filled_in c5 over y → WritesPast b w c0 c6 k x number
+  unfolding WritesPast WritesGiven
+  past_written c0 c1 c2 c3 c4 c5 c6 k x over outside number end y eo e1 eu en e2 f e4 e5 ee ey e6 =
+      emits_past w _ (λ final site p q. ThunkGivesAt (source_of b) final site k (syntax_of x) p q) c0 c1 c2 c3 c4 c5 c6 over outside number end eo e1 eu en e2 f e4 e5 ee (e6 ∙ ap (filled_in c5 over) ey)
+
+  pub thunk_written : (n : ℕ) (a c d : DraftOf) (k : Bool) (x : Expr) (number : ℕ) (z : Instr) → WritesPast b w a c k x number → z ≡ i.Thunk (pos number) → d ≡ with_push c n z 0 → WritesThunk b w n a d k x
+  unfolding WritesThunk WritesPast
+  thunk_written n a c d k x number z f ez ed =
+      emits_thunk w n _ (λ final site p q. ThunkGivesAt (source_of b) final site k (syntax_of x) p q) a c d number f (ed ∙ ap (λ v. with_push c n v 0) ez)
+
+pub ruleset elements = (named_element)
+
+pub ruleset thunks = (class_none, class_some, given_class, given_handed, given_placed, given_procedure, given_value, name_found, name_of_form, name_subscripted, no_name_closed, no_name_new, no_name_other, no_name_taken, past_written, placed_closed, placed_named, placed_new, placed_other, placed_taken, thunk_written, use_no_slot, use_outside, use_place, use_value, use_whole, value_no_slot, value_outside, whole_no_slot, whole_outside)

@@ -13,11 +13,12 @@ use Rattle.sim_scope.specs.Tables.{BlockOf, Tables}
 use Rattle.sim_tree.specs.declared.stmt.TypeName.{TypeName}
 use Rattle.sim_meaning.specs.Attributes.{cell_of_connection, first_in}
 use Rattle.sim_meaning.specs.Entries.{cells_from, first_cells, numbers_of, with_cell, with_result}
-use Rattle.sim_meaning.specs.Pending.{Connection, Held}
+use Rattle.sim_meaning.specs.Levels.{is_process_class, is_process_itself, is_standard_text}
+use Rattle.sim_meaning.specs.Pending.{Connection, Held, Origin}
 use Rattle.sim_meaning.specs.Texts.{BlockText, ClassText, ConnectionText, PrefixedText, ProcedureText, StandardText, Text, text}
 use Rattle.codegen_expr.specs.Built.{place_from, slot_in}
-use Rattle.codegen_expr.specs.Known.{is_hidden}
-use Rattle.codegen_expr.specs.Sites.{cells_in, connects, frame_text, frame_within, hidden_before, hidden_from, hidden_in, is_connected, outward_or}
+use Rattle.codegen_expr.specs.Known.{OriginSlot, is_hidden}
+use Rattle.codegen_expr.specs.Sites.{cells_in, connects, frame_text, frame_within, hidden_before, hidden_from, hidden_in, is_connected, origin_in, outward_or}
 use Rattle.codegen_expr.proofs.Around.{neq-eqb}
 
 -- ---- the walk outward
@@ -159,6 +160,72 @@ searched_over b k c n i block h f le eb eh not' =
 
 pub searched_end : (b : Bound) (k c n i : ℕ) → k ≡ frame_text (source_of b) c → Searched b k c n i → length b.scopes.blocks ≤ i → None ≡ slot_in (source_of b) (frame_text (source_of b) c) (cell_of_connection (source_of b) c)
 unfolding Searched
-searched_end b k c n i ek f le = sym (ap (λ z. slot_in (source_of b) z (cell_of_connection (source_of b) c)) (sym ek) ∙ f ∙ ap (λ z. place_from n (cell_of_connection (source_of b) c) (hidden_from (source_of b) k i z)) (drop_all i b.scopes.blocks le))
+searched_end b k c n i ek f le =
+    sym (ap (λ z. slot_in (source_of b) z (cell_of_connection (source_of b) c)) (sym ek) ∙ f ∙ ap (λ z. place_from n (cell_of_connection (source_of b) c) (hidden_from (source_of b) k i z)) (drop_all i b.scopes.blocks le) ∙ no_origin (is_process_itself (source_of b) k))
+  where
+    no_origin : (t : Bool) → place_from n (cell_of_connection (source_of b) c) (origin_in t) ≡ None
+    no_origin true = refl
+    no_origin false = refl
 
-pub ruleset frames = (frame_first, frame_on, frame_stops, frame_ends, frame_spent, kept_here, kept_nowhere, searched_first, searched_here, searched_past, searched_over, searched_end)
+-- ---- the place of an origin
+
+with_cells_behind : (d : DeclNo) (e : Option Entry) (n : ℕ) (hs rest : List Held) → ((i : ℕ) → place_from i Origin (hs ++ rest) ≡ place_from (i + length hs) Origin rest) → place_from n Origin (with_cell d e hs ++ rest) ≡ place_from (n + length (with_cell d e hs)) Origin rest
+with_cells_behind d None n hs rest f = f n
+with_cells_behind d (Some (entry.Variable type)) n hs rest f = f (suc n) ∙ (let e : suc n + length hs ≡ n + suc (length hs) = omega arith in ap (λ z. place_from z Origin rest) e)
+with_cells_behind d (Some (entry.Constant type)) n hs rest f = f (suc n) ∙ (let e : suc n + length hs ≡ n + suc (length hs) = omega arith in ap (λ z. place_from z Origin rest) e)
+with_cells_behind d (Some (entry.Array element dimensions)) n hs rest f = f (suc n) ∙ (let e : suc n + length hs ≡ n + suc (length hs) = omega arith in ap (λ z. place_from z Origin rest) e)
+with_cells_behind d (Some (entry.Formal x)) n hs rest f = f (suc n) ∙ (let e : suc n + length hs ≡ n + suc (length hs) = omega arith in ap (λ z. place_from z Origin rest) e)
+with_cells_behind d (Some (entry.Procedure result block)) n hs rest f = f n
+with_cells_behind d (Some (entry.Class block)) n hs rest f = f n
+with_cells_behind d (Some (entry.Virtual result own)) n hs rest f = f n
+with_cells_behind d (Some (entry.Unspecified written)) n hs rest f = f n
+with_cells_behind d (Some (entry.Attribute name parameter result)) n hs rest f = f n
+
+cells_behind : (s : Source) (rest : List Held) (ds : List DeclNo) (n : ℕ) → place_from n Origin (cells_from s ds ++ rest) ≡ place_from (n + length (cells_from s ds)) Origin rest
+cells_behind s rest [] n = let e : n ≡ n + 0 = omega arith in ap (λ z. place_from z Origin rest) e
+cells_behind s rest (d ∷ ds) n = with_cells_behind d (entry_of s.tables d) n (cells_from s ds) rest (cells_behind s rest ds)
+
+-- the class `process` has no result
+standard_cells : (s : Source) (k : ℕ) (x : Option Text) → is_standard_text is_process_class x ≡ true → cells_in s k x ≡ cells_from s (numbers_of s k)
+standard_cells s k (Some (StandardText which)) h = refl
+standard_cells s k (Some (BlockText begin ds ss)) h = absurd (cc)
+standard_cells s k (Some (ProcedureText result h' a)) h = absurd (cc)
+standard_cells s k (Some (ClassText prefix h' ds ss)) h = absurd (cc)
+standard_cells s k (Some (PrefixedText class arguments ds ss)) h = absurd (cc)
+standard_cells s k (Some ConnectionText) h = absurd (cc)
+standard_cells s k None h = absurd (cc)
+
+-- In a loop: behind the connections that are left, the next of which has this place, is that of an origin.
+unfoldable pub Counted : Bound → (text place done : ℕ) → Type 0
+Counted b k n i = is_process_itself (source_of b) k ≡ true → slot_in (source_of b) k Origin ≡ place_from n Origin (hidden_from (source_of b) k i (drop i b.scopes.blocks))
+
+pub counted_first : (b : Bound) (k n : ℕ) → n ≡ length (cells_in (source_of b) k (text (source_of b) k)) → Counted b k n 0
+unfolding Counted slot_in hidden_in source_of is_process_itself
+counted_first b k n en = λ is.
+    let s = source_of b in
+    let hs = hidden_from s k 0 b.scopes.blocks in
+    let cells : cells_in s k (text s k) ≡ cells_from s (numbers_of s k) = standard_cells s k (text s k) is in
+    let zero' : 0 + length (cells_from s (numbers_of s k)) ≡ n = (let z : 0 + length (cells_from s (numbers_of s k)) ≡ length (cells_from s (numbers_of s k)) = omega arith in z ∙ ap length (sym cells) ∙ sym en) in
+    ap (λ z. place_from 0 Origin (z ++ hs)) cells ∙ cells_behind s hs (numbers_of s k) 0 ∙ ap (λ z. place_from z Origin hs) zero'
+
+pub counted_past : (b : Bound) (k n m i block : ℕ) (h : Bool) → Counted b k n i → i < length b.scopes.blocks → block ≡ i → h ≡ is_hidden (source_of b) k block → h ≡ true → m ≡ suc n → Counted b k m (i + 1)
+unfolding Counted source_of
+counted_past b k n m i block h f le eb eh is em = λ process.
+    let s = source_of b in
+    let r = block_there b.scopes.blocks i le in
+    let next : suc i ≡ i + 1 = omega arith in
+    f process ∙ ap (place_from n Origin) (hidden_next b k i r.0 true r.1 r.2 (sym is ∙ eh ∙ ap (is_hidden s k) eb)) ∙ ap (λ z. place_from z Origin (hidden_from s k (suc i) (drop (suc i) b.scopes.blocks))) (sym em) ∙ ap (λ z. place_from m Origin (hidden_from s k z (drop z b.scopes.blocks))) next
+
+pub counted_over : (b : Bound) (k n i block : ℕ) (h : Bool) → Counted b k n i → i < length b.scopes.blocks → block ≡ i → h ≡ is_hidden (source_of b) k block → h ≡ false → Counted b k n (i + 1)
+unfolding Counted source_of
+counted_over b k n i block h f le eb eh not' = λ process.
+    let s = source_of b in
+    let r = block_there b.scopes.blocks i le in
+    let next : suc i ≡ i + 1 = omega arith in
+    f process ∙ ap (place_from n Origin) (hidden_next b k i r.0 false r.1 r.2 (sym not' ∙ eh ∙ ap (is_hidden s k) eb)) ∙ ap (λ z. place_from n Origin (hidden_from s k z (drop z b.scopes.blocks))) next
+
+pub counted_end : (b : Bound) (k n i : ℕ) → Counted b k n i → length b.scopes.blocks ≤ i → OriginSlot (source_of b) k n
+unfolding Counted OriginSlot
+counted_end b k n i f le = λ process. f process ∙ ap (λ z. place_from n Origin (hidden_from (source_of b) k i z)) (drop_all i b.scopes.blocks le) ∙ ap (λ z. place_from n Origin (origin_in z)) process
+
+pub ruleset frames = (counted_first, counted_past, counted_over, counted_end, frame_first, frame_on, frame_stops, frame_ends, frame_spent, kept_here, kept_nowhere, searched_first, searched_here, searched_past, searched_over, searched_end)

@@ -8,6 +8,7 @@ pub mod Texts
 pub mod Joins
 pub mod Written
 pub mod Matched
+pub mod OpenThunks
 pub mod ThunkPieces
 pub mod ByName
 pub mod Seen
@@ -17,3 +18,8 @@ pub mod SimulationProcedures
 pub mod Behind
 pub mod Places
 pub mod Taken
+pub mod ProcedureValues
+pub mod ProcedureForms
+pub mod ActualKinds
+pub mod Checked
+pub mod Origins

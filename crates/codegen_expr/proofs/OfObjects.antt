@@ -1,5 +1,5 @@
 -- Objects, what they have, and the classes that are named.
-use Rattle.std.proofs.Common.{◌≡◌, ◌+◌, ◌≢◌, ◌<◌, ◌≤◌, ℕ, pos, suc, Bool, List, [], ◌∷◌, length, map, Option, Some, None, true, false, refl, sym, ap, ◌∙◌, subst, arith}
+use Rattle.std.proofs.Common.{◌≡◌, ◌+◌, ◌≢◌, ◌<◌, ℕ, pos, suc, Bool, List, [], ◌∷◌, length, map, Option, Some, None, true, false, refl, sym, ap, ◌∙◌, subst, arith}
 use Rattle.std.specs.Prelude.{⊤, slice_get}
 use Rattle.sim_base.specs.declared.numbering.DeclNo.{DeclNo}
 use Rattle.sim_base.specs.declared.numbering.TokenNo.{TokenNo}
@@ -25,28 +25,28 @@ use Rattle.sim_code.specs.declared.instr.Instr.{Instr}
 use Rattle.sim_code.specs.declared.instr.Instr.TheVariants as i
 use Rattle.sim_code.specs.Code.{CodeOf}
 use Rattle.sim_code.specs.Running.{runs}
-use Rattle.sim_meaning.specs.Attributes.{attribute_formals, cell_of_connection, class_made, class_unless, is_bare_process, is_connection}
+use Rattle.sim_meaning.specs.Attributes.{attribute_formals, cell_of_connection, is_connection}
 use Rattle.sim_meaning.specs.Closing.{class_parameters, formals_at, formals_declared}
-use Rattle.sim_meaning.specs.Levels.{class_at}
-use Rattle.sim_meaning.specs.Pending.{Declared}
+use Rattle.sim_meaning.specs.Levels.{class_at, is_process_itself}
+use Rattle.sim_meaning.specs.Pending.{Declared, Origin}
 use Rattle.sim_meaning.specs.Texts.{constant_of, text}
 use Rattle.codegen_expr.specs.declared.operators.Seen.{Seen}
 use Rattle.codegen_expr.specs.declared.operators.Seen.TheVariants as seen
 use Rattle.codegen_expr.specs.declared.sets.SetProcedure.{SetProcedure}
 use Rattle.codegen_expr.specs.declared.spot.Spot.{Spot}
-use Rattle.codegen_expr.specs.Built.{ActualsBuilt, AreBuilt, ClassBuilt, ConstantBuilt, GenerationBuilt, IsBuilt, OfObjectBuilt, ParameterOfBuilt, ParameterPlaceOfBuilt, PlaceBehindBuilt, PlaceOfObjectBuilt, ThisFoundBuilt, ThisOfBuilt, is_around, is_there, slot_in}
-use Rattle.codegen_expr.specs.CodeExpr.{ActualsAt, AttributePlaceAt, ConstantAt, ExprAt, ExprsAt, GenerationAt, GivenAt, MemberAt, OfObjectAt, ParameterOfAt, ParameterPlaceOfAt, PlaceBehindAt, PlaceOfObjectAt, QuaAt, RemoteCallAt, ElementOfAt, SetAt, SetNamed, ThisFoundAt, ThisOfAt, member_instr, operands}
+use Rattle.codegen_expr.specs.Built.{ActualsBuilt, AreBuilt, StandsIn, ClassBuilt, ConstantBuilt, GenerationBuilt, IsBuilt, OfObjectBuilt, ParameterOfBuilt, ParameterPlaceOfBuilt, PlaceBehindBuilt, PlaceOfObjectBuilt, ThisFoundBuilt, ThisOfBuilt, is_around, is_there, slot_in}
+use Rattle.codegen_expr.specs.CodeExpr.{Checked, Listed, MatchAt, NewAt, OriginIfAt, Parameters, parameters_of, ActualsAt, AttributePlaceAt, ConstantAt, ExprAt, ExprsAt, GenerationAt, GivenAt, MemberAt, OfObjectAt, ParameterOfAt, ParameterPlaceOfAt, PlaceBehindAt, PlaceOfObjectAt, QuaAt, RemoteCallAt, ElementOfAt, SetAt, SetNamed, ThisFoundAt, ThisOfAt, member_instr, operands}
 use Rattle.codegen_expr.specs.Drafts.{DraftOf, Emits, class_of, given_up, planned_at, planned_in, planned_start, with_instr, with_push, with_temp}
 use Rattle.codegen_expr.specs.Emit.{Puts, WritesActuals, WritesConstant, WritesLink, WritesLinkTo, WritesList, attribute_seen, formals_of_block, parameter_seen}
-use Rattle.codegen_expr.specs.EmitObjects.{Base, BaseAt, BaseBuilt, OfConnection, PutsBase, SeenOfAt, SeenOfBuilt, SeenPlaceOfAt, SeenPlaceOfBuilt, WritesAttribute, WritesConstantOf, WritesElementOf, WritesFit, WritesGeneration, WritesMember, WritesNew, WritesObjectOf, WritesOf, WritesPlaceBehind, WritesPlaceOf, WritesQua, WritesSeenOf, WritesSeenPlaceOf, WritesThis}
+use Rattle.codegen_expr.specs.EmitObjects.{Base, BaseAt, BaseBuilt, OfConnection, PutsBase, SeenOfAt, SeenOfBuilt, SeenPlaceOfAt, SeenPlaceOfBuilt, WritesAttribute, WritesConstantOf, WritesElementOf, WritesFit, WritesGeneration, WritesMember, WritesNew, WritesObjectOf, WritesOf, WritesOrigin, WritesPlaceBehind, WritesPlaceOf, WritesQua, WritesSeenOf, WritesSeenPlaceOf, WritesThis}
 use Rattle.codegen_expr.specs.EmitSets.{WritesSet, set_procedure}
-use Rattle.codegen_expr.specs.EmitVirtuals.{WritesMatch}
+use Rattle.codegen_expr.specs.EmitVirtuals.{WritesMatch, WritesValueCall}
 use Rattle.codegen_expr.specs.Sites.{At, HasCell, Inside, Is, Pushes, Site, block_number, frame_text, slot_of}
 use Rattle.codegen_expr.proofs.Around.{inside}
 use Rattle.codegen_expr.proofs.Pieces.{class_numbered, emits_as, emits_at, emits_classed, emits_nothing, emits_push, emits_temp_behind, emits_temps, emits_then}
 use Rattle.codegen_expr.proofs.Seen.{block_formals, count}
 use Rattle.codegen_expr.proofs.Slots.{slot_found, slot_within}
-use Rattle.codegen_expr.proofs.Matched.{match_called}
+use Rattle.codegen_expr.proofs.Matched.{match_found}
 
 abbrev Part : Type 1
 Part = CodeOf → Site → ℕ → ℕ → Type 0
@@ -309,38 +309,50 @@ module _ (b : Bound) (w : Spot) (n : ℕ) where
       let s = source_of b in
       let es = expressions (map syntax_of ys) in
       let at : x ≡ i.Call (pos (block_number s block)) (pos (operands es)) = ex ∙ ap (λ z. i.Call (pos z) (pos j)) en ∙ ap (λ z. i.Call (pos (block_number s block)) (pos z)) (ej ∙ sym (count ys)) in
-      let g1 = subst (λ z. Emits w c0 c1 (ActualsBuilt s w.text es fs) (λ final site p q. ActualsAt s final site z (line_at s token.0) false es fs p q)) em g in
-      let g2 = subst (λ z. Emits w c0 c1 (ActualsBuilt s w.text es z) (λ final site p q. ActualsAt s final site (suc n) (line_at s token.0) false es z p q)) ef g1 in
+      let g1 = subst (λ z. Emits w c0 c1 (ActualsBuilt s w.text es (Listed fs)) (λ final site p q. ActualsAt s final site z (line_at s token.0) false es (Listed fs) p q)) em g in
+      let g2 = subst (λ z. Emits w c0 c1 (ActualsBuilt s w.text es (Listed z)) (λ final site p q. ActualsAt s final site (suc n) (line_at s token.0) false es (Listed z) p q)) ef g1 in
       subst (Has start c token d y es) (sym is)
       (emits_as w _ _ _ _ start c (λ t. (t.0, (tt, (t.1, tt)))) (λ t. (t.0, t.1.1.0)) (λ final site p q _ _ r. record { x = r.0; y = r.2.0; z = r.2.2.0; object = r.1; there = r.2.1; actuals = r.2.2.1; call = r.2.2.2 })
-      (emits_then w _ _ (λ z site p q. BaseAt s z site n y p q) (λ z site p q. (u : ℕ) × At z i.NotNone (line_at s token.0) p u × ((v : ℕ) × ActualsAt s z site (suc n) (line_at s token.0) false es (formals_of_block s block) u v × At z (i.Call (pos (block_number s block)) (pos (operands es))) (line_at s token.0) v q)) start a c h
-      (emits_then w _ _ (λ z site. At z i.NotNone (line_at s token.0)) (λ z site p q. (v : ℕ) × ActualsAt s z site (suc n) (line_at s token.0) false es (formals_of_block s block) p v × At z (i.Call (pos (block_number s block)) (pos (operands es))) (line_at s token.0) v q) a c0 c (emits_at w a c0 i.NotNone (line_at s token.0) (e0 ∙ ap (λ z. with_instr a i.NotNone z) el) (λ z. cc) refl)
-      (emits_then w _ _ (λ z site p q. ActualsAt s z site (suc n) (line_at s token.0) false es (formals_of_block s block) p q) (λ z site. At z (i.Call (pos (block_number s block)) (pos (operands es))) (line_at s token.0)) c0 c1 c g2
+      (emits_then w _ _ (λ z site p q. BaseAt s z site n y p q) (λ z site p q. (u : ℕ) × At z i.NotNone (line_at s token.0) p u × ((v : ℕ) × ActualsAt s z site (suc n) (line_at s token.0) false es (Listed (formals_of_block s block)) u v × At z (i.Call (pos (block_number s block)) (pos (operands es))) (line_at s token.0) v q)) start a c h
+      (emits_then w _ _ (λ z site. At z i.NotNone (line_at s token.0)) (λ z site p q. (v : ℕ) × ActualsAt s z site (suc n) (line_at s token.0) false es (Listed (formals_of_block s block)) p v × At z (i.Call (pos (block_number s block)) (pos (operands es))) (line_at s token.0) v q) a c0 c (emits_at w a c0 i.NotNone (line_at s token.0) (e0 ∙ ap (λ z. with_instr a i.NotNone z) el) (λ z. cc) refl)
+      (emits_then w _ _ (λ z site p q. ActualsAt s z site (suc n) (line_at s token.0) false es (Listed (formals_of_block s block)) p q) (λ z site. At z (i.Call (pos (block_number s block)) (pos (operands es))) (line_at s token.0)) c0 c1 c g2
       (emits_at w c1 c (i.Call (pos (block_number s block)) (pos (operands es))) (line_at s token.0) (ec ∙ ap (λ z. with_instr c1 z line2) at ∙ ap (λ z. with_instr c1 (i.Call (pos (block_number s block)) (pos (operands es))) z) el2) (λ z. cc) refl)))))
 
-  pub of_virtual : (a c : DraftOf) (token : TokenNo) (d : DeclNo) (k : Seen) (es : List Expr) → k ≡ seen.Virtual → WritesMatch b a c token d es → WritesSeenOf b w n a c token d k es
-  unfolding WritesSeenOf PutsBase
-  of_virtual a c token d k es is f start y h =
-      subst (Has start c token d y (expressions (map syntax_of es))) (sym is)
-      (match_called b w (BaseBuilt (source_of b) w.text y) (λ final site p q. BaseAt (source_of b) final site n y p q) start a c token d es h f)
+  pub of_virtual : (a c0 c : DraftOf) (token : TokenNo) (d : DeclNo) (k : Seen) (es : List Expr) → k ≡ seen.Virtual → WritesMatch b a c0 token d → WritesValueCall b w n c0 c token es → WritesSeenOf b w n a c token d k es
+  unfolding WritesSeenOf PutsBase WritesValueCall
+  of_virtual a c0 c token d k ys is f g start y h =
+      let s = source_of b in
+      let es = expressions (map syntax_of ys) in
+      subst (Has start c token d y es) (sym is)
+      (emits_as w _ _ _ _ start c (λ t. t) (λ t. t) (λ final site p q _ _ r. record { x = r.0; y = r.2.0; procedure = r.1; actuals = r.2.1; called = r.2.2 })
+      (emits_then w _ _ (λ final site p q. MatchAt final (line_at s token.0) d.0 (λ u v. BaseAt s final site n y u v) p q) (λ z site p q. (v : ℕ) × ActualsAt s z site (suc n) (line_at s token.0) false es Checked p v × At z (i.CallV (pos (operands es))) (line_at s token.0) v q) start c0 c
+      (match_found b w (BaseBuilt s w.text y) (λ final site p q. BaseAt s final site n y p q) start a c0 token d h f) g))
 
   pub of_named : (a c : DraftOf) (token : TokenNo) (d : DeclNo) (k : Seen) (es : List Expr) → k ≡ seen.Named → c ≡ given_up a → WritesSeenOf b w n a c token d k es
   unfolding WritesSeenOf PutsBase
   of_named a c token d k es is ec start y h = subst (Has start c token d y (expressions (map syntax_of es))) (sym is) (gives_up _ _ _ _ start a c h (λ t. t) ec)
 
+  pub of_named_array : (a c : DraftOf) (token : TokenNo) (d : DeclNo) (k : Seen) (es : List Expr) → k ≡ seen.NamedArray → c ≡ given_up a → WritesSeenOf b w n a c token d k es
+  unfolding WritesSeenOf PutsBase
+  of_named_array a c token d k es is ec start y h = subst (Has start c token d y (expressions (map syntax_of es))) (sym is) (gives_up _ _ _ _ start a c h (λ t. t) ec)
+
+  pub of_procedure : (a c : DraftOf) (token : TokenNo) (d : DeclNo) (k : Seen) (named : Bool) (es : List Expr) → k ≡ seen.Procedure named → c ≡ given_up a → WritesSeenOf b w n a c token d k es
+  unfolding WritesSeenOf PutsBase
+  of_procedure a c token d k named es is ec start y h = subst (Has start c token d y (expressions (map syntax_of es))) (sym is) (gives_up _ _ _ _ start a c h (λ t. t) ec)
+
   pub of_nothing : (a c : DraftOf) (token : TokenNo) (d : DeclNo) (k : Seen) (es : List Expr) → k ≡ seen.Nothing → c ≡ given_up a → WritesSeenOf b w n a c token d k es
   unfolding WritesSeenOf PutsBase
   of_nothing a c token d k es is ec start y h = subst (Has start c token d y (expressions (map syntax_of es))) (sym is) (gives_up _ _ _ _ start a c h (λ t. t) ec)
 
-  of_emits : (a c : DraftOf) (line : ℕ) (d : DeclNo) (k : Option Entry) (es : Expressions) (O P : Type 0) (A : List Formal → Type 0) (X I : Part) (B : CodeOf → Site → List Formal → ℕ → ℕ → Type 0) → k ≡ entry_of (source_of b).tables d → set_procedure k ≡ None
+  of_emits : (a c : DraftOf) (line : ℕ) (d : DeclNo) (k : Option Entry) (es : Expressions) (O P : Type 0) (A : Parameters → Type 0) (X I : Part) (B : CodeOf → Site → Parameters → ℕ → ℕ → Type 0) → k ≡ entry_of (source_of b).tables d → set_procedure k ≡ None
       → Emits w a c (SeenOfBuilt (source_of b) d (attribute_seen k) es O P A) (λ final site p q. SeenOfAt (source_of b) final site n line d (attribute_seen k) es (X final site) (I final site) (B final site) p q)
-      → Emits w a c (OfObjectBuilt (source_of b) d k es O P (A (formals_at (source_of b) d))) (λ final site p q. OfObjectAt (source_of b) final site n line d k es (X final site) (I final site) (B final site (formals_at (source_of b) d)) p q)
+      → Emits w a c (OfObjectBuilt (source_of b) d k es O P (A (parameters_of k (formals_at (source_of b) d)))) (λ final site p q. OfObjectAt (source_of b) final site n line d k es (X final site) (I final site) (B final site (parameters_of k (formals_at (source_of b) d))) p q)
   of_emits a c line d None es O P A X I B ek none f = f
   of_emits a c line d (Some (entry.Variable type)) es O P A X I B ek none f = f
   of_emits a c line d (Some (entry.Constant type)) es O P A X I B ek none f = f
   of_emits a c line d (Some (entry.Array element dimensions)) es O P A X I B ek none f = f
   of_emits a c line d (Some (entry.Procedure result block)) es O P A X I B ek none f =
-      subst (λ fs. Emits w a c (O × A fs) (λ final site p q. RemoteCallAt (source_of b) final line block es (X final site) (B final site fs) p q)) (block_formals (source_of b) d result block ek) f
+      subst (λ fs. Emits w a c (O × A (Listed fs)) (λ final site p q. RemoteCallAt (source_of b) final line block es (X final site) (B final site (Listed fs)) p q)) (block_formals (source_of b) d result block ek) f
   of_emits a c line d (Some (entry.Class text)) es O P A X I B ek none f = f
   of_emits a c line d (Some (entry.Virtual result own)) es O P A X I B ek none f = f
   of_emits a c line d (Some (entry.Unspecified written)) es O P A X I B ek none f = f
@@ -362,9 +374,9 @@ module _ (b : Bound) (w : Spot) (n : ℕ) where
       of_emits start c line d (entry_of s.tables d) es (BaseBuilt s w.text y) (AreBuilt s w.text es) (λ formals. ActualsBuilt s w.text es formals) (λ final site p q. BaseAt s final site n y p q) (λ final site p q. ExprsAt s final site (suc n) es p q) (λ final site formals p q. ActualsAt s final site (suc n) line false es formals p q) refl (ap set_procedure (sym ek) ∙ sym er ∙ none)
       (subst (Has start c token d y es) (ex ∙ ap attribute_seen ek) (f start y h))
 
-  set_emits : (a c : DraftOf) (line : ℕ) (d : DeclNo) (k : Option Entry) (x : SetProcedure) (es : Expressions) (O P : Type 0) (A : List Formal → Type 0) (X I : Part) (B : CodeOf → Site → List Formal → ℕ → ℕ → Type 0) → k ≡ entry_of (source_of b).tables d → set_procedure k ≡ Some x
-      → Emits w a c (O × SetNamed x.name x.result (operands es) × A (attribute_formals x.parameter)) (λ final site p q. SetAt final line x.name x.result es (X final site) (B final site (attribute_formals x.parameter)) p q)
-      → Emits w a c (OfObjectBuilt (source_of b) d k es O P (A (formals_at (source_of b) d))) (λ final site p q. OfObjectAt (source_of b) final site n line d k es (X final site) (I final site) (B final site (formals_at (source_of b) d)) p q)
+  set_emits : (a c : DraftOf) (line : ℕ) (d : DeclNo) (k : Option Entry) (x : SetProcedure) (es : Expressions) (O P : Type 0) (A : Parameters → Type 0) (X I : Part) (B : CodeOf → Site → Parameters → ℕ → ℕ → Type 0) → k ≡ entry_of (source_of b).tables d → set_procedure k ≡ Some x
+      → Emits w a c (O × SetNamed x.name x.result (operands es) × A (Listed (attribute_formals x.parameter))) (λ final site p q. SetAt final line x.name x.result es (X final site) (B final site (Listed (attribute_formals x.parameter))) p q)
+      → Emits w a c (OfObjectBuilt (source_of b) d k es O P (A (parameters_of k (formals_at (source_of b) d)))) (λ final site p q. OfObjectAt (source_of b) final site n line d k es (X final site) (I final site) (B final site (parameters_of k (formals_at (source_of b) d))) p q)
   set_emits a c line d None x es O P A X I B ek some f = absurd (cc)
   set_emits a c line d (Some (entry.Variable type)) x es O P A X I B ek some f = absurd (cc)
   set_emits a c line d (Some (entry.Constant type)) x es O P A X I B ek some f = absurd (cc)
@@ -376,8 +388,8 @@ module _ (b : Bound) (w : Spot) (n : ℕ) where
   set_emits a c line d (Some (entry.Formal y)) x es O P A X I B ek some f = absurd (cc)
   set_emits a c line d (Some (entry.Attribute name parameter result)) x es O P A X I B ek some f =
       let is : record { name = name; parameter = parameter; result = result } ≡ x = cc in
-      let f' = subst (λ z. Emits w a c (O × SetNamed z.name z.result (operands es) × A (attribute_formals z.parameter)) (λ final site p q. SetAt final line z.name z.result es (X final site) (B final site (attribute_formals z.parameter)) p q)) (sym is) f in
-      subst (λ fs. Emits w a c (O × SetNamed name result (operands es) × A fs) (λ final site p q. SetAt final line name result es (X final site) (B final site fs) p q)) (ap (formals_declared (source_of b) d) ek) f'
+      let f' = subst (λ z. Emits w a c (O × SetNamed z.name z.result (operands es) × A (Listed (attribute_formals z.parameter))) (λ final site p q. SetAt final line z.name z.result es (X final site) (B final site (Listed (attribute_formals z.parameter))) p q)) (sym is) f in
+      subst (λ fs. Emits w a c (O × SetNamed name result (operands es) × A (Listed fs)) (λ final site p q. SetAt final line name result es (X final site) (B final site (Listed fs)) p q)) (ap (formals_declared (source_of b) d) ek) f'
 
   pub of_set : (a c : DraftOf) (token : TokenNo) (d : DeclNo) (es : List Expr) (k : Option Entry) (r : Option SetProcedure) (x : SetProcedure) → k ≡ entry_of b.scopes d → r ≡ set_procedure k → r ≡ Some x → WritesSet b w n a c token x es → WritesOf b w n a c token d es
   unfolding WritesOf WritesSet source_of
@@ -430,6 +442,14 @@ module _ (b : Bound) (w : Spot) (n : ℕ) where
   pub lying_named : (a c : DraftOf) (class : ℕ) (token : TokenNo) (d : DeclNo) (k : Seen) (es : List Expr) → k ≡ seen.Named → c ≡ given_up a → WritesSeenPlaceOf b w n a c class token d k es
   unfolding WritesSeenPlaceOf PutsBase
   lying_named a c class token d k es is ec start y h = subst (LiesIn start c class token d y (expressions (map syntax_of es))) (sym is) (gives_up _ _ _ _ start a c h (λ t. t) ec)
+
+  pub lying_named_array : (a c : DraftOf) (class : ℕ) (token : TokenNo) (d : DeclNo) (k : Seen) (es : List Expr) → k ≡ seen.NamedArray → c ≡ given_up a → WritesSeenPlaceOf b w n a c class token d k es
+  unfolding WritesSeenPlaceOf PutsBase
+  lying_named_array a c class token d k es is ec start y h = subst (LiesIn start c class token d y (expressions (map syntax_of es))) (sym is) (gives_up _ _ _ _ start a c h (λ t. t) ec)
+
+  pub lying_procedure : (a c : DraftOf) (class : ℕ) (token : TokenNo) (d : DeclNo) (k : Seen) (named : Bool) (es : List Expr) → k ≡ seen.Procedure named → c ≡ given_up a → WritesSeenPlaceOf b w n a c class token d k es
+  unfolding WritesSeenPlaceOf PutsBase
+  lying_procedure a c class token d k named es is ec start y h = subst (LiesIn start c class token d y (expressions (map syntax_of es))) (sym is) (gives_up _ _ _ _ start a c h (λ t. t) ec)
 
   pub lying_nothing : (a c : DraftOf) (class : ℕ) (token : TokenNo) (d : DeclNo) (k : Seen) (es : List Expr) → k ≡ seen.Nothing → c ≡ given_up a → WritesSeenPlaceOf b w n a c class token d k es
   unfolding WritesSeenPlaceOf PutsBase
@@ -488,10 +508,10 @@ module _ (b : Bound) (w : Spot) (n : ℕ) where
   generated a c0 c1 c token y d k ys fs m j num l line x em f ef g ej en ek ex el ec =
       let s = source_of b in
       let es = expressions (map syntax_of ys) in
-      let ps = class_parameters s (Some k) in
+      let ps = Listed (class_parameters s (Some k)) in
       let at : x ≡ i.New (pos num) (pos (operands es)) = ex ∙ ap (λ z. i.New (pos num) (pos z)) (ek ∙ sym (count ys)) in
-      let g1 = subst (λ z. Emits w c0 c1 (ActualsBuilt s w.text es fs) (λ final site p q. ActualsAt s final site z (line_at s y.token.0) true es fs p q)) em g in
-      let g2 = subst (λ z. Emits w c0 c1 (ActualsBuilt s w.text es z) (λ final site p q. ActualsAt s final site (suc n) (line_at s y.token.0) true es z p q)) ef g1 in
+      let g1 = subst (λ z. Emits w c0 c1 (ActualsBuilt s w.text es (Listed fs)) (λ final site p q. ActualsAt s final site z (line_at s y.token.0) true es (Listed fs) p q)) em g in
+      let g2 = subst (λ z. Emits w c0 c1 (ActualsBuilt s w.text es (Listed z)) (λ final site p q. ActualsAt s final site (suc n) (line_at s y.token.0) true es (Listed z) p q)) ef g1 in
       let number : num ≡ class_of a.classes (block_number s k) = en ∙ ap (class_of c1.classes) ej ∙ ap (λ z. class_of z (block_number s k)) (g2.classed ∙ f.classed) in
       emits_classed w _ (λ final site p q. (u : ℕ) × (v : ℕ) × (Pushes final site n (i.Link (pos (level_of s (block_of s d)))) p u × Inside s.tables site.text (block_of s d)) × ActualsAt s final site (suc n) (line_at s y.token.0) true es ps u v × At final x (line_at s token.0) v q) _ a c
       (λ final site p q all r. record { x = r.0; y = r.1; link = r.2.0; inside = r.2.1; actuals = r.3; new = subst (λ z. At final z (line_at s token.0) r.1 q) (at ∙ ap (λ z. i.New (pos z) (pos (operands es))) (sym (class_numbered s final a.classes k num all number))) r.4 })
@@ -502,30 +522,43 @@ module _ (b : Bound) (w : Spot) (n : ℕ) where
 
   abbrev News : (a c : DraftOf) → TokenNo → Identifier → Expressions → Option Denotation → (class : Option ℕ) → Type 0
   News a c token y es o k =
-      Emits w a c (GenerationBuilt (source_of b) w.text o (class_made (source_of b) k) (ActualsBuilt (source_of b) w.text es (class_parameters (source_of b) k)))
-      (λ final site p q. GenerationAt (source_of b) final site n (line_at (source_of b) token.0) o (class_made (source_of b) k) es (λ u v. ActualsAt (source_of b) final site (suc n) (line_at (source_of b) y.token.0) true es (class_parameters (source_of b) k) u v) p q)
+      Emits w a c (GenerationBuilt (source_of b) w.text o k (ActualsBuilt (source_of b) w.text es (Listed (class_parameters (source_of b) k))))
+      (λ final site p q. GenerationAt (source_of b) final site n (line_at (source_of b) token.0) y.token.0 o k es (λ u v. ActualsAt (source_of b) final site (suc n) (line_at (source_of b) y.token.0) true es (Listed (class_parameters (source_of b) k)) u v) p q)
+
+  abbrev Generated : DeclNo → (class : ℕ) → TokenNo → Identifier → Expressions → Part
+  Generated d k token y es final site p q = NewAt (source_of b) final site n (line_at (source_of b) token.0) d k es (λ u v. ActualsAt (source_of b) final site (suc n) (line_at (source_of b) y.token.0) true es (Listed (class_parameters (source_of b) (Some k))) u v) p q
 
   -- of the class k, which is `process` itself where t holds
   abbrev NewsOf : (a c : DraftOf) → TokenNo → Identifier → Expressions → DeclNo → (class : ℕ) → Bool → Type 0
   NewsOf a c token y es d k t =
-      Emits w a c (GenerationBuilt (source_of b) w.text (Some (denotation.Declared d)) (class_unless t k) (ActualsBuilt (source_of b) w.text es (class_parameters (source_of b) (Some k))))
-      (λ final site p q. GenerationAt (source_of b) final site n (line_at (source_of b) token.0) (Some (denotation.Declared d)) (class_unless t k) es (λ u v. ActualsAt (source_of b) final site (suc n) (line_at (source_of b) y.token.0) true es (class_parameters (source_of b) (Some k)) u v) p q)
+      Emits w a c (StandsIn (source_of b) w.text (block_of (source_of b) d) × ActualsBuilt (source_of b) w.text es (Listed (class_parameters (source_of b) (Some k))))
+      (λ final site p q. OriginIfAt (source_of b) final site n (line_at (source_of b) token.0) y.token.0 k t (Generated d k token y es final site) p q)
 
   news_of : (a c : DraftOf) (token : TokenNo) (y : Identifier) (es : List Expr) (o : Option Denotation) (d : DeclNo) (r : Option ℕ) (k : ℕ) (t : Bool) → o ≡ denoted (source_of b) y.token.0 → o ≡ Some (denotation.Declared d) → r ≡ class_at (source_of b) y.token.0 → r ≡ Some k
-      → t ≡ is_bare_process (text (source_of b) k) → NewsOf a c token y (expressions (map syntax_of es)) d k t → WritesNew b w n a c token y es
+      → t ≡ is_process_itself (source_of b) k → NewsOf a c token y (expressions (map syntax_of es)) d k t → WritesNew b w n a c token y es
   unfolding WritesNew
   news_of a c token y ys o d r k t eo some er named et f =
       let es = expressions (map syntax_of ys) in
       subst (λ z. News a c token y es z (class_at (source_of b) y.token.0)) (sym some ∙ eo) (subst (News a c token y es (Some (denotation.Declared d))) (sym named ∙ er) (subst (NewsOf a c token y es d k) et f))
 
   pub new_declared : (a c : DraftOf) (token : TokenNo) (y : Identifier) (es : List Expr) (o : Option Denotation) (d : DeclNo) (r : Option ℕ) (k : ℕ) (t : Bool) → o ≡ denoted (source_of b) y.token.0 → o ≡ Some (denotation.Declared d) → r ≡ class_at (source_of b) y.token.0 → r ≡ Some k
-      → t ≡ is_bare_process (text (source_of b) k) → t ≡ false → WritesGeneration b w n a c token y d k es → WritesNew b w n a c token y es
+      → WritesGeneration b w n a c token y d k es → t ≡ is_process_itself (source_of b) k → t ≡ false → WritesNew b w n a c token y es
   unfolding WritesGeneration
-  new_declared a c token y ys o d r k t eo some er named et no' f = news_of a c token y ys o d r k t eo some er named et (subst (NewsOf a c token y (expressions (map syntax_of ys)) d k) (sym no') f)
+  new_declared a c token y ys o d r k t eo some er named f et no' = news_of a c token y ys o d r k t eo some er named et (subst (NewsOf a c token y (expressions (map syntax_of ys)) d k) (sym no') f)
 
-  pub new_process : (a c : DraftOf) (token : TokenNo) (y : Identifier) (es : List Expr) (o : Option Denotation) (d : DeclNo) (r : Option ℕ) (k : ℕ) (t : Bool) → o ≡ denoted (source_of b) y.token.0 → o ≡ Some (denotation.Declared d) → r ≡ class_at (source_of b) y.token.0 → r ≡ Some k
-      → t ≡ is_bare_process (text (source_of b) k) → t ≡ true → c ≡ given_up a → WritesNew b w n a c token y es
-  new_process a c token y ys o d r k t eo some er named et yes' ec = news_of a c token y ys o d r k t eo some er named et (subst (NewsOf a c token y (expressions (map syntax_of ys)) d k) (sym yes') (emits_nothing w a c _ _ (λ z. z) ec))
+  pub new_process : (a c0 c : DraftOf) (token : TokenNo) (y : Identifier) (es : List Expr) (o : Option Denotation) (d : DeclNo) (r : Option ℕ) (k : ℕ) (t : Bool) → o ≡ denoted (source_of b) y.token.0 → o ≡ Some (denotation.Declared d) → r ≡ class_at (source_of b) y.token.0 → r ≡ Some k
+      → WritesGeneration b w n a c0 token y d k es → t ≡ is_process_itself (source_of b) k → t ≡ true → WritesOrigin b w n c0 c token y.token k → WritesNew b w n a c token y es
+  unfolding WritesGeneration WritesOrigin
+  new_process a c0 c token y ys o d r k t eo some er named f et yes' g =
+      let s = source_of b in
+      let es = expressions (map syntax_of ys) in
+      let line = line_at s token.0 in
+      news_of a c token y ys o d r k t eo some er named et (subst (NewsOf a c token y es d k) (sym yes')
+      (emits_as w _ _ _ _ a c (λ h. (h, tt)) (λ h. h.0)
+      (λ final site p q _ _ r. record { x = r.0; y = r.2.1; z = r.2.2; w = r.2.3; new = r.1; again = r.2.4; address = r.2.5; token_pushed = r.2.6; put = r.2.7; within = r.2.0 })
+      (emits_then w _ ⊤ (Generated d k token y es)
+      (λ final site p q. (HasCell s k Origin) × (x : ℕ) × (z : ℕ) × (v : ℕ) × Pushes final site (suc n) i.Dup p x × At final (i.AddrR (pos (slot_of s final k Origin)) (pos 0)) line x z × Pushes final site (suc (suc n)) (i.Int (pos y.token.0)) z v × Is final i.Put v q)
+      a c0 c f (g (sym et ∙ yes')))))
 
   pub new_no_class : (a c : DraftOf) (token : TokenNo) (y : Identifier) (es : List Expr) (o : Option Denotation) (d : DeclNo) (r : Option ℕ) → o ≡ denoted (source_of b) y.token.0 → o ≡ Some (denotation.Declared d) → r ≡ class_at (source_of b) y.token.0 → r ≡ None → c ≡ given_up a → WritesNew b w n a c token y es
   unfolding WritesNew
@@ -543,4 +576,4 @@ module _ (b : Bound) (w : Spot) (n : ℕ) where
 
 pub ruleset leaves = (connected_load, connected_no_slot, connected_outside, object_pushed, object_outside, this_connected, this_object, this_nowhere, attribute_found, attribute_no_slot, constant_read, constant_no_slot, member_named, member_unnamed, qua_named, qua_unnamed, fitted)
 
-pub ruleset objects = (element_of, of_variable, of_no_variable, of_constant, of_no_constant, of_array, of_element, of_call, of_virtual, of_named, of_nothing, of_declared, of_set, lying_variable, lying_no_variable, lying_element, lying_array, lying_constant, lying_call, lying_virtual, lying_named, lying_nothing, lying_declared, behind_declared, behind_standard, behind_undeclared, generated, new_declared, new_process, new_no_class, new_standard, new_undeclared)
+pub ruleset objects = (element_of, of_variable, of_no_variable, of_constant, of_no_constant, of_array, of_element, of_call, of_virtual, of_named, of_named_array, of_procedure, of_nothing, of_declared, of_set, lying_variable, lying_no_variable, lying_element, lying_array, lying_constant, lying_call, lying_virtual, lying_named, lying_named_array, lying_procedure, lying_nothing, lying_declared, behind_declared, behind_standard, behind_undeclared, generated, new_declared, new_process, new_no_class, new_standard, new_undeclared)

@@ -12,7 +12,7 @@ use Rattle.sim_code.specs.Running.{AllRun, runs}
 use Rattle.codegen_expr.specs.declared.spot.Spot.{Spot}
 use Rattle.sim_scope.specs.Source.{Source}
 use Rattle.codegen_expr.specs.Sites.{At, IfAt, Pushes, Site, block_number, class_number, lined, WhenAt, LoopAt}
-use Rattle.codegen_expr.specs.Drafts.{Becomes, DraftOf, PlannedOf, Emits, Grows, Longer, ThunksGrow, class_of, filled_in, given_up, planned_at, planned_in, with_hole, with_instr, with_push, with_room, with_temp}
+use Rattle.codegen_expr.specs.Drafts.{Becomes, DraftOf, PlannedOf, Emits, Grows, Longer, MoreThunks, ThunksGrow, class_of, filled_in, given_up, open_thunk, planned_at, planned_in, with_hole, with_instr, with_push, with_room, with_temp}
 
 pub set_len : {A : Type 0} (xs : List A) (i : ℕ) (v : A) → length (slice_set xs i v) ≡ length xs
 set_len [] i v = refl
@@ -56,20 +56,33 @@ grows_front a b f = record { keeps = λ k x is _. subst (λ l. slice_get l k ≡
 pub fronts_le : (a b : List Lined) → Fronts a b → length a ≤ length b
 fronts_le a b f = let e : length b ≡ length a + length f.0 = ap length f.1 ∙ length-append a f.0 in omega arith
 
--- lists of thunks
-pub more_same : {a b : List ThunkRecord} → b ≡ a → Longer a b
-more_same {a} {b} e = record { more = []; front = e ∙ sym (append-nil a) }
+-- longer lists
+pub more_same : {A : Type 0} {a b : List A} → b ≡ a → Longer a b
+more_same {A} {a} {b} e = record { more = []; front = e ∙ sym (append-nil a) }
 
-pub more_then : {a b c : List ThunkRecord} → Longer a b → Longer b c → Longer a c
-more_then {a} {b} {c} f g = record { more = f.more ++ g.more; front = g.front ∙ ap (λ z. z ++ g.more) f.front ∙ append_assoc a f.more g.more }
+pub more_then : {A : Type 0} {a b c : List A} → Longer a b → Longer b c → Longer a c
+more_then {A} {a} {b} {c} f g = record { more = f.more ++ g.more; front = g.front ∙ ap (λ z. z ++ g.more) f.front ∙ append_assoc a f.more g.more }
 
-pub more_before : {a b c : List ThunkRecord} → b ≡ a → Longer b c → Longer a c
-more_before {a} {b} {c} e f = record { more = f.more; front = f.front ∙ ap (λ z. z ++ f.more) e }
+pub more_before : {A : Type 0} {a b c : List A} → b ≡ a → Longer b c → Longer a c
+more_before {A} {a} {b} {c} e f = record { more = f.more; front = f.front ∙ ap (λ z. z ++ f.more) e }
 
-pub more_behind : {a b c : List ThunkRecord} → c ≡ b → Longer a b → Longer a c
-more_behind {a} {b} {c} e f = record { more = f.more; front = e ∙ f.front }
+pub more_behind : {A : Type 0} {a b c : List A} → c ≡ b → Longer a b → Longer a c
+more_behind {A} {a} {b} {c} e f = record { more = f.more; front = e ∙ f.front }
 
-pub thunks_grow : (a b c : List ThunkRecord) → Longer a b → ThunksGrow b c → ThunksGrow a c
+-- further thunks
+pub still_same : {a b : List ThunkRecord} → b ≡ a → MoreThunks a b
+still_same {a} {b} e = record { more = []; front = e ∙ sym (append-nil a); opened = ap open_thunk e }
+
+pub still_then : {a b c : List ThunkRecord} → MoreThunks a b → MoreThunks b c → MoreThunks a c
+still_then {a} {b} {c} f g = record { more = f.more ++ g.more; front = g.front ∙ ap (λ z. z ++ g.more) f.front ∙ append_assoc a f.more g.more; opened = g.opened ∙ f.opened }
+
+pub still_before : {a b c : List ThunkRecord} → b ≡ a → MoreThunks b c → MoreThunks a c
+still_before {a} {b} {c} e f = record { more = f.more; front = f.front ∙ ap (λ z. z ++ f.more) e; opened = f.opened ∙ ap open_thunk e }
+
+pub still_behind : {a b c : List ThunkRecord} → c ≡ b → MoreThunks a b → MoreThunks a c
+still_behind {a} {b} {c} e f = record { more = f.more; front = e ∙ f.front; opened = ap open_thunk e ∙ f.opened }
+
+pub thunks_grow : (a b c : List ThunkRecord) → MoreThunks a b → ThunksGrow b c → ThunksGrow a c
 thunks_grow a b c f g = record { keeps = λ k x is some'. g.keeps k x (subst (λ l. slice_get l k ≡ Some x) (sym f.front) (get_front a f.more k x is)) some' }
 
 -- a write past the front
@@ -140,20 +153,21 @@ pub record Later (a b : DraftOf) : Type 0 where
   pub roomier : a.room ≤ b.room
   pub larger : a.size ≤ b.size
   pub classed : b.classes ≡ a.classes
-  pub thunked : Longer a.thunks b.thunks
+  pub thunked : MoreThunks a.thunks b.thunks
+  pub listed : Longer a.lists b.lists
 
 pub later_then : (a b c : DraftOf) → Later a b → Later b c → Later a c
-later_then a b c f g = record { front = fronts_then a.instrs b.instrs c.instrs f.front g.front; roomier = (let ab = f.roomier in let bc = g.roomier in omega (arith, ab, bc)); larger = (let ab = f.larger in let bc = g.larger in omega (arith, ab, bc)); classed = g.classed ∙ f.classed; thunked = more_then f.thunked g.thunked }
+later_then a b c f g = record { front = fronts_then a.instrs b.instrs c.instrs f.front g.front; roomier = (let ab = f.roomier in let bc = g.roomier in omega (arith, ab, bc)); larger = (let ab = f.larger in let bc = g.larger in omega (arith, ab, bc)); classed = g.classed ∙ f.classed; thunked = still_then f.thunked g.thunked; listed = more_then f.listed g.listed }
 
 pub later_emits : (t : Spot) (a b : DraftOf) (P : Type 0) (H : CodeOf → Site → ℕ → ℕ → Type 0) → Emits t a b P H → Later a b
-later_emits t a b P H e = record { front = (e.rest, e.front); roomier = e.roomier; larger = e.larger; classed = e.classed; thunked = e.thunked }
+later_emits t a b P H e = record { front = (e.rest, e.front); roomier = e.roomier; larger = e.larger; classed = e.classed; thunked = e.thunked; listed = e.listed }
 
 le_same : (m n : ℕ) → n ≡ m → m ≤ n
 le_same m n e = omega (arith, e)
 
 pub later_hole : (a b : DraftOf) → b ≡ with_hole a → Later a b
 unfolding with_hole
-later_hole a b e = record { front = (lined i.Halt 0 ∷ [], ap (λ z. z.instrs) e); roomier = le_same a.room b.room (ap (λ z. z.room) e); larger = le_same a.size b.size (ap (λ z. z.size) e); classed = ap (λ z. z.classes) e; thunked = more_same (ap (λ z. z.thunks) e) }
+later_hole a b e = record { front = (lined i.Halt 0 ∷ [], ap (λ z. z.instrs) e); roomier = le_same a.room b.room (ap (λ z. z.room) e); larger = le_same a.size b.size (ap (λ z. z.size) e); classed = ap (λ z. z.classes) e; thunked = still_same (ap (λ z. z.thunks) e); listed = more_same (ap (λ z. z.lists) e) }
 
 -- what the earlier one becomes is what the later one becomes
 pub becomes_later : (t : Spot) (a b : DraftOf) (final : CodeOf) (site : Site) → Later a b → Becomes t b final site → Becomes t a final site
@@ -173,6 +187,8 @@ becomes_later t a b final site l g =
       taken = g.taken;
       follows = omega (arith, le, fs);
       thunked = thunks_grow a.thunks b.thunks final.thunks l.thunked g.thunked;
+      belongs = g.belongs ∙ l.thunked.opened;
+      listed = more_then l.listed g.listed;
       classed = λ k. g.classed k ∙ ap (λ z. planned_at z k) l.classed;
     }
 
@@ -195,6 +211,8 @@ becomes_filled t a b final site k x hole e g =
       taken = g.taken;
       follows = omega (arith, el, fs);
       thunked = subst (λ z. ThunksGrow z final.thunks) (ap (λ z. z.thunks) e) g.thunked;
+      belongs = g.belongs ∙ ap (λ z. open_thunk z.thunks) e;
+      listed = subst (λ z. Longer z final.actual_lists) (ap (λ z. z.lists) e) g.listed;
       classed = λ k. g.classed k ∙ ap (λ z. planned_at z.classes k) e;
     }
 
@@ -210,7 +228,8 @@ emits_at t a b x line e ne r =
       roomier = le_same a.room b.room (ap (λ z. z.room) e);
       larger = le_same a.size b.size (ap (λ z. z.size) e);
       classed = ap (λ z. z.classes) e;
-      thunked = more_same (ap (λ z. z.thunks) e);
+      thunked = still_same (ap (λ z. z.thunks) e);
+      listed = more_same (ap (λ z. z.lists) e);
       built = λ _ w. ew ∙ w;
       before = λ w. sym ew ∙ w;
       only = λ w. tt;
@@ -236,7 +255,8 @@ emits_push_at t a b n x line e ne r =
       roomier = subst (λ z. a.room ≤ z) (sym er) left;
       larger = le_same a.size b.size (ap (λ z. z.size) e);
       classed = ap (λ z. z.classes) e;
-      thunked = more_same (ap (λ z. z.thunks) e);
+      thunked = still_same (ap (λ z. z.thunks) e);
+      listed = more_same (ap (λ z. z.lists) e);
       built = λ _ w. ew ∙ w;
       before = λ w. sym ew ∙ w;
       only = λ w. tt;
@@ -265,7 +285,8 @@ emits_nothing t a b P H never e =
       roomier = le_same a.room b.room (ap (λ z. z.room) e);
       larger = le_same a.size b.size (ap (λ z. z.size) e);
       classed = ap (λ z. z.classes) e;
-      thunked = more_same (ap (λ z. z.thunks) e);
+      thunked = still_same (ap (λ z. z.thunks) e);
+      listed = more_same (ap (λ z. z.lists) e);
       built = λ p w. absurd (never p);
       before = λ w. absurd (clash (sym ew ∙ w));
       only = λ w. absurd (clash (sym ew ∙ w));
@@ -278,7 +299,7 @@ emits_nothing t a b P H never e =
 
 -- nothing
 pub emits_none : (t : Spot) (a : DraftOf) → Emits t a a ⊤ (λ final site p q. q ≡ p)
-emits_none t a = record { rest = []; front = sym (append-nil a.instrs); roomier = le_same a.room a.room refl; larger = le_same a.size a.size refl; classed = refl; thunked = more_same refl; built = λ _ w. w; before = λ w. w; only = λ w. tt; fits = λ h. h; at = λ w final site g. refl }
+emits_none t a = record { rest = []; front = sym (append-nil a.instrs); roomier = le_same a.room a.room refl; larger = le_same a.size a.size refl; classed = refl; thunked = still_same refl; listed = more_same refl; built = λ _ w. w; before = λ w. w; only = λ w. tt; fits = λ h. h; at = λ w final site g. refl }
 
 -- one behind another
 pub emits_then : (t : Spot) (P Q : Type 0) (A B : CodeOf → Site → ℕ → ℕ → Type 0) (a b c : DraftOf) → Emits t a b P A → Emits t b c Q B → Emits t a c (P × Q) (λ final site p q. (x : ℕ) × A final site p x × B final site x q)
@@ -291,6 +312,7 @@ emits_then t P Q A B a b c f g =
       larger = l.larger;
       classed = l.classed;
       thunked = l.thunked;
+      listed = l.listed;
       built = λ p w. g.built p.1 (f.built p.0 w);
       before = λ w. f.before (g.before w);
       only = λ w. (f.only (g.before w), g.only w);
@@ -300,7 +322,7 @@ emits_then t P Q A B a b c f g =
 
 -- said otherwise
 pub emits_as : (t : Spot) (P Q : Type 0) (A B : CodeOf → Site → ℕ → ℕ → Type 0) (a b : DraftOf) → (Q → P) → (P → Q) → ((final : CodeOf) (site : Site) (p q : ℕ) → site.text ≡ t.text → site.used ≡ t.used → A final site p q → B final site p q) → Emits t a b P A → Emits t a b Q B
-emits_as t P Q A B a b back forth f e = record { rest = e.rest; front = e.front; roomier = e.roomier; larger = e.larger; classed = e.classed; thunked = e.thunked; built = λ q w. e.built (back q) w; before = e.before; only = λ w. forth (e.only w); fits = e.fits; at = λ w final site g. f final site (length a.instrs) (length b.instrs) g.stands g.taken (e.at w final site g) }
+emits_as t P Q A B a b back forth f e = record { rest = e.rest; front = e.front; roomier = e.roomier; larger = e.larger; classed = e.classed; thunked = e.thunked; listed = e.listed; built = λ q w. e.built (back q) w; before = e.before; only = λ w. forth (e.only w); fits = e.fits; at = λ w final site g. f final site (length a.instrs) (length b.instrs) g.stands g.taken (e.at w final site g) }
 
 pub emits_push : (t : Spot) (a b : DraftOf) (n : ℕ) (x : Instr) (line : ℕ) → b ≡ with_push a n x line → x ≢ i.Halt → runs x ≡ true → Emits t a b ⊤ (λ final site p q. Pushes final site n x p q)
 emits_push t a b n x line e ne r = emits_as t ⊤ ⊤ (λ final site p q. At final x line p q × (n < site.room)) _ a b (λ z. z) (λ z. z) (λ final site p q _ _ r. record { is = record { line = line; is = r.0 }; fits = r.1 }) (emits_push_at t a b n x line e ne r)
@@ -354,7 +376,8 @@ emits_if t P Q R A B C c0 c1 c2 c3 c4 c5 c6 c7 jump over start end a ej e2 b eo 
       roomier = subst (λ z. c0.room ≤ z) (sym room) l05.roomier;
       larger = subst (λ z. c0.size ≤ z) (sym size) l05.larger;
       classed = ap (λ z. z.classes) e7 ∙ ap (λ z. z.classes) e6 ∙ l05.classed;
-      thunked = more_behind (ap (λ z. z.thunks) e7 ∙ ap (λ z. z.thunks) e6) l05.thunked;
+      thunked = still_behind (ap (λ z. z.thunks) e7 ∙ ap (λ z. z.thunks) e6) l05.thunked;
+      listed = more_behind (ap (λ z. z.lists) e7 ∙ ap (λ z. z.lists) e6) l05.listed;
       built = λ p w. whole ∙ c.built p.2 (whole34 ∙ b.built p.1 (whole12 ∙ a.built p.0 w));
       before = λ w. a.before (at1w w);
       only = λ w. (a.only (at1w w), b.only (at3 w), c.only (at5 w));
@@ -418,7 +441,8 @@ emits_when t P Q A B c0 c1 c2 c3 c4 jump end a ej e2 b ee e4 =
       roomier = subst (λ z. c0.room ≤ z) (sym room) l03.roomier;
       larger = subst (λ z. c0.size ≤ z) (sym size) l03.larger;
       classed = ap (λ z. z.classes) e4 ∙ l03.classed;
-      thunked = more_behind (ap (λ z. z.thunks) e4) l03.thunked;
+      thunked = still_behind (ap (λ z. z.thunks) e4) l03.thunked;
+      listed = more_behind (ap (λ z. z.lists) e4) l03.listed;
       built = λ p w. whole ∙ b.built p.1 (whole12 ∙ a.built p.0 w);
       before = λ w. a.before (at1 w);
       only = λ w. (a.only (at1 w), b.only (at3 w));
@@ -440,7 +464,7 @@ emits_when t P Q A B c0 c1 c2 c3 c4 jump end a ej e2 b ee e4 =
 
 later_instr : (a b : DraftOf) (x : Instr) (line : ℕ) → b ≡ with_instr a x line → Later a b
 unfolding with_instr
-later_instr a b x line e = record { front = (lined x line ∷ [], ap (λ z. z.instrs) e); roomier = le_same a.room b.room (ap (λ z. z.room) e); larger = le_same a.size b.size (ap (λ z. z.size) e); classed = ap (λ z. z.classes) e; thunked = more_same (ap (λ z. z.thunks) e) }
+later_instr a b x line e = record { front = (lined x line ∷ [], ap (λ z. z.instrs) e); roomier = le_same a.room b.room (ap (λ z. z.room) e); larger = le_same a.size b.size (ap (λ z. z.size) e); classed = ap (λ z. z.classes) e; thunked = still_same (ap (λ z. z.thunks) e); listed = more_same (ap (λ z. z.lists) e) }
 
 -- a loop, which is a part that may be left out and ends with a jump back to its tick
 pub emits_loop : (t : Spot) (P Q : Type 0) (A B : CodeOf → Site → ℕ → ℕ → Type 0) (c1 c2 c3 c4 c5 c6 new : DraftOf) (start end : ℤ) (jump : ℕ) → start ≡ pos (length c1.instrs) → c2 ≡ with_instr c1 i.Tick 0 → Emits t c2 c3 P A → jump ≡ length c3.instrs → c4 ≡ with_hole c3 → Emits t c4 c5 Q B
@@ -462,6 +486,7 @@ emits_loop t P Q A B c1 c2 c3 c4 c5 c6 new start end jump es e2 a ej e4 b e6 ee 
       larger = all.larger;
       classed = all.classed;
       thunked = all.thunked;
+      listed = all.listed;
       built = λ p w. all.built ((tt, p.0), (p.1, tt)) w;
       before = all.before;
       only = λ w. (let r = all.only w in (r.0.1, r.1.0));
@@ -491,7 +516,8 @@ emits_temp t P A a b c temp et e f =
       roomier = omega (arith, er, bc);
       larger = omega (arith, es, left, bc');
       classed = f.classed ∙ ap (λ z. z.classes) e;
-      thunked = more_before (ap (λ z. z.thunks) e) f.thunked;
+      thunked = still_before (ap (λ z. z.thunks) e) f.thunked;
+      listed = more_before (ap (λ z. z.lists) e) f.listed;
       built = λ p w. f.built p (ew ∙ w);
       before = λ w. sym ew ∙ f.before w;
       only = f.only;
@@ -520,7 +546,8 @@ emits_temp_behind t P A a b c temp e f =
       roomier = omega (arith, er, bc);
       larger = omega (arith, es, left, bc');
       classed = f.classed ∙ ap (λ z. z.classes) e;
-      thunked = more_before (ap (λ z. z.thunks) e) f.thunked;
+      thunked = still_before (ap (λ z. z.thunks) e) f.thunked;
+      listed = more_before (ap (λ z. z.lists) e) f.listed;
       built = λ p w. f.built p (ew ∙ w);
       before = λ w. sym ew ∙ f.before w;
       only = f.only;
@@ -546,7 +573,8 @@ emits_room t P A a b c n e f =
       roomier = omega (arith, er, left, bc);
       larger = omega (arith, es, bc');
       classed = f.classed ∙ ap (λ z. z.classes) e;
-      thunked = more_before (ap (λ z. z.thunks) e) f.thunked;
+      thunked = still_before (ap (λ z. z.thunks) e) f.thunked;
+      listed = more_before (ap (λ z. z.lists) e) f.listed;
       built = λ p w. f.built p (ew ∙ w);
       before = λ w. sym ew ∙ f.before w;
       only = f.only;
@@ -563,11 +591,12 @@ emits_inside t u P A a b temp et em eu f = record {
   larger = f.larger;
   classed = f.classed;
   thunked = f.thunked;
+  listed = f.listed;
   built = f.built;
   before = f.before;
   only = f.only;
   fits = f.fits;
-  at = λ w final site g. f.at w final (record site { used = suc temp }) (record { grows = g.grows; roomy = g.roomy; sized = g.sized; stands = g.stands ∙ sym et; temps = g.temps ∙ sym em; taken = sym eu; follows = g.follows; classed = g.classed; thunked = g.thunked });
+  at = λ w final site g. f.at w final (record site { used = suc temp }) (record { grows = g.grows; roomy = g.roomy; sized = g.sized; stands = g.stands ∙ sym et; temps = g.temps ∙ sym em; taken = sym eu; follows = g.follows; classed = g.classed; thunked = g.thunked; belongs = g.belongs; listed = g.listed });
 }
 
 -- said otherwise, where it is known where the temps of expressions begin
@@ -579,6 +608,7 @@ emits_temps t P A B a b f e = record {
   larger = e.larger;
   classed = e.classed;
   thunked = e.thunked;
+  listed = e.listed;
   built = e.built;
   before = e.before;
   only = e.only;
@@ -595,6 +625,7 @@ emits_classed t P A B a b f e = record {
   larger = e.larger;
   classed = e.classed;
   thunked = e.thunked;
+  listed = e.listed;
   built = e.built;
   before = e.before;
   only = e.only;

@@ -19,7 +19,7 @@ use Rattle.sim_meaning.specs.Statements.{has_value}
 use Rattle.codegen_expr.specs.declared.sets.SetProcedure.{SetProcedure}
 use Rattle.codegen_expr.specs.declared.spot.Spot.{Spot}
 use Rattle.codegen_expr.specs.Built.{ActualsBuilt}
-use Rattle.codegen_expr.specs.CodeExpr.{ActualsAt, SetNamed, operands}
+use Rattle.codegen_expr.specs.CodeExpr.{ActualsAt, Listed, SetNamed, operands}
 use Rattle.codegen_expr.specs.Drafts.{DraftOf, Emits, given_up, with_instr}
 use Rattle.codegen_expr.specs.Emit.{WritesActuals}
 use Rattle.codegen_expr.specs.EmitObjects.{BaseAt, PutsBase}
@@ -79,7 +79,7 @@ module _ (b : Bound) (w : Spot) (n : ℕ) where
   set_done a c0 c1 c token x ys k number m line line2 r j ek f some em el e0 g ej el2 ec start y h =
       let s = source_of b in
       let es = expressions (map syntax_of ys) in
-      let fs = attribute_formals x.parameter in
+      let fs = Listed (attribute_formals x.parameter) in
       let ln = line_at s token.0 in
       let of : CodeOfSet x k (Some number) = subst (CodeOfSet x k) some f in
       let named : SetNamed x.name x.result (operands es) = subst (SetNamed x.name x.result) (ek ∙ sym (count ys)) of.0 in

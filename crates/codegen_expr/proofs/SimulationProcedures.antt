@@ -23,7 +23,7 @@ use Rattle.sim_meaning.specs.Statements.{has_value}
 use Rattle.codegen_expr.specs.declared.sets.SetProcedure.{SetProcedure}
 use Rattle.codegen_expr.specs.declared.spot.Spot.{Spot}
 use Rattle.codegen_expr.specs.Built.{ActualsBuilt, AreBuilt, NamedBuilt, OfObjectBuilt, OwnBuilt, OwnByBuilt, OwnNameBuilt, SimulationFoundBuilt, ThisFoundBuilt}
-use Rattle.codegen_expr.specs.CodeExpr.{ActualsAt, ExprsAt, NamedAt, OfObjectAt, OwnAt, OwnBy, OwnNameAt, SimulationFoundAt, SimulationNamed, ThisFoundAt, operands}
+use Rattle.codegen_expr.specs.CodeExpr.{ActualsAt, Listed, Parameters, parameters_at, ExprsAt, NamedAt, OfObjectAt, OwnAt, OwnBy, OwnNameAt, SimulationFoundAt, SimulationNamed, ThisFoundAt, operands}
 use Rattle.codegen_expr.specs.Drafts.{DraftOf, Emits, given_up, with_instr}
 use Rattle.codegen_expr.specs.Emit.{PutsOwn, PutsUnconnected, WritesActuals, WritesLinkTo, WritesOwn, WritesUnconnected}
 use Rattle.codegen_expr.specs.EmitObjects.{OfThis, PutsBase, WritesOf, WritesThis}
@@ -67,7 +67,7 @@ module _ (b : Bound) (w : Spot) (n : ℕ) where
   simulation_done a c0 c1 c token text x ys k number m line r j ek f some em e0 g ej el ec =
       let s = source_of b in
       let es = expressions (map syntax_of ys) in
-      let fs = attribute_formals x.parameter in
+      let fs = Listed (attribute_formals x.parameter) in
       let ln = line_at s token.0 in
       let of : CodeOfSimulation x k (Some number) = subst (CodeOfSimulation x k) some f in
       let named : SimulationNamed x.name x.result (operands es) = subst (SimulationNamed x.name x.result) (ek ∙ sym (count ys)) of.0 in
@@ -81,8 +81,8 @@ module _ (b : Bound) (w : Spot) (n : ℕ) where
   -- in the block in which it is found
   abbrev Found : (a c : DraftOf) → TokenNo → SetProcedure → Expressions → (found : Option ℕ) → Type 0
   Found a c token x es o =
-      Emits w a c (SimulationFoundBuilt (source_of b) w.text o x.name x.result es (ActualsBuilt (source_of b) w.text es (attribute_formals x.parameter)))
-      (λ final site p q. SimulationFoundAt (source_of b) final site n (line_at (source_of b) token.0) o x.name x.result es (λ u v. ActualsAt (source_of b) final site (suc n) (line_at (source_of b) token.0) false es (attribute_formals x.parameter) u v) p q)
+      Emits w a c (SimulationFoundBuilt (source_of b) w.text o x.name x.result es (ActualsBuilt (source_of b) w.text es (Listed (attribute_formals x.parameter))))
+      (λ final site p q. SimulationFoundAt (source_of b) final site n (line_at (source_of b) token.0) o x.name x.result es (λ u v. ActualsAt (source_of b) final site (suc n) (line_at (source_of b) token.0) false es (Listed (attribute_formals x.parameter)) u v) p q)
 
   pub simulation_found : (a c : DraftOf) (token : TokenNo) (x : SetProcedure) (es : List Expr) (o : Option ℕ) (k : ℕ) → o ≡ found_at (source_of b) token.0 → o ≡ Some k → WritesSimulationOf b w n a c token k x es → WritesSimulation b w n a c token x es
   unfolding WritesSimulation WritesSimulationOf
@@ -94,9 +94,9 @@ module _ (b : Bound) (w : Spot) (n : ℕ) where
 
   -- ---- names that are seen without a dot
 
-  named_emits : (a c : DraftOf) (line : ℕ) (d : DeclNo) (found : Option ℕ) (k : Option Entry) (x : SetProcedure) (es : Expressions) (A : List Formal → Type 0) (O : Type 0) (B : CodeOf → Site → List Formal → ℕ → ℕ → Type 0) (X : Part) → k ≡ entry_of (source_of b).tables d → simulation_procedure k ≡ Some x
-      → Emits w a c (SimulationFoundBuilt (source_of b) w.text found x.name x.result es (A (attribute_formals x.parameter))) (λ final site p q. SimulationFoundAt (source_of b) final site n line found x.name x.result es (B final site (attribute_formals x.parameter)) p q)
-      → Emits w a c (OwnNameBuilt (source_of b) w.text found k es (A (formals_at (source_of b) d)) O) (λ final site p q. OwnNameAt (source_of b) final site n line found k es (B final site (formals_at (source_of b) d)) (X final site) p q)
+  named_emits : (a c : DraftOf) (line : ℕ) (d : DeclNo) (found : Option ℕ) (k : Option Entry) (x : SetProcedure) (es : Expressions) (A : Parameters → Type 0) (O : Type 0) (B : CodeOf → Site → Parameters → ℕ → ℕ → Type 0) (X : Part) → k ≡ entry_of (source_of b).tables d → simulation_procedure k ≡ Some x
+      → Emits w a c (SimulationFoundBuilt (source_of b) w.text found x.name x.result es (A (Listed (attribute_formals x.parameter)))) (λ final site p q. SimulationFoundAt (source_of b) final site n line found x.name x.result es (B final site (Listed (attribute_formals x.parameter))) p q)
+      → Emits w a c (OwnNameBuilt (source_of b) w.text found k es (A (Listed (formals_at (source_of b) d))) O) (λ final site p q. OwnNameAt (source_of b) final site n line found k es (B final site (Listed (formals_at (source_of b) d))) (X final site) p q)
   named_emits a c line d found None x es A O B X ek some f = absurd (cc)
   named_emits a c line d found (Some (entry.Variable type)) x es A O B X ek some f = absurd (cc)
   named_emits a c line d found (Some (entry.Constant type)) x es A O B X ek some f = absurd (cc)
@@ -112,11 +112,11 @@ module _ (b : Bound) (w : Spot) (n : ℕ) where
       y = record { name = name; parameter = parameter; result = result }
 
       by : (t : Bool) → kept_if t y ≡ Some x
-          → Emits w a c (OwnByBuilt t (SimulationFoundBuilt (source_of b) w.text found name result es (A (formals_at (source_of b) d))) O) (λ final site p q. OwnBy t (λ u v. SimulationFoundAt (source_of b) final site n line found name result es (B final site (formals_at (source_of b) d)) u v) (X final site) p q)
+          → Emits w a c (OwnByBuilt t (SimulationFoundBuilt (source_of b) w.text found name result es (A (Listed (formals_at (source_of b) d)))) O) (λ final site p q. OwnBy t (λ u v. SimulationFoundAt (source_of b) final site n line found name result es (B final site (Listed (formals_at (source_of b) d))) u v) (X final site) p q)
       by true h =
           let is : y ≡ x = cc in
-          let f' = subst (λ z. Emits w a c (SimulationFoundBuilt (source_of b) w.text found z.name z.result es (A (attribute_formals z.parameter))) (λ final site p q. SimulationFoundAt (source_of b) final site n line found z.name z.result es (B final site (attribute_formals z.parameter)) p q)) (sym is) f in
-          subst (λ fs. Emits w a c (SimulationFoundBuilt (source_of b) w.text found name result es (A fs)) (λ final site p q. SimulationFoundAt (source_of b) final site n line found name result es (B final site fs) p q)) (ap (formals_declared (source_of b) d) ek) f'
+          let f' = subst (λ z. Emits w a c (SimulationFoundBuilt (source_of b) w.text found z.name z.result es (A (Listed (attribute_formals z.parameter)))) (λ final site p q. SimulationFoundAt (source_of b) final site n line found z.name z.result es (B final site (Listed (attribute_formals z.parameter))) p q)) (sym is) f in
+          subst (λ fs. Emits w a c (SimulationFoundBuilt (source_of b) w.text found name result es (A (Listed fs))) (λ final site p q. SimulationFoundAt (source_of b) final site n line found name result es (B final site (Listed fs)) p q)) (ap (formals_declared (source_of b) d) ek) f'
       by false h = absurd (cc)
 
   other_emits : (a c : DraftOf) (line : ℕ) (found : Option ℕ) (k : Option Entry) (es : Expressions) (P O : Type 0) (B X : Part) → simulation_procedure k ≡ None → Emits w a c O X
@@ -143,8 +143,8 @@ module _ (b : Bound) (w : Spot) (n : ℕ) where
       let s = source_of b in
       let es = expressions (map syntax_of ys) in
       let line = line_at s token.0 in
-      named_emits a c line d (found_at s token.0) (entry_of s.tables d) x es (λ formals. ActualsBuilt s w.text es formals) (OfObjectBuilt s d (entry_of s.tables d) es (ThisFoundBuilt s w.text (found_at s token.0)) (AreBuilt s w.text es) (ActualsBuilt s w.text es (formals_at s d)))
-      (λ final site formals p q. ActualsAt s final site (suc n) line false es formals p q) (λ final site p q. OfObjectAt s final site n line d (entry_of s.tables d) es (λ x y. ThisFoundAt s final site n (found_at s token.0) x y) (λ x y. ExprsAt s final site (suc n) es x y) (λ x y. ActualsAt s final site (suc n) line false es (formals_at s d) x y) p q)
+      named_emits a c line d (found_at s token.0) (entry_of s.tables d) x es (λ formals. ActualsBuilt s w.text es formals) (OfObjectBuilt s d (entry_of s.tables d) es (ThisFoundBuilt s w.text (found_at s token.0)) (AreBuilt s w.text es) (ActualsBuilt s w.text es (parameters_at s d)))
+      (λ final site formals p q. ActualsAt s final site (suc n) line false es formals p q) (λ final site p q. OfObjectAt s final site n line d (entry_of s.tables d) es (λ x y. ThisFoundAt s final site n (found_at s token.0) x y) (λ x y. ExprsAt s final site (suc n) es x y) (λ x y. ActualsAt s final site (suc n) line false es (parameters_at s d) x y) p q)
       refl (ap simulation_procedure (sym ek) ∙ sym er ∙ some) f
 
   pub name_of_object : (a c0 c : DraftOf) (token : TokenNo) (d : DeclNo) (es : List Expr) (k : Option Entry) (r : Option SetProcedure) → k ≡ entry_of b.scopes d → r ≡ simulation_procedure k → r ≡ None → WritesThis b w n a c0 token → WritesOf b w n c0 c token d es → WritesOwnName b w n a c token d es
@@ -153,20 +153,20 @@ module _ (b : Bound) (w : Spot) (n : ℕ) where
       let s = source_of b in
       let es = expressions (map syntax_of ys) in
       let line = line_at s token.0 in
-      other_emits a c line (found_at s token.0) (entry_of s.tables d) es (ActualsBuilt s w.text es (formals_at s d)) (OfObjectBuilt s d (entry_of s.tables d) es (ThisFoundBuilt s w.text (found_at s token.0)) (AreBuilt s w.text es) (ActualsBuilt s w.text es (formals_at s d)))
-      (λ final site p q. ActualsAt s final site (suc n) line false es (formals_at s d) p q) (λ final site p q. OfObjectAt s final site n line d (entry_of s.tables d) es (λ x y. ThisFoundAt s final site n (found_at s token.0) x y) (λ x y. ExprsAt s final site (suc n) es x y) (λ x y. ActualsAt s final site (suc n) line false es (formals_at s d) x y) p q)
+      other_emits a c line (found_at s token.0) (entry_of s.tables d) es (ActualsBuilt s w.text es (Listed (formals_at s d))) (OfObjectBuilt s d (entry_of s.tables d) es (ThisFoundBuilt s w.text (found_at s token.0)) (AreBuilt s w.text es) (ActualsBuilt s w.text es (parameters_at s d)))
+      (λ final site p q. ActualsAt s final site (suc n) line false es (Listed (formals_at s d)) p q) (λ final site p q. OfObjectAt s final site n line d (entry_of s.tables d) es (λ x y. ThisFoundAt s final site n (found_at s token.0) x y) (λ x y. ExprsAt s final site (suc n) es x y) (λ x y. ActualsAt s final site (suc n) line false es (parameters_at s d) x y) p q)
       (ap simulation_procedure (sym ek) ∙ sym er ∙ none) (g a (OfThis (found_at s token.0)) f)
 
   abbrev Own : (a c : DraftOf) → TokenNo → Option Denotation → Expressions → Option DeclNo → Type 0
   Own a c token u es o =
       Emits w a c
       (OwnBuilt o
-      (λ d. OwnNameBuilt (source_of b) w.text (found_at (source_of b) token.0) (entry_of (source_of b).tables d) es (ActualsBuilt (source_of b) w.text es (formals_at (source_of b) d))
-      (OfObjectBuilt (source_of b) d (entry_of (source_of b).tables d) es (ThisFoundBuilt (source_of b) w.text (found_at (source_of b) token.0)) (AreBuilt (source_of b) w.text es) (ActualsBuilt (source_of b) w.text es (formals_at (source_of b) d))))
+      (λ d. OwnNameBuilt (source_of b) w.text (found_at (source_of b) token.0) (entry_of (source_of b).tables d) es (ActualsBuilt (source_of b) w.text es (Listed (formals_at (source_of b) d)))
+      (OfObjectBuilt (source_of b) d (entry_of (source_of b).tables d) es (ThisFoundBuilt (source_of b) w.text (found_at (source_of b) token.0)) (AreBuilt (source_of b) w.text es) (ActualsBuilt (source_of b) w.text es (parameters_at (source_of b) d))))
       (NamedBuilt (source_of b) w.text u es (AreBuilt (source_of b) w.text es) (λ formals. ActualsBuilt (source_of b) w.text es formals)))
       (λ final site p q. OwnAt o
-      (λ d. OwnNameAt (source_of b) final site n (line_at (source_of b) token.0) (found_at (source_of b) token.0) (entry_of (source_of b).tables d) es (λ x y. ActualsAt (source_of b) final site (suc n) (line_at (source_of b) token.0) false es (formals_at (source_of b) d) x y)
-      (λ x y. OfObjectAt (source_of b) final site n (line_at (source_of b) token.0) d (entry_of (source_of b).tables d) es (λ x y. ThisFoundAt (source_of b) final site n (found_at (source_of b) token.0) x y) (λ x y. ExprsAt (source_of b) final site (suc n) es x y) (λ x y. ActualsAt (source_of b) final site (suc n) (line_at (source_of b) token.0) false es (formals_at (source_of b) d) x y) x y))
+      (λ d. OwnNameAt (source_of b) final site n (line_at (source_of b) token.0) (found_at (source_of b) token.0) (entry_of (source_of b).tables d) es (λ x y. ActualsAt (source_of b) final site (suc n) (line_at (source_of b) token.0) false es (Listed (formals_at (source_of b) d)) x y)
+      (λ x y. OfObjectAt (source_of b) final site n (line_at (source_of b) token.0) d (entry_of (source_of b).tables d) es (λ x y. ThisFoundAt (source_of b) final site n (found_at (source_of b) token.0) x y) (λ x y. ExprsAt (source_of b) final site (suc n) es x y) (λ x y. ActualsAt (source_of b) final site (suc n) (line_at (source_of b) token.0) false es (parameters_at (source_of b) d) x y) x y))
       (NamedAt (source_of b) final site n (line_at (source_of b) token.0) u es (λ x y. ExprsAt (source_of b) final site n es x y) (λ x y. ExprsAt (source_of b) final site (suc n) es x y) (λ formals x y. ActualsAt (source_of b) final site (suc n) (line_at (source_of b) token.0) false es formals x y)) p q)
 
   pub own_name : (a c : DraftOf) (token : TokenNo) (es : List Expr) (u : Option Denotation) (o : Option DeclNo) (d : DeclNo) → o ≡ own_attribute (source_of b) token.0 → o ≡ Some d → WritesOwnName b w n a c token d es → WritesOwn b w n a c token u es

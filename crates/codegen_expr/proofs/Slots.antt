@@ -6,12 +6,13 @@ use Rattle.sim_scope.specs.declared.bound.Bound.{Bound}
 use Rattle.sim_scope.specs.Source.{Source, block_of, source_of}
 use Rattle.sim_scope.specs.Tables.{BlockOf}
 use Rattle.sim_code.specs.Code.{CodeOf}
+use Rattle.sim_meaning.specs.Levels.{is_process_itself}
 use Rattle.sim_meaning.specs.Pending.{Declared, Held, Key, same_key}
 use Rattle.sim_meaning.specs.Texts.{text}
 use Rattle.codegen_expr.specs.Built.{place_from, slot_in}
 use Rattle.codegen_expr.specs.Drafts.{PlannedOf, planned_at, planned_front, planned_in, planned_of, planned_start, size_of}
 use Rattle.codegen_expr.specs.Known.{place_in}
-use Rattle.codegen_expr.specs.Sites.{HasCell, block_in_front, block_number, block_of_text, cells_in, frame_text, hidden_before, hidden_from, hidden_in, is_connection, own_part, place_of, prefix_of, slot_of, start_of}
+use Rattle.codegen_expr.specs.Sites.{HasCell, block_in_front, block_number, block_of_text, cells_in, frame_text, hidden_before, hidden_from, hidden_in, is_connection, origin_in, own_part, place_of, prefix_of, slot_of, start_of}
 
 -- the first place, counted from n on
 counted : (n : ℕ) (key : Key) (hs : List Held) (k : ℕ) → place_from n key hs ≡ Some k → (k ≡ n + place_of key hs) × (place_of key hs < length hs)
@@ -51,7 +52,11 @@ slot_within s k key n e = (counted 0 key (own_part s k) n e).1
 
 -- no declaration has the cell of a connection
 none_hidden : (s : Source) (k x n m : ℕ) (bs : List BlockOf) → place_from n (Declared x) (hidden_from s k m bs) ≡ None
-none_hidden s k x n m [] = refl
+none_hidden s k x n m [] = none_origin (is_process_itself s k)
+  where
+    none_origin : (c : Bool) → place_from n (Declared x) (origin_in c) ≡ None
+    none_origin true = refl
+    none_origin false = refl
 none_hidden s k x n m (b ∷ bs) = cases (is_connection b.kind && frame_text s m == k) (λ i. none_hidden s k x i (suc m) bs)
   where
     cases : (c : Bool) → ((i : ℕ) → place_from i (Declared x) (hidden_from s k (suc m) bs) ≡ None) → place_from n (Declared x) (hidden_before c b (hidden_from s k (suc m) bs)) ≡ None

@@ -207,7 +207,7 @@ module _ (b : Bound) (w : Spot) (n : ℕ) where
       parameter shape.Array es h = h.0
       parameter shape.Procedure es h = absurd h
   object_built d (Some (entry.Class text)) es O P A h = absurd h
-  object_built d (Some (entry.Virtual result own)) es O P A h = h
+  object_built d (Some (entry.Virtual result own)) es O P A h = h.0
   object_built d (Some (entry.Unspecified written)) es O P A h = absurd h
   object_built d (Some (entry.Attribute name parameter result)) es O P A h = h.0
   object_built d None es O P A h = absurd h
@@ -411,19 +411,19 @@ module _ (b : Bound) (w : Spot) (n : ℕ) where
   unfolding TakenOf
   taken_first a ys o = λ start x f. f
 
-  one_more : (zs : List Selection) (k : ℕ) (z : Selection) (rest : List Selection) (e : Expression) → drop k zs ≡ z ∷ rest → selected (selected e (take k zs)) (z ∷ []) ≡ selected e (take (suc k) zs)
+  pub one_more : (zs : List Selection) (k : ℕ) (z : Selection) (rest : List Selection) (e : Expression) → drop k zs ≡ z ∷ rest → selected (selected e (take k zs)) (z ∷ []) ≡ selected e (take (suc k) zs)
   one_more [] zero z rest e h = absurd (cc)
   one_more [] (suc k) z rest e h = absurd (cc)
   one_more (y ∷ ys) zero z rest e h = let q : y ≡ z = cc in ap (λ t. selected e (t ∷ [])) (sym q)
   one_more (Take j i args ∷ ys) (suc k) z rest e h = one_more ys k z rest (Dot j e i args) h
   one_more (Cast j i ∷ ys) (suc k) z rest e h = one_more ys k z rest (Qua j e i) h
 
-  at_drop : (ys : List Selector) (k : ℕ) (y : Selector) → k < length ys → y ≡ slice_index_or ys k y → drop k (map selector_syntax ys) ≡ selector_syntax y ∷ drop (suc k) (map selector_syntax ys)
+  pub at_drop : (ys : List Selector) (k : ℕ) (y : Selector) → k < length ys → y ≡ slice_index_or ys k y → drop k (map selector_syntax ys) ≡ selector_syntax y ∷ drop (suc k) (map selector_syntax ys)
   at_drop [] k y le is = absurd (omega (arith, le))
   at_drop (z ∷ zs) zero y le is = ap (λ t. selector_syntax t ∷ map selector_syntax zs) (sym is)
   at_drop (z ∷ zs) (suc k) y le is = at_drop zs k y (omega (arith, le)) is
 
-  next_is : (ys : List Selector) (k : ℕ) (y : Selector) → k < length ys → y ≡ slice_index_or ys k y → moves_next (source_of b) (drop k (map selector_syntax ys)) ≡ moves_selection (source_of b) (selector_syntax y)
+  pub next_is : (ys : List Selector) (k : ℕ) (y : Selector) → k < length ys → y ≡ slice_index_or ys k y → moves_next (source_of b) (drop k (map selector_syntax ys)) ≡ moves_selection (source_of b) (selector_syntax y)
   next_is ys k y le is = ap (moves_next (source_of b)) (at_drop ys k y le is)
 
   to_next : (start a c : DraftOf) (x : Expression) (ys : List Selector) (o o' : Object) (k m : ℕ) (y : Selector) (moves : Bool) → TakenTo start x ys a o k → k < length ys - 1 → y ≡ slice_index_or ys k y → m ≡ k + 1 → moves ≡ moves_next (source_of b) (drop m (map selector_syntax ys)) → WritesStep b w n a c o y moves o' → TakenTo start x ys c o' (k + 1)
@@ -457,7 +457,7 @@ module _ (b : Bound) (w : Spot) (n : ℕ) where
   taken_nothing a c x [] none f = f
   taken_nothing a c x (y ∷ ys) none f = absurd (omega (arith, none))
 
-  take_map : (ys : List Selector) (k : ℕ) → length ys ≤ k → take k (map selector_syntax ys) ≡ map selector_syntax ys
+  pub take_map : (ys : List Selector) (k : ℕ) → length ys ≤ k → take k (map selector_syntax ys) ≡ map selector_syntax ys
   take_map [] zero le = refl
   take_map [] (suc k) le = refl
   take_map (z ∷ zs) zero le = absurd (omega (arith, le))

@@ -1,4 +1,4 @@
--- Which expressions are built: all that speak of no array by name and of no formal procedure.
+-- Which expressions are built.
 use Rattle.std.specs.Prelude.{◌≡◌, ◌&&◌, ◌||◌, ⊤, ℕ, zero, suc, Bool, true, false, ◌==◌, if◌then◌else◌, List, [], ◌∷◌, length, Option, Some, None}
 use Rattle.sim_base.specs.declared.numbering.DeclNo.{DeclNo}
 use Rattle.sim_scope.specs.declared.scopes.Denotation.{Denotation}
@@ -22,14 +22,15 @@ use Rattle.sim_values.specs.Standard.{is_image, moves_position, on_image, operan
 use Rattle.sim_values.specs.Plain.{Plain, Integer, Truth, Character, Text}
 use Rattle.sim_code.specs.Simulations.{is_simulation_name}
 use Rattle.sim_code.specs.Running.{name_runs}
-use Rattle.sim_meaning.specs.Attributes.{class_made, cell_of_connection, connection_at, is_connection, own_attribute}
+use Rattle.sim_meaning.specs.Attributes.{cell_of_connection, connection_at, is_connection, own_attribute}
 use Rattle.sim_meaning.specs.Closing.{class_parameters, formals_at, is_attribute, is_placed, is_variable, left_type, result_meant, stream_of}
 use Rattle.sim_meaning.specs.Constants.{text_constant}
 use Rattle.sim_meaning.specs.Levels.{class_at, qualification}
 use Rattle.sim_meaning.specs.Names.{procedure_named}
 use Rattle.sim_meaning.specs.Pending.{Declared, Held, Key, Result, same_key}
 use Rattle.sim_meaning.specs.Texts.{constant_of, text}
-use Rattle.codegen_expr.specs.CodeExpr.{SetNamed, SimulationNamed, gives, operands}
+use Rattle.sim_meaning.specs.Checks.{passed}
+use Rattle.codegen_expr.specs.CodeExpr.{Checked, Listed, Parameters, SetNamed, SimulationNamed, gives, is_procedure, is_value, operands, parameters_at}
 use Rattle.codegen_expr.specs.Sites.{frame_text, own_part, prefix_of}
 
 -- ---- cells
@@ -95,24 +96,22 @@ abbrev pub ArrayBuilt : Source → (text : ℕ) → DeclNo → Expressions → (
 ArrayBuilt s text d NoMore Subscripts = CellBuilt s text d
 ArrayBuilt s text d (Then e es) Subscripts = CellBuilt s text d × Subscripts
 
-abbrev pub FormalBuilt : Source → (text : ℕ) → DeclNo → Mode → FormalKind → Expressions → (Subscripts : Type 0) → Type 0
-FormalBuilt s text d mode.ByName shape.Simple es Subscripts = VariableBuilt s text d es
-FormalBuilt s text d mode.ByName kind es Subscripts = ⊥
-FormalBuilt s text d mode shape.Simple es Subscripts = VariableBuilt s text d es
-FormalBuilt s text d mode shape.Array es Subscripts = ArrayBuilt s text d es Subscripts
-FormalBuilt s text d mode shape.Procedure es Subscripts = ⊥
+abbrev pub FormalBuilt : Source → (text : ℕ) → DeclNo → FormalKind → Expressions → (Subscripts : Type 0) → (Actuals : Parameters → Type 0) → Type 0
+FormalBuilt s text d shape.Simple es Subscripts Actuals = VariableBuilt s text d es
+FormalBuilt s text d shape.Array es Subscripts Actuals = ArrayBuilt s text d es Subscripts
+FormalBuilt s text d shape.Procedure es Subscripts Actuals = CellBuilt s text d × Actuals Checked
 
 -- a call of a procedure that is declared in a text around
 abbrev pub CallBuilt : Source → (text : ℕ) → DeclNo → (Actuals : Type 0) → Type 0
 CallBuilt s text d Actuals = StandsIn s text (block_of s d) × Actuals
 
-abbrev pub DeclaredBuilt : Source → (text : ℕ) → DeclNo → Option Entry → Expressions → (Operands : Type 0) → (Actuals : List Formal → Type 0) → Type 0
+abbrev pub DeclaredBuilt : Source → (text : ℕ) → DeclNo → Option Entry → Expressions → (Operands : Type 0) → (Actuals : Parameters → Type 0) → Type 0
 DeclaredBuilt s text d (Some (entry.Variable type)) es Operands Actuals = VariableBuilt s text d es
 DeclaredBuilt s text d (Some (entry.Constant type)) es Operands Actuals = ConstantBuilt (constant_of s d) es
 DeclaredBuilt s text d (Some (entry.Array element dimensions)) es Operands Actuals = ArrayBuilt s text d es Operands
-DeclaredBuilt s text d (Some (entry.Formal f)) es Operands Actuals = FormalBuilt s text d f.mode f.kind es Operands
-DeclaredBuilt s text d (Some (entry.Procedure result block)) es Operands Actuals = CallBuilt s text d (Actuals (formals_at s d))
-DeclaredBuilt s text d (Some (entry.Virtual result own)) es Operands Actuals = StandsIn s text (block_of s d)
+DeclaredBuilt s text d (Some (entry.Formal f)) es Operands Actuals = FormalBuilt s text d f.kind es Operands Actuals
+DeclaredBuilt s text d (Some (entry.Procedure result block)) es Operands Actuals = CallBuilt s text d (Actuals (Listed (formals_at s d)))
+DeclaredBuilt s text d (Some (entry.Virtual result own)) es Operands Actuals = StandsIn s text (block_of s d) × Actuals Checked
 DeclaredBuilt s text d _ es Operands Actuals = ⊥
 
 -- a standard name that the machine does, with as many operands as it takes
@@ -134,7 +133,7 @@ abbrev pub StandardBuilt : Option Standard → Expressions → (Operands : Type 
 StandardBuilt None es Operands = ⊥
 StandardBuilt (Some name) es Operands = ImageNameBuilt (is_image name) (on_image name) name es Operands
 
-abbrev pub NamedBuilt : Source → (text : ℕ) → Option Denotation → Expressions → (Operands : Type 0) → (Actuals : List Formal → Type 0) → Type 0
+abbrev pub NamedBuilt : Source → (text : ℕ) → Option Denotation → Expressions → (Operands : Type 0) → (Actuals : Parameters → Type 0) → Type 0
 NamedBuilt s text None es Operands Actuals = ⊥
 NamedBuilt s text (Some (denotation.Declared d)) es Operands Actuals = DeclaredBuilt s text d (entry_of s.tables d) es Operands Actuals
 NamedBuilt s text (Some (denotation.Standard name)) es Operands Actuals = StandardBuilt (procedure_named name) es Operands
@@ -168,7 +167,7 @@ OfObjectBuilt s d (Some (entry.Array element dimensions)) es Object Operands Act
 OfObjectBuilt s d (Some (entry.Formal f)) es Object Operands Actuals = ParameterOfBuilt s d f.kind es Object Operands
 OfObjectBuilt s d (Some (entry.Procedure result block)) es Object Operands Actuals = Object × Actuals
 OfObjectBuilt s d (Some (entry.Attribute name parameter result)) es Object Operands Actuals = Object × SetNamed name result (operands es) × Actuals
-OfObjectBuilt s d (Some (entry.Virtual result own)) es Object Operands Actuals = Object
+OfObjectBuilt s d (Some (entry.Virtual result own)) es Object Operands Actuals = Object × Actuals
 OfObjectBuilt s d _ es Object Operands Actuals = ⊥
 
 -- where a variable or an element lies that an object has
@@ -200,8 +199,8 @@ abbrev pub ThroughBuilt : (connection : Option ℕ) → (Connected : ℕ → Typ
 ThroughBuilt None Connected Plain = Plain
 ThroughBuilt (Some k) Connected Plain = Connected k
 
-abbrev pub ConnectedNameBuilt : Source → (text connection : ℕ) → Option Denotation → Expressions → (Operands : Type 0) → (Actuals : List Formal → Type 0) → Type 0
-ConnectedNameBuilt s text k (Some (denotation.Declared d)) es Operands Actuals = OfObjectBuilt s d (entry_of s.tables d) es (ConnectedBuilt s text k) Operands (Actuals (formals_at s d))
+abbrev pub ConnectedNameBuilt : Source → (text connection : ℕ) → Option Denotation → Expressions → (Operands : Type 0) → (Actuals : Parameters → Type 0) → Type 0
+ConnectedNameBuilt s text k (Some (denotation.Declared d)) es Operands Actuals = OfObjectBuilt s d (entry_of s.tables d) es (ConnectedBuilt s text k) Operands (Actuals (parameters_at s d))
 ConnectedNameBuilt s text k _ es Operands Actuals = ⊥
 
 abbrev pub OwnBuilt : (own : Option DeclNo) → (Own : DeclNo → Type 0) → (Other : Type 0) → Type 0
@@ -246,17 +245,15 @@ abbrev pub ArrayPlaceBuilt : Source → (text : ℕ) → DeclNo → Expressions 
 ArrayPlaceBuilt s text d NoMore Subscripts = ⊥
 ArrayPlaceBuilt s text d (Then e es) Subscripts = CellBuilt s text d × Subscripts
 
-abbrev pub FormalPlaceBuilt : Source → (text : ℕ) → DeclNo → Mode → FormalKind → Expressions → (Subscripts : Type 0) → Type 0
-FormalPlaceBuilt s text d mode.ByName shape.Simple es Subscripts = VariableBuilt s text d es
-FormalPlaceBuilt s text d mode.ByName kind es Subscripts = ⊥
-FormalPlaceBuilt s text d mode shape.Simple es Subscripts = VariableBuilt s text d es
-FormalPlaceBuilt s text d mode shape.Array es Subscripts = ArrayPlaceBuilt s text d es Subscripts
-FormalPlaceBuilt s text d mode shape.Procedure es Subscripts = ⊥
+abbrev pub FormalPlaceBuilt : Source → (text : ℕ) → DeclNo → FormalKind → Expressions → (Subscripts : Type 0) → Type 0
+FormalPlaceBuilt s text d shape.Simple es Subscripts = VariableBuilt s text d es
+FormalPlaceBuilt s text d shape.Array es Subscripts = ArrayPlaceBuilt s text d es Subscripts
+FormalPlaceBuilt s text d shape.Procedure es Subscripts = ⊥
 
 abbrev pub DeclaredPlaceBuilt : Source → (text : ℕ) → DeclNo → Option Entry → Expressions → (Subscripts : Type 0) → Type 0
 DeclaredPlaceBuilt s text d (Some (entry.Variable type)) es Subscripts = VariableBuilt s text d es
 DeclaredPlaceBuilt s text d (Some (entry.Array element dimensions)) es Subscripts = ArrayPlaceBuilt s text d es Subscripts
-DeclaredPlaceBuilt s text d (Some (entry.Formal f)) es Subscripts = FormalPlaceBuilt s text d f.mode f.kind es Subscripts
+DeclaredPlaceBuilt s text d (Some (entry.Formal f)) es Subscripts = FormalPlaceBuilt s text d f.kind es Subscripts
 DeclaredPlaceBuilt s text d _ es Subscripts = ⊥
 
 abbrev pub NamedPlaceBuilt : Source → (text : ℕ) → Option Denotation → Expressions → (Subscripts : Type 0) → Type 0
@@ -279,18 +276,50 @@ abbrev pub BehindDotBuilt : (stream : Option ℕ) → Option Standard → (is_va
 BehindDotBuilt (Some image) name is_variable es Place Value Operands = StandardBuilt name es Operands
 BehindDotBuilt None name is_variable es Place Value Operands = AttributeBuilt name is_variable es Place Value Operands
 
-abbrev pub DotBuilt : Source → Option Denotation → (stream : Option ℕ) → (is_variable : Bool) → Expressions → (Place Value Operands : Type 0) → (Actuals : List Formal → Type 0) → Type 0
+abbrev pub DotBuilt : Source → Option Denotation → (stream : Option ℕ) → (is_variable : Bool) → Expressions → (Place Value Operands : Type 0) → (Actuals : Parameters → Type 0) → Type 0
 DotBuilt s None stream is_variable es Place Value Operands Actuals = ⊥
 DotBuilt s (Some (denotation.Standard name)) stream is_variable es Place Value Operands Actuals = BehindDotBuilt stream (procedure_named name) is_variable es Place Value Operands
-DotBuilt s (Some (denotation.Declared d)) stream is_variable es Place Value Operands Actuals = OfObjectBuilt s d (entry_of s.tables d) es Value Operands (Actuals (formals_at s d))
+DotBuilt s (Some (denotation.Declared d)) stream is_variable es Place Value Operands Actuals = OfObjectBuilt s d (entry_of s.tables d) es Value Operands (Actuals (parameters_at s d))
 
--- an actual parameter: no array by name, and no procedure; `Given` is what a thunk gives
-abbrev pub ActualBuilt : Mode → FormalKind → (Value Given : Type 0) → Type 0
-ActualBuilt mode shape.Procedure Value Given = ⊥
-ActualBuilt mode.ByName shape.Array Value Given = ⊥
-ActualBuilt mode.ByName shape.Simple Value Given = Given
-ActualBuilt mode.ByValue kind Value Given = Value
-ActualBuilt mode.ByReference kind Value Given = Value
+-- ---- procedures as values
+
+abbrev pub ProcedureOfObjectBuilt : Option Entry → (Object : Type 0) → Type 0
+ProcedureOfObjectBuilt (Some (entry.Procedure result block)) Object = Object
+ProcedureOfObjectBuilt (Some (entry.Virtual result own)) Object = Object
+ProcedureOfObjectBuilt _ Object = ⊥
+
+abbrev pub ProcedureBehindBuilt : Source → Option Denotation → (Object : Type 0) → Type 0
+ProcedureBehindBuilt s (Some (denotation.Declared d)) Object = ProcedureOfObjectBuilt (entry_of s.tables d) Object
+ProcedureBehindBuilt s _ Object = ⊥
+
+abbrev pub FormalValueBuilt : Source → (text : ℕ) → DeclNo → FormalKind → Type 0
+FormalValueBuilt s text d shape.Procedure = CellBuilt s text d
+FormalValueBuilt s text d kind = ⊥
+
+abbrev pub ProcedureEntryBuilt : Source → (text : ℕ) → DeclNo → Option Entry → Type 0
+ProcedureEntryBuilt s text d (Some (entry.Procedure result block)) = StandsIn s text (block_of s d)
+ProcedureEntryBuilt s text d (Some (entry.Virtual result own)) = StandsIn s text (block_of s d)
+ProcedureEntryBuilt s text d (Some (entry.Formal f)) = FormalValueBuilt s text d f.kind
+ProcedureEntryBuilt s text d _ = ⊥
+
+abbrev pub ProcedureNamedBuilt : Source → (text : ℕ) → Option Denotation → Type 0
+ProcedureNamedBuilt s text (Some (denotation.Declared d)) = ProcedureEntryBuilt s text d (entry_of s.tables d)
+ProcedureNamedBuilt s text _ = ⊥
+
+-- ---- actual parameters
+
+-- `Given` is what a thunk gives, for a procedure or for anything else
+abbrev pub ActualBuilt : Mode → FormalKind → (Value Procedure Given : Type 0) → Type 0
+ActualBuilt mode shape.Procedure Value Procedure Given = Procedure
+ActualBuilt mode.ByName shape.Array Value Procedure Given = Given
+ActualBuilt mode.ByName shape.Simple Value Procedure Given = Given
+ActualBuilt mode.ByValue kind Value Procedure Given = Value
+ActualBuilt mode.ByReference kind Value Procedure Given = Value
+
+-- what an actual parameter of a call that is checked when it is done gives as a value, if it can be one, and as a procedure, if it is one
+abbrev pub IfBuilt : Bool → (Given : Type 0) → Type 0
+IfBuilt true Given = Given
+IfBuilt false Given = ⊤
 
 -- ---- expressions
 
@@ -302,6 +331,11 @@ LiteralBuilt s token (syntax.BooleanValue b) = ⊤
 LiteralBuilt s token syntax.NoText = ⊤
 LiteralBuilt s token syntax.NoObject = ⊤
 
+-- actual parameters for formal ones that are listed, or that are checked when the call is done
+abbrev pub ActualsBuiltBy : (Passed : List Formal → Type 0) → (Checks : Type 0) → Parameters → Type 0
+ActualsBuiltBy Passed Checks (Listed fs) = Passed fs
+ActualsBuiltBy Passed Checks Checked = Checks
+
 abbrev mutual
   pub IsBuilt : Source → (text : ℕ) → Expression → Type 0
   IsBuilt s text (syntax.If token c a b) = IsBuilt s text c × IsBuilt s text a × IsBuilt s text b
@@ -310,18 +344,18 @@ abbrev mutual
   IsBuilt s text (syntax.Signed sign token a) = IsBuilt s text a
   IsBuilt s text (syntax.Member member token a class) = ClassBuilt (class_at s class.token.0) × IsBuilt s text a
   IsBuilt s text (syntax.Dot token a name es) =
-      (gives s (denoted s name.token.0) ≡ true) × DotBuilt s (denoted s name.token.0) (stream_of s a) (is_variable s a || is_attribute s a) es (PlaceBuilt s text a) (IsBuilt s text a) (AreBuilt s text es) (λ formals. ActualsBuilt s text es formals)
+      (gives s (denoted s name.token.0) ≡ true) × DotBuilt s (denoted s name.token.0) (stream_of s a) (is_variable s a || is_attribute s a) es (PlaceBuilt s text a) (IsBuilt s text a) (AreBuilt s text es) (λ formals. ActualsBuiltBy (λ fs. PassedBuilt s text es fs) (ParametersBuilt s text es) formals)
   IsBuilt s text (syntax.Qua token a class) = ClassBuilt (class_at s class.token.0) × IsBuilt s text a
   IsBuilt s text (syntax.Constant literal token) = LiteralBuilt s token literal
   IsBuilt s text (syntax.Named name es) =
       (gives s (denoted s name.token.0) ≡ true) × ThroughBuilt (connection_at s name.token.0)
-      (λ k. ConnectedNameBuilt s text k (denoted s name.token.0) es (AreBuilt s text es) (λ formals. ActualsBuilt s text es formals))
+      (λ k. ConnectedNameBuilt s text k (denoted s name.token.0) es (AreBuilt s text es) (λ formals. ActualsBuiltBy (λ fs. PassedBuilt s text es fs) (ParametersBuilt s text es) formals))
       (OwnBuilt (own_attribute s name.token.0)
-      (λ d. OwnNameBuilt s text (found_at s name.token.0) (entry_of s.tables d) es (ActualsBuilt s text es (formals_at s d))
-      (OfObjectBuilt s d (entry_of s.tables d) es (ThisFoundBuilt s text (found_at s name.token.0)) (AreBuilt s text es) (ActualsBuilt s text es (formals_at s d))))
-      (NamedBuilt s text (denoted s name.token.0) es (AreBuilt s text es) (λ formals. ActualsBuilt s text es formals)))
+      (λ d. OwnNameBuilt s text (found_at s name.token.0) (entry_of s.tables d) es (PassedBuilt s text es (formals_at s d))
+      (OfObjectBuilt s d (entry_of s.tables d) es (ThisFoundBuilt s text (found_at s name.token.0)) (AreBuilt s text es) (ActualsBuiltBy (λ fs. PassedBuilt s text es fs) (ParametersBuilt s text es) (parameters_at s d))))
+      (NamedBuilt s text (denoted s name.token.0) es (AreBuilt s text es) (λ formals. ActualsBuiltBy (λ fs. PassedBuilt s text es fs) (ParametersBuilt s text es) formals)))
   IsBuilt s text (syntax.This token class) = ThisFoundBuilt s text (found_at s token)
-  IsBuilt s text (syntax.New token class es) = GenerationBuilt s text (denoted s class.token.0) (class_made s (class_at s class.token.0)) (ActualsBuilt s text es (class_parameters s (class_at s class.token.0)))
+  IsBuilt s text (syntax.New token class es) = GenerationBuilt s text (denoted s class.token.0) (class_at s class.token.0) (PassedBuilt s text es (class_parameters s (class_at s class.token.0)))
   IsBuilt s text (syntax.Parentheses token a) = IsBuilt s text a
 
   -- a variable, where it lies
@@ -335,12 +369,27 @@ abbrev mutual
   AreBuilt s text NoMore = ⊤
   AreBuilt s text (Then e es) = IsBuilt s text e × AreBuilt s text es
 
+  -- a procedure, as a value
+  pub ProcedureBuilt : Source → (text : ℕ) → Expression → Type 0
+  ProcedureBuilt s text (syntax.Named name NoMore) =
+      ThroughBuilt (connection_at s name.token.0) (λ k. ProcedureBehindBuilt s (denoted s name.token.0) (ConnectedBuilt s text k)) (ProcedureNamedBuilt s text (denoted s name.token.0))
+  ProcedureBuilt s text (syntax.Dot token a name NoMore) = ProcedureBehindBuilt s (denoted s name.token.0) (IsBuilt s text a)
+  ProcedureBuilt s text _ = ⊥
+
   -- actual parameters, one for each formal
-  pub ActualsBuilt : Source → (text : ℕ) → Expressions → List Formal → Type 0
-  ActualsBuilt s text NoMore [] = ⊤
-  ActualsBuilt s text NoMore (f ∷ fs) = ⊥
-  ActualsBuilt s text (Then e es) [] = ⊥
-  ActualsBuilt s text (Then e es) (f ∷ fs) = ActualBuilt f.mode f.kind (IsBuilt s text e) (ObjectBuilt (is_placed s e) (PlaceBuilt s text e) (IsBuilt s text e)) × ActualsBuilt s text es fs
+  pub PassedBuilt : Source → (text : ℕ) → Expressions → List Formal → Type 0
+  PassedBuilt s text NoMore [] = ⊤
+  PassedBuilt s text NoMore (f ∷ fs) = ⊥
+  PassedBuilt s text (Then e es) [] = ⊥
+  PassedBuilt s text (Then e es) (f ∷ fs) = ActualBuilt f.mode f.kind (IsBuilt s text e) (ProcedureBuilt s text e) (ObjectBuilt (is_placed s e) (PlaceBuilt s text e) (IsBuilt s text e)) × PassedBuilt s text es fs
+
+  pub ParametersBuilt : Source → (text : ℕ) → Expressions → Type 0
+  ParametersBuilt s text NoMore = ⊤
+  ParametersBuilt s text (Then e es) =
+      IfBuilt (is_value (passed s e)) (ObjectBuilt (is_placed s e) (PlaceBuilt s text e) (IsBuilt s text e)) × IfBuilt (is_procedure (passed s e)) (ProcedureBuilt s text e) × ParametersBuilt s text es
+
+abbrev pub ActualsBuilt : Source → (text : ℕ) → Expressions → Parameters → Type 0
+ActualsBuilt s text es formals = ActualsBuiltBy (λ fs. PassedBuilt s text es fs) (ParametersBuilt s text es) formals
 
 -- where a reference lies, with its qualification
 abbrev pub PlaceOrResultBuilt : Source → (text : ℕ) → (own : Option ℕ) → (Place : Type 0) → Type 0

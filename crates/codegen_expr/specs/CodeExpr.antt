@@ -1,5 +1,5 @@
 -- Which code stands for an expression. At its beginning there are n values on the operand stack, at its end one more.
-use Rattle.std.specs.Prelude.{◌≡◌, ◌≤◌, ◌<◌, ◌&&◌, ◌||◌, ℕ, suc, Bool, true, false, ℤ, pos, List, [], ◌∷◌, length, slice_get, Option, Some, None}
+use Rattle.std.specs.Prelude.{◌≡◌, ◌<◌, ◌&&◌, ◌||◌, ℕ, zero, suc, Bool, true, false, ℤ, pos, List, [], ◌∷◌, length, slice_get, Option, Some, None}
 use Rattle.sim_base.specs.declared.numbering.DeclNo.{DeclNo}
 use Rattle.sim_scope.specs.declared.scopes.Denotation.{Denotation}
 use Rattle.sim_scope.specs.declared.scopes.Denotation.TheVariants as denotation
@@ -11,6 +11,7 @@ use Rattle.sim_scope.specs.declared.types.FormalKind.TheVariants as shape
 use Rattle.sim_scope.specs.declared.types.Mode.{Mode}
 use Rattle.sim_scope.specs.declared.types.Mode.TheVariants as mode
 use Rattle.sim_scope.specs.declared.types.SimType.{SimType}
+use Rattle.sim_scope.specs.declared.types.SimType.TheVariants as t
 use Rattle.sim_scope.specs.Scopes.{entry_of}
 use Rattle.sim_scope.specs.Source.{Source, block_of, denoted, found_at, level_of, line_at, type_at}
 use Rattle.sim_tree.specs.declared.expr.Membership.{Membership}
@@ -32,6 +33,9 @@ use Rattle.sim_values.specs.declared.standard.Standard.TheVariants as name_of
 use Rattle.sim_values.specs.declared.value.TextVal.{TextVal}
 use Rattle.sim_values.specs.Plain.{Plain, Integer, Truth, Character, Text}
 use Rattle.sim_values.specs.Standard.{is_image, moves_position, on_image, operands_of, row_of}
+use Rattle.sim_code.specs.declared.code.CodeActual.{CodeActual}
+use Rattle.sim_code.specs.declared.code.CodeType.{CodeType}
+use Rattle.sim_code.specs.declared.code.CodeType.TheVariants as type
 use Rattle.sim_code.specs.declared.instr.Instr.{Instr}
 use Rattle.sim_code.specs.declared.instr.Instr.TheVariants as i
 use Rattle.sim_code.specs.Code.{CodeOf}
@@ -39,12 +43,13 @@ use Rattle.sim_code.specs.Names.{standard_names}
 use Rattle.sim_code.specs.Rows.{text_value}
 use Rattle.sim_code.specs.Simulations.{actual_count, is_simulation_name}
 use Rattle.sim_code.specs.Sets.{is_attribute_name, parameter_count}
-use Rattle.sim_meaning.specs.Attributes.{class_made, cell_of_connection, connection_at, is_connection, own_attribute}
+use Rattle.sim_meaning.specs.Attributes.{cell_of_connection, connection_at, is_connection, own_attribute}
+use Rattle.sim_meaning.specs.Checks.{Passed, PassedArray, PassedProcedure, PassedValue, passed}
 use Rattle.sim_meaning.specs.Closing.{by_name, class_of_formal, class_passed, has_type, is_placed, Joining, Lazily, Negated, Plainly, Sort, class_parameters, formals_at, is_attribute, is_text, is_text_type, is_variable, left_type, result_meant, sort_of, stream_of, sysout, typed_token}
 use Rattle.sim_meaning.specs.Constants.{constants_of, text_constant}
-use Rattle.sim_meaning.specs.Levels.{class_at, qualification}
+use Rattle.sim_meaning.specs.Levels.{class_at, is_process_itself, qualification}
 use Rattle.sim_meaning.specs.Names.{procedure_named}
-use Rattle.sim_meaning.specs.Pending.{Declared, ForPlace, ForValue, Result, Use}
+use Rattle.sim_meaning.specs.Pending.{Declared, ForParameter, ForPlace, ForValue, Origin, Result, Use}
 use Rattle.sim_meaning.specs.Statements.{has_value, standard_leaves}
 use Rattle.sim_meaning.specs.Texts.{constant_of, text}
 use Rattle.codegen_expr.specs.Sites.{Ahead, At, HasCell, IfAt, Inside, Is, Pushes, Site, block_number, class_number, frame_text, slot_of}
@@ -201,21 +206,57 @@ truth_number true = 1
 abbrev pub use_instr : Source → CodeOf → Use → (level cell : ℤ) → Instr
 use_instr s code (ForValue class line) l c = i.NameVal l c (pos (class_or_none s code class))
 use_instr s code (ForPlace value_too line) l c = i.NameAddr l c (pos (truth_number value_too))
+use_instr s code (ForParameter n line) l c = i.Param (pos n) l c
 
 abbrev pub line_of_use : Use → ℕ
 line_of_use (ForValue class line) = line
 line_of_use (ForPlace value_too line) = line
+line_of_use (ForParameter n line) = line
 
 abbrev pub ByNameAt : Source → CodeOf → Site → ℕ → DeclNo → Expressions → Use → ℕ → ℕ → Type 0
 ByNameAt s code site n d NoMore wanted p q = UsedAt s code site n (line_of_use wanted) d (use_instr s code wanted) p q
 ByNameAt s code site n d (Then e es) wanted p q = ⊥
 
-abbrev pub FormalAt : Source → CodeOf → Site → ℕ → (line : ℕ) → DeclNo → Mode → FormalKind → Expressions → (Subscripts : ℕ → ℕ → Type 0) → ℕ → ℕ → Type 0
-FormalAt s code site n line d mode.ByName shape.Simple es Subscripts p q = ByNameAt s code site n d es (ForValue (class_of_formal s d) line) p q
-FormalAt s code site n line d mode.ByName kind es Subscripts p q = ⊥
-FormalAt s code site n line d mode shape.Simple es Subscripts p q = VariableAt s code site n d es p q
-FormalAt s code site n line d mode shape.Array es Subscripts p q = ArrayAt s code site n line d es Subscripts p q
-FormalAt s code site n line d mode shape.Procedure es Subscripts p q = ⊥
+-- the same where the array is a formal parameter by name
+pub record NamedElementAt (s : Source) (code : CodeOf) (site : Site) (n line class : ℕ) (d : DeclNo) (es : Expressions) (Subscripts : ℕ → ℕ → Type 0) (p q : ℕ) : Type 0 where
+  pub x : ℕ
+  pub y : ℕ
+  pub array : ByNameAt s code site n d NoMore (ForValue None line) p x
+  pub subscripts : Subscripts x y
+  pub found : At code (i.Elem (pos (operands es)) (pos class)) line y q
+
+abbrev pub NamedArrayAt : Source → CodeOf → Site → ℕ → (line : ℕ) → DeclNo → Expressions → (Subscripts : ℕ → ℕ → Type 0) → ℕ → ℕ → Type 0
+NamedArrayAt s code site n line d NoMore Subscripts p q = ByNameAt s code site n d NoMore (ForValue None line) p q
+NamedArrayAt s code site n line d (Then e es) Subscripts p q = (x : ℕ) × NamedElementAt s code site n line 0 d (Then e es) Subscripts p x × Is code i.Fetch x q
+
+-- Actual parameters are passed to formal ones that are listed, or are checked when the call is done.
+pub data Parameters : Type 0 where
+  Listed : List Formal → Parameters
+  Checked : Parameters
+
+-- the procedure that a formal parameter is, by name or not, as a value
+abbrev pub is_by_name : Mode → Bool
+is_by_name mode.ByName = true
+is_by_name _ = false
+
+abbrev pub FormalProcedureAt : Source → CodeOf → Site → (n line : ℕ) → DeclNo → (by_name : Bool) → ℕ → ℕ → Type 0
+FormalProcedureAt s code site n line d true p q = ByNameAt s code site n d NoMore (ForValue None line) p q
+FormalProcedureAt s code site n line d false p q = CellAt s code site n d p q
+
+-- a call of a procedure that is a value: the procedure, its actuals, which stand on one value more
+pub record ValueCallAt (code : CodeOf) (line : ℕ) (es : Expressions) (Procedure Actuals : ℕ → ℕ → Type 0) (p q : ℕ) : Type 0 where
+  pub x : ℕ
+  pub y : ℕ
+  pub procedure : Procedure p x
+  pub actuals : Actuals x y
+  pub called : At code (i.CallV (pos (operands es))) line y q
+
+abbrev pub FormalAt : Source → CodeOf → Site → ℕ → (line : ℕ) → DeclNo → Mode → FormalKind → Expressions → (Subscripts : ℕ → ℕ → Type 0) → (Actuals : Parameters → ℕ → ℕ → Type 0) → ℕ → ℕ → Type 0
+FormalAt s code site n line d mode.ByName shape.Simple es Subscripts Actuals p q = ByNameAt s code site n d es (ForValue (class_of_formal s d) line) p q
+FormalAt s code site n line d mode.ByName shape.Array es Subscripts Actuals p q = NamedArrayAt s code site n line d es Subscripts p q
+FormalAt s code site n line d mode shape.Simple es Subscripts Actuals p q = VariableAt s code site n d es p q
+FormalAt s code site n line d mode shape.Array es Subscripts Actuals p q = ArrayAt s code site n line d es Subscripts p q
+FormalAt s code site n line d mode shape.Procedure es Subscripts Actuals p q = ValueCallAt code line es (FormalProcedureAt s code site n line d (is_by_name mode)) (Actuals Checked) p q
 
 -- a call: the link to the instance in which the procedure is declared, the actuals, which stand on one value more
 pub record CallAt (s : Source) (code : CodeOf) (site : Site) (n line : ℕ) (d : DeclNo) (text : ℕ) (es : Expressions) (Actuals : ℕ → ℕ → Type 0) (p q : ℕ) : Type 0 where
@@ -231,28 +272,58 @@ pub record ThisAt (s : Source) (code : CodeOf) (site : Site) (n text p q : ℕ) 
   pub push : Pushes code site n (i.This (pos (level_of s text))) p q
   pub inside : Inside s.tables site.text text
 
--- A call of what matches a virtual in the class of an object. A match has no parameters, so that of the actual parameters it only matters whether there
--- are any: the first list of the code has none, and the second one has one.
-abbrev pub list_of : Expressions → ℕ
-list_of NoMore = 0
-list_of (Then e es) = 1
+-- what matches a virtual in the class of an object
+pub record MatchAt (code : CodeOf) (line virtual : ℕ) (Object : ℕ → ℕ → Type 0) (p q : ℕ) : Type 0 where
+  pub x : ℕ
+  pub object : Object p x
+  pub found : At code (i.Virt (pos virtual)) line x q
 
-pub record VirtualAt (code : CodeOf) (line virtual : ℕ) (es : Expressions) (Object : ℕ → ℕ → Type 0) (p q : ℕ) : Type 0 where
+-- a procedure that is declared, with the instance in which it is
+pub record DeclaredProcedureAt (s : Source) (code : CodeOf) (site : Site) (n : ℕ) (d : DeclNo) (text p q : ℕ) : Type 0 where
+  pub x : ℕ
+  pub link : Pushes code site n (i.Link (pos (level_of s (block_of s d)))) p x
+  pub inside : Inside s.tables site.text (block_of s d)
+  pub value : Is code (i.ProcVal (pos (block_number s text))) x q
+
+-- a procedure that an object has
+pub record RemoteProcedureAt (s : Source) (code : CodeOf) (line text : ℕ) (Object : ℕ → ℕ → Type 0) (p q : ℕ) : Type 0 where
   pub x : ℕ
   pub y : ℕ
-  pub z : ℕ
   pub object : Object p x
-  pub found : At code (i.Virt (pos virtual)) line x y
-  pub checked : At code (i.Check (pos (list_of es))) line y z
-  pub called : At code (i.CallV (pos 0)) line z q
+  pub there : At code i.NotNone line x y
+  pub value : Is code (i.ProcVal (pos (block_number s text))) y q
 
-abbrev pub DeclaredAt : Source → CodeOf → Site → ℕ → (line : ℕ) → DeclNo → Option Entry → Expressions → (Operands : ℕ → ℕ → Type 0) → (Actuals : List Formal → ℕ → ℕ → Type 0) → ℕ → ℕ → Type 0
+-- A procedure that is declared so, as a value: of an object, or without a dot.
+abbrev pub ProcedureOfObjectAt : Source → CodeOf → (line : ℕ) → DeclNo → Option Entry → (Object : ℕ → ℕ → Type 0) → ℕ → ℕ → Type 0
+ProcedureOfObjectAt s code line d (Some (entry.Procedure result text)) Object p q = RemoteProcedureAt s code line text Object p q
+ProcedureOfObjectAt s code line d (Some (entry.Virtual result own)) Object p q = MatchAt code line d.0 Object p q
+ProcedureOfObjectAt s code line d _ Object p q = ⊥
+
+abbrev pub ProcedureBehindAt : Source → CodeOf → (line : ℕ) → Option Denotation → (Object : ℕ → ℕ → Type 0) → ℕ → ℕ → Type 0
+ProcedureBehindAt s code line (Some (denotation.Declared d)) Object p q = ProcedureOfObjectAt s code line d (entry_of s.tables d) Object p q
+ProcedureBehindAt s code line _ Object p q = ⊥
+
+abbrev pub FormalValueAt : Source → CodeOf → Site → (n line : ℕ) → DeclNo → Mode → FormalKind → ℕ → ℕ → Type 0
+FormalValueAt s code site n line d mode shape.Procedure p q = FormalProcedureAt s code site n line d (is_by_name mode) p q
+FormalValueAt s code site n line d mode kind p q = ⊥
+
+abbrev pub ProcedureEntryAt : Source → CodeOf → Site → (n line : ℕ) → DeclNo → Option Entry → ℕ → ℕ → Type 0
+ProcedureEntryAt s code site n line d (Some (entry.Procedure result text)) p q = DeclaredProcedureAt s code site n d text p q
+ProcedureEntryAt s code site n line d (Some (entry.Virtual result own)) p q = MatchAt code line d.0 (ThisAt s code site n (block_of s d)) p q
+ProcedureEntryAt s code site n line d (Some (entry.Formal f)) p q = FormalValueAt s code site n line d f.mode f.kind p q
+ProcedureEntryAt s code site n line d _ p q = ⊥
+
+abbrev pub ProcedureNamedAt : Source → CodeOf → Site → (n line : ℕ) → Option Denotation → ℕ → ℕ → Type 0
+ProcedureNamedAt s code site n line (Some (denotation.Declared d)) p q = ProcedureEntryAt s code site n line d (entry_of s.tables d) p q
+ProcedureNamedAt s code site n line _ p q = ⊥
+
+abbrev pub DeclaredAt : Source → CodeOf → Site → ℕ → (line : ℕ) → DeclNo → Option Entry → Expressions → (Operands : ℕ → ℕ → Type 0) → (Actuals : Parameters → ℕ → ℕ → Type 0) → ℕ → ℕ → Type 0
 DeclaredAt s code site n line d (Some (entry.Variable type)) es Operands Actuals p q = VariableAt s code site n d es p q
 DeclaredAt s code site n line d (Some (entry.Constant type)) es Operands Actuals p q = ConstantAt s code site n (constant_of s d) es p q
 DeclaredAt s code site n line d (Some (entry.Array element dimensions)) es Operands Actuals p q = ArrayAt s code site n line d es Operands p q
-DeclaredAt s code site n line d (Some (entry.Formal f)) es Operands Actuals p q = FormalAt s code site n line d f.mode f.kind es Operands p q
-DeclaredAt s code site n line d (Some (entry.Procedure result text)) es Operands Actuals p q = CallAt s code site n line d text es (Actuals (formals_at s d)) p q
-DeclaredAt s code site n line d (Some (entry.Virtual result own)) es Operands Actuals p q = VirtualAt code line d.0 es (ThisAt s code site n (block_of s d)) p q
+DeclaredAt s code site n line d (Some (entry.Formal f)) es Operands Actuals p q = FormalAt s code site n line d f.mode f.kind es Operands Actuals p q
+DeclaredAt s code site n line d (Some (entry.Procedure result text)) es Operands Actuals p q = CallAt s code site n line d text es (Actuals (Listed (formals_at s d))) p q
+DeclaredAt s code site n line d (Some (entry.Virtual result own)) es Operands Actuals p q = ValueCallAt code line es (MatchAt code line d.0 (ThisAt s code site n (block_of s d))) (Actuals Checked) p q
 DeclaredAt s code site n line d _ es Operands Actuals p q = ⊥
 
 -- a standard name behind its operands, which are as many as it takes; where it leaves a value there is room for it
@@ -276,22 +347,35 @@ StandardAt code site n line image None es Operands Inner p q = ⊥
 StandardAt code site n line image (Some name) es Operands Inner p q = NameAt code site n line image (is_image name) (on_image name) name es Operands Inner p q
 
 -- Operands are those on n values, and Inner those on one value more, over an array, a link, or the text before a dot.
-abbrev pub NamedAt : Source → CodeOf → Site → ℕ → (line : ℕ) → Option Denotation → Expressions → (Operands Inner : ℕ → ℕ → Type 0) → (Actuals : List Formal → ℕ → ℕ → Type 0) → ℕ → ℕ → Type 0
+abbrev pub NamedAt : Source → CodeOf → Site → ℕ → (line : ℕ) → Option Denotation → Expressions → (Operands Inner : ℕ → ℕ → Type 0) → (Actuals : Parameters → ℕ → ℕ → Type 0) → ℕ → ℕ → Type 0
 NamedAt s code site n line None es Operands Inner Actuals p q = ⊥
 NamedAt s code site n line (Some (denotation.Declared d)) es Operands Inner Actuals p q = DeclaredAt s code site n line d (entry_of s.tables d) es Inner Actuals p q
 NamedAt s code site n line (Some (denotation.Standard name)) es Operands Inner Actuals p q = StandardAt code site n line sysout (procedure_named name) es Operands Inner p q
 
 -- An operand is no call of a procedure without a result, and no standard name without one.
+abbrev pub gives_formal : FormalKind → Option SimType → Bool
+gives_formal shape.Procedure type = has_type type
+gives_formal kind type = true
+
 abbrev pub gives_entry : Option Entry → Bool
 gives_entry (Some (entry.Procedure result text)) = has_type result
 gives_entry (Some (entry.Attribute name parameter result)) = has_type result
 gives_entry (Some (entry.Virtual result own)) = has_type result
+gives_entry (Some (entry.Formal f)) = gives_formal f.kind f.ty
 gives_entry _ = true
 
 abbrev pub gives : Source → Option Denotation → Bool
 gives s None = true
 gives s (Some (denotation.Declared d)) = gives_entry (entry_of s.tables d)
 gives s (Some (denotation.Standard name)) = standard_leaves (procedure_named name)
+
+-- what the actual parameters of something declared are passed to
+abbrev pub parameters_of : Option Entry → List Formal → Parameters
+parameters_of (Some (entry.Virtual result own)) fs = Checked
+parameters_of e fs = Listed fs
+
+abbrev pub parameters_at : Source → DeclNo → Parameters
+parameters_at s d = parameters_of (entry_of s.tables d) (formals_at s d)
 
 -- ---- attributes of objects: Object is the reference, on n values
 
@@ -378,7 +462,7 @@ OfObjectAt s code site n line d (Some (entry.Array element dimensions)) es Objec
 OfObjectAt s code site n line d (Some (entry.Formal f)) es Object Inner Actuals p q = ParameterOfAt s code line d f.kind es Object Inner p q
 OfObjectAt s code site n line d (Some (entry.Procedure result text)) es Object Inner Actuals p q = RemoteCallAt s code line text es Object Actuals p q
 OfObjectAt s code site n line d (Some (entry.Attribute name parameter result)) es Object Inner Actuals p q = SetAt code line name result es Object Actuals p q
-OfObjectAt s code site n line d (Some (entry.Virtual result own)) es Object Inner Actuals p q = VirtualAt code line d.0 es Object p q
+OfObjectAt s code site n line d (Some (entry.Virtual result own)) es Object Inner Actuals p q = ValueCallAt code line es (MatchAt code line d.0 Object) Actuals p q
 OfObjectAt s code site n line d _ es Object Inner Actuals p q = ⊥
 
 -- where a variable or an element lies that an object has
@@ -419,8 +503,8 @@ ThroughAt None Connected Plain p q = Plain p q
 ThroughAt (Some k) Connected Plain p q = Connected k p q
 
 -- an identifier that is seen through a connection is an attribute of the object there
-abbrev pub ConnectedNameAt : Source → CodeOf → Site → ℕ → (line connection : ℕ) → Option Denotation → Expressions → (Inner : ℕ → ℕ → Type 0) → (Actuals : List Formal → ℕ → ℕ → Type 0) → ℕ → ℕ → Type 0
-ConnectedNameAt s code site n line k (Some (denotation.Declared d)) es Inner Actuals p q = OfObjectAt s code site n line d (entry_of s.tables d) es (ConnectedAt s code site n k) Inner (Actuals (formals_at s d)) p q
+abbrev pub ConnectedNameAt : Source → CodeOf → Site → ℕ → (line connection : ℕ) → Option Denotation → Expressions → (Inner : ℕ → ℕ → Type 0) → (Actuals : Parameters → ℕ → ℕ → Type 0) → ℕ → ℕ → Type 0
+ConnectedNameAt s code site n line k (Some (denotation.Declared d)) es Inner Actuals p q = OfObjectAt s code site n line d (entry_of s.tables d) es (ConnectedAt s code site n k) Inner (Actuals (parameters_at s d)) p q
 ConnectedNameAt s code site n line k _ es Inner Actuals p q = ⊥
 
 -- ---- classes
@@ -490,9 +574,26 @@ pub record NewAt (s : Source) (code : CodeOf) (site : Site) (n line : ℕ) (d : 
   pub actuals : Actuals x y
   pub new : At code (i.New (pos (class_number s code text)) (pos (operands es))) line y q
 
-abbrev pub GenerationAt : Source → CodeOf → Site → ℕ → (line : ℕ) → Option Denotation → (class : Option ℕ) → Expressions → (Actuals : ℕ → ℕ → Type 0) → ℕ → ℕ → Type 0
-GenerationAt s code site n line (Some (denotation.Declared d)) (Some k) es Actuals p q = NewAt s code site n line d k es Actuals p q
-GenerationAt s code site n line _ _ es Actuals p q = ⊥
+-- a new object of `process` itself, which keeps the token of that identifier
+pub record OriginAt (s : Source) (code : CodeOf) (site : Site) (n line token text : ℕ) (New : ℕ → ℕ → Type 0) (p q : ℕ) : Type 0 where
+  pub x : ℕ
+  pub y : ℕ
+  pub z : ℕ
+  pub w : ℕ
+  pub new : New p x
+  pub again : Pushes code site (suc n) i.Dup x y
+  pub address : At code (i.AddrR (pos (slot_of s code text Origin)) (pos 0)) line y z
+  pub token_pushed : Pushes code site (suc (suc n)) (i.Int (pos token)) z w
+  pub put : Is code i.Put w q
+  pub within : HasCell s text Origin
+
+abbrev pub OriginIfAt : Source → CodeOf → Site → (n line token text : ℕ) → (is_process : Bool) → (New : ℕ → ℕ → Type 0) → ℕ → ℕ → Type 0
+OriginIfAt s code site n line token text true New p q = OriginAt s code site n line token text New p q
+OriginIfAt s code site n line token text false New p q = New p q
+
+abbrev pub GenerationAt : Source → CodeOf → Site → ℕ → (line token : ℕ) → Option Denotation → (class : Option ℕ) → Expressions → (Actuals : ℕ → ℕ → Type 0) → ℕ → ℕ → Type 0
+GenerationAt s code site n line token (Some (denotation.Declared d)) (Some k) es Actuals p q = OriginIfAt s code site n line token k (is_process_itself s k) (NewAt s code site n line d k es Actuals) p q
+GenerationAt s code site n line token _ _ es Actuals p q = ⊥
 
 -- ---- attributes of texts, behind a dot
 
@@ -510,9 +611,13 @@ abbrev pub ArrayPlaceAt : Source → CodeOf → Site → (n line class : ℕ) �
 ArrayPlaceAt s code site n line class d NoMore Subscripts p q = ⊥
 ArrayPlaceAt s code site n line class d (Then e es) Subscripts p q = ElementAt s code site n line class d (Then e es) Subscripts p q
 
+abbrev pub NamedArrayPlaceAt : Source → CodeOf → Site → (n line class : ℕ) → DeclNo → Expressions → (Subscripts : ℕ → ℕ → Type 0) → ℕ → ℕ → Type 0
+NamedArrayPlaceAt s code site n line class d NoMore Subscripts p q = ⊥
+NamedArrayPlaceAt s code site n line class d (Then e es) Subscripts p q = NamedElementAt s code site n line class d (Then e es) Subscripts p q
+
 abbrev pub FormalPlaceAt : Source → CodeOf → Site → (n line class : ℕ) → DeclNo → Mode → FormalKind → Expressions → (Subscripts : ℕ → ℕ → Type 0) → ℕ → ℕ → Type 0
 FormalPlaceAt s code site n line class d mode.ByName shape.Simple es Subscripts p q = ByNameAt s code site n d es (ForPlace true line) p q
-FormalPlaceAt s code site n line class d mode.ByName kind es Subscripts p q = ⊥
+FormalPlaceAt s code site n line class d mode.ByName shape.Array es Subscripts p q = NamedArrayPlaceAt s code site n line class d es Subscripts p q
 FormalPlaceAt s code site n line class d mode shape.Simple es Subscripts p q = VariablePlaceAt s code site n class d es p q
 FormalPlaceAt s code site n line class d mode shape.Array es Subscripts p q = ArrayPlaceAt s code site n line class d es Subscripts p q
 FormalPlaceAt s code site n line class d mode shape.Procedure es Subscripts p q = ⊥
@@ -549,38 +654,105 @@ BehindDotAt code site n line (Some image) name is_variable es Place Value Operan
 BehindDotAt code site n line None name is_variable es Place Value Operands Inner p q = AttributeAt code site n line name is_variable es Place Value Inner p q
 
 -- An attribute of a text or a stream, or of an object: Value is what is in front of the dot.
-abbrev pub DotAt : Source → CodeOf → Site → ℕ → (line : ℕ) → Option Denotation → (stream : Option ℕ) → (is_variable : Bool) → Expressions → (Place Value Operands Inner : ℕ → ℕ → Type 0) → (Actuals : List Formal → ℕ → ℕ → Type 0) → ℕ → ℕ → Type 0
+abbrev pub DotAt : Source → CodeOf → Site → ℕ → (line : ℕ) → Option Denotation → (stream : Option ℕ) → (is_variable : Bool) → Expressions → (Place Value Operands Inner : ℕ → ℕ → Type 0) → (Actuals : Parameters → ℕ → ℕ → Type 0) → ℕ → ℕ → Type 0
 DotAt s code site n line None stream is_variable es Place Value Operands Inner Actuals p q = ⊥
 DotAt s code site n line (Some (denotation.Standard name)) stream is_variable es Place Value Operands Inner Actuals p q = BehindDotAt code site n line stream (procedure_named name) is_variable es Place Value Operands Inner p q
-DotAt s code site n line (Some (denotation.Declared d)) stream is_variable es Place Value Operands Inner Actuals p q = OfObjectAt s code site n line d (entry_of s.tables d) es Value Inner (Actuals (formals_at s d)) p q
+DotAt s code site n line (Some (denotation.Declared d)) stream is_variable es Place Value Operands Inner Actuals p q = OfObjectAt s code site n line d (entry_of s.tables d) es Value Inner (Actuals (parameters_at s d)) p q
 
 -- ---- actual parameters
 
--- An actual parameter by name: its code, which is gone past, with an operand stack of its own; and then its thunk is pushed.
-pub record ThunkAt (code : CodeOf) (site : Site) (n : ℕ) (Given : Site → ℕ → ℕ → Type 0) (p q : ℕ) : Type 0 where
+-- The code of a thunk, which is gone past, with an operand stack of its own.
+pub record PastThunkAt (code : CodeOf) (site : Site) (number : ℕ) (Given : Site → ℕ → ℕ → Type 0) (p q : ℕ) : Type 0 where
   pub x : ℕ
   pub y : ℕ
+  pub room : ℕ
+  pub over : Is code (i.Jump (pos q)) p x
+  pub past : Ahead code p q
+  pub there : slice_get code.thunks number ≡ Some (record { entry = x; room = room })
+  -- a thunk inside another one has a greater number
+  pub later : (t : ℕ) → site.thunk ≡ Some t → t < number
+  pub given : Given (record site { room = room; thunk = Some number }) x y
+  pub end : Is code i.EndThunk y q
+
+-- An actual parameter by name: its thunk is pushed behind its code.
+pub record ThunkAt (code : CodeOf) (site : Site) (n : ℕ) (Given : Site → ℕ → ℕ → Type 0) (p q : ℕ) : Type 0 where
   pub z : ℕ
   pub number : ℕ
-  pub room : ℕ
-  pub over : Is code (i.Jump (pos z)) p x
-  pub past : Ahead code p z
-  pub there : slice_get code.thunks number ≡ Some (record { entry = x; room = room })
-  pub given : Given (record site { room = room }) x y
-  pub end : Is code i.EndThunk y z
+  pub past : PastThunkAt code site number Given p z
   pub thunk : Pushes code site n (i.Thunk (pos number)) z q
 
--- An array and a text by value are copied; an array by reference of a class is kept. `Given` is what a thunk does.
-abbrev pub ActualAt : CodeOf → Site → (n line : ℕ) → (keeps : Bool) → Mode → FormalKind → (text : Bool) → (A : ℕ → ℕ → Type 0) → (Given : Site → ℕ → ℕ → Type 0) → ℕ → ℕ → Type 0
-ActualAt code site n line keeps mode.ByValue shape.Array text A Given p q = (x : ℕ) × A p x × At code i.CopyArr line x q
-ActualAt code site n line true mode.ByReference shape.Array text A Given p q = (x : ℕ) × A p x × Is code i.Keep x q
-ActualAt code site n line false mode.ByReference shape.Array text A Given p q = A p q
-ActualAt code site n line keeps mode.ByValue shape.Simple true A Given p q = (x : ℕ) × A p x × StandardIs code site n line name_of.Copy 1 x q
-ActualAt code site n line keeps mode.ByValue shape.Simple false A Given p q = A p q
-ActualAt code site n line keeps mode.ByReference shape.Simple text A Given p q = A p q
-ActualAt code site n line keeps mode.ByName shape.Simple text A Given p q = ThunkAt code site n Given p q
-ActualAt code site n line keeps mode.ByName kind text A Given p q = ⊥
-ActualAt code site n line keeps mode shape.Procedure text A Given p q = ⊥
+-- An array and a text by value are copied; an array by reference of a class is kept. `Value` and `Procedure` are what is passed as a value, and
+-- as a procedure; `Given` is what a thunk does, for a procedure or for anything else.
+abbrev pub ActualAt : CodeOf → Site → (n line : ℕ) → (keeps : Bool) → Mode → FormalKind → (text : Bool) → (Value Procedure : ℕ → ℕ → Type 0) → (Given : (as_procedure : Bool) → Site → ℕ → ℕ → Type 0) → ℕ → ℕ → Type 0
+ActualAt code site n line keeps mode.ByValue shape.Array text A P Given p q = (x : ℕ) × A p x × At code i.CopyArr line x q
+ActualAt code site n line true mode.ByReference shape.Array text A P Given p q = (x : ℕ) × A p x × Is code i.Keep x q
+ActualAt code site n line false mode.ByReference shape.Array text A P Given p q = A p q
+ActualAt code site n line keeps mode.ByValue shape.Simple true A P Given p q = (x : ℕ) × A p x × StandardIs code site n line name_of.Copy 1 x q
+ActualAt code site n line keeps mode.ByValue shape.Simple false A P Given p q = A p q
+ActualAt code site n line keeps mode.ByReference shape.Simple text A P Given p q = A p q
+ActualAt code site n line keeps mode.ByName shape.Simple text A P Given p q = ThunkAt code site n (Given false) p q
+ActualAt code site n line keeps mode.ByName shape.Array text A P Given p q = ThunkAt code site n (Given false) p q
+ActualAt code site n line keeps mode.ByName shape.Procedure text A P Given p q = ThunkAt code site n (Given true) p q
+ActualAt code site n line keeps mode.ByValue shape.Procedure text A P Given p q = P p q
+ActualAt code site n line keeps mode.ByReference shape.Procedure text A P Given p q = P p q
+
+-- ---- actual parameters of calls that are checked when they are done
+
+-- a thunk, if there is one
+abbrev pub ThunkIfAt : (is_there : Bool) → CodeOf → Site → (number : ℕ) → (Given : Site → ℕ → ℕ → Type 0) → ℕ → ℕ → Type 0
+ThunkIfAt true code site number Given p q = PastThunkAt code site number Given p q
+ThunkIfAt false code site number Given p q = q ≡ p
+
+-- such an actual parameter: what it gives as a value, if it can be one, and as a procedure, if it is one
+abbrev pub is_value : Passed → Bool
+is_value (PassedProcedure None formals) = false
+is_value (PassedProcedure (Some type) zero) = true
+is_value (PassedProcedure (Some type) (suc n)) = false
+is_value _ = true
+
+abbrev pub is_procedure : Passed → Bool
+is_procedure (PassedProcedure type formals) = true
+is_procedure _ = false
+
+pub record ParameterAt (code : CodeOf) (site : Site) (n line number : ℕ) (passed : Passed) (Given : (as_procedure : Bool) → Site → ℕ → ℕ → Type 0) (p q : ℕ) : Type 0 where
+  pub x : ℕ
+  pub y : ℕ
+  pub value_thunk : ℕ
+  pub procedure_thunk : ℕ
+  pub value : ThunkIfAt (is_value passed) code site value_thunk (Given false) p x
+  pub procedure : ThunkIfAt (is_procedure passed) code site procedure_thunk (Given true) x y
+  pub passes : At code (i.Param (pos number) (pos value_thunk) (pos procedure_thunk)) line y q
+  pub fits : n < site.room
+
+-- what the code knows of an actual parameter
+abbrev pub type_of : Option SimType → CodeType
+type_of None = type.Nothing
+type_of (Some t.Integer) = type.Integer
+type_of (Some t.Boolean) = type.Boolean
+type_of (Some t.Character) = type.Character
+type_of (Some t.Text) = type.Text
+type_of (Some (t.Ref class)) = type.Reference
+type_of (Some t.NoneType) = type.Reference
+
+abbrev pub code_actual : Source → CodeOf → Passed → CodeActual
+code_actual s code (PassedArray element) =
+    record { code_type = type.Nothing; variable = false; array = type_of element; procedure = false; result_type = type.Nothing; formals = 0; class = class_or_none s code (qualification s element) }
+code_actual s code (PassedProcedure result n) =
+    record { code_type = type_of result; variable = false; array = type.Nothing; procedure = true; result_type = type_of result; formals = n; class = class_or_none s code (qualification s result) }
+code_actual s code (PassedValue given variable) =
+    record { code_type = type_of given; variable = variable; array = type.Nothing; procedure = false; result_type = type.Nothing; formals = 0; class = class_or_none s code (qualification s given) }
+
+abbrev pub code_actuals : Source → CodeOf → Expressions → List CodeActual
+code_actuals s code NoMore = []
+code_actuals s code (Then e es) = code_actual s code (passed s e) ∷ code_actuals s code es
+
+-- the procedure on top is held against a list
+pub record CheckAt (s : Source) (code : CodeOf) (line : ℕ) (es : Expressions) (p q : ℕ) : Type 0 where
+  pub number : ℕ
+  pub listed : slice_get code.actual_lists number ≡ Some (code_actuals s code es)
+  pub check : At code (i.Check (pos number)) line p q
+
+-- ---- what is given by name
 
 -- What a thunk gives: where a variable lies, or the value of any other expression. The class of a reference there is tested, but not that of a
 -- formal parameter by name, which is handed on as it is.
@@ -607,6 +779,16 @@ abbrev pub FittingAt : Source → CodeOf → Site → (n line : ℕ) → (class 
 FittingAt s code site n line None A p q = A p q
 FittingAt s code site n line (Some k) A p q = (x : ℕ) × A p x × HeldAt s code site n line (class_number s code k) x q
 
+-- what a thunk gives, for a procedure or for anything else
+abbrev pub GivenBy : (as_procedure : Bool) → (Procedure Other : ℕ → ℕ → Type 0) → ℕ → ℕ → Type 0
+GivenBy true Procedure Other p q = Procedure p q
+GivenBy false Procedure Other p q = Other p q
+
+-- actual parameters for formal ones that are listed, or that are checked when the call is done
+abbrev pub ActualsBy : (Passed : List Formal → ℕ → ℕ → Type 0) → (Checks : ℕ → ℕ → Type 0) → Parameters → ℕ → ℕ → Type 0
+ActualsBy Passed Checks (Listed fs) p q = Passed fs p q
+ActualsBy Passed Checks Checked p q = Checks p q
+
 -- ---- expressions
 
 abbrev mutual
@@ -619,19 +801,19 @@ abbrev mutual
   ExprAt s code site n (syntax.Member member token a class) p q = MemberAt s code member (class_at s class.token.0) (ExprAt s code site n a) p q
   ExprAt s code site n (syntax.Dot token a name es) p q =
       (gives s (denoted s name.token.0) ≡ true) × DotAt s code site n (line_at s name.token.0) (denoted s name.token.0) (stream_of s a) (is_variable s a || is_attribute s a) es
-      (PlaceAt s code site n 0 a) (ExprAt s code site n a) (ExprsAt s code site n es) (ExprsAt s code site (suc n) es) (λ formals. ActualsAt s code site (suc n) (line_at s name.token.0) false es formals) p q
+      (PlaceAt s code site n 0 a) (ExprAt s code site n a) (ExprsAt s code site n es) (ExprsAt s code site (suc n) es) (λ formals. ActualsBy (λ fs. PassedAt s code site (suc n) (line_at s name.token.0) false es fs) (λ p q. (x : ℕ) × CheckAt s code (line_at s name.token.0) es p x × ParametersAt s code site (suc n) (line_at s name.token.0) 0 es x q) formals) p q
   ExprAt s code site n (syntax.Qua token a class) p q = QuaAt s code (line_at s token) (class_at s class.token.0) (ExprAt s code site n a) p q
   ExprAt s code site n (syntax.Constant literal token) p q = LiteralAt s code site n token literal p q
   ExprAt s code site n (syntax.Named name es) p q =
       (gives s (denoted s name.token.0) ≡ true) × ThroughAt (connection_at s name.token.0)
-      (λ k. ConnectedNameAt s code site n (line_at s name.token.0) k (denoted s name.token.0) es (ExprsAt s code site (suc n) es) (λ formals. ActualsAt s code site (suc n) (line_at s name.token.0) false es formals))
+      (λ k. ConnectedNameAt s code site n (line_at s name.token.0) k (denoted s name.token.0) es (ExprsAt s code site (suc n) es) (λ formals. ActualsBy (λ fs. PassedAt s code site (suc n) (line_at s name.token.0) false es fs) (λ p q. (x : ℕ) × CheckAt s code (line_at s name.token.0) es p x × ParametersAt s code site (suc n) (line_at s name.token.0) 0 es x q) formals))
       (OwnAt (own_attribute s name.token.0)
-      (λ d. OwnNameAt s code site n (line_at s name.token.0) (found_at s name.token.0) (entry_of s.tables d) es (ActualsAt s code site (suc n) (line_at s name.token.0) false es (formals_at s d))
-      (OfObjectAt s code site n (line_at s name.token.0) d (entry_of s.tables d) es (ThisFoundAt s code site n (found_at s name.token.0)) (ExprsAt s code site (suc n) es) (ActualsAt s code site (suc n) (line_at s name.token.0) false es (formals_at s d))))
-      (NamedAt s code site n (line_at s name.token.0) (denoted s name.token.0) es (ExprsAt s code site n es) (ExprsAt s code site (suc n) es) (λ formals. ActualsAt s code site (suc n) (line_at s name.token.0) false es formals))) p q
+      (λ d. OwnNameAt s code site n (line_at s name.token.0) (found_at s name.token.0) (entry_of s.tables d) es (PassedAt s code site (suc n) (line_at s name.token.0) false es (formals_at s d))
+      (OfObjectAt s code site n (line_at s name.token.0) d (entry_of s.tables d) es (ThisFoundAt s code site n (found_at s name.token.0)) (ExprsAt s code site (suc n) es) (ActualsBy (λ fs. PassedAt s code site (suc n) (line_at s name.token.0) false es fs) (λ p q. (x : ℕ) × CheckAt s code (line_at s name.token.0) es p x × ParametersAt s code site (suc n) (line_at s name.token.0) 0 es x q) (parameters_at s d))))
+      (NamedAt s code site n (line_at s name.token.0) (denoted s name.token.0) es (ExprsAt s code site n es) (ExprsAt s code site (suc n) es) (λ formals. ActualsBy (λ fs. PassedAt s code site (suc n) (line_at s name.token.0) false es fs) (λ p q. (x : ℕ) × CheckAt s code (line_at s name.token.0) es p x × ParametersAt s code site (suc n) (line_at s name.token.0) 0 es x q) formals))) p q
   ExprAt s code site n (syntax.This token class) p q = ThisFoundAt s code site n (found_at s token) p q
   ExprAt s code site n (syntax.New token class es) p q =
-      GenerationAt s code site n (line_at s token) (denoted s class.token.0) (class_made s (class_at s class.token.0)) es (ActualsAt s code site (suc n) (line_at s class.token.0) true es (class_parameters s (class_at s class.token.0))) p q
+      GenerationAt s code site n (line_at s token) class.token.0 (denoted s class.token.0) (class_at s class.token.0) es (PassedAt s code site (suc n) (line_at s class.token.0) true es (class_parameters s (class_at s class.token.0))) p q
   ExprAt s code site n (syntax.Parentheses token a) p q = ExprAt s code site n a p q
 
   -- where a variable lies, with the class of a reference there
@@ -648,14 +830,31 @@ abbrev mutual
   ExprsAt s code site n NoMore p q = q ≡ p
   ExprsAt s code site n (Then e es) p q = (x : ℕ) × ExprAt s code site n e p x × ExprsAt s code site (suc n) es x q
 
+  -- a procedure, as a value
+  pub ProcedureAt : Source → CodeOf → Site → ℕ → Expression → ℕ → ℕ → Type 0
+  ProcedureAt s code site n (syntax.Named name NoMore) p q =
+      ThroughAt (connection_at s name.token.0) (λ k. ProcedureBehindAt s code (line_at s name.token.0) (denoted s name.token.0) (ConnectedAt s code site n k)) (ProcedureNamedAt s code site n (line_at s name.token.0) (denoted s name.token.0)) p q
+  ProcedureAt s code site n (syntax.Dot token a name NoMore) p q = ProcedureBehindAt s code (line_at s name.token.0) (denoted s name.token.0) (ExprAt s code site n a) p q
+  ProcedureAt s code site n _ p q = ⊥
+
   -- actual parameters, one for each formal; those of a class keep the arrays that they pass by reference
-  pub ActualsAt : Source → CodeOf → Site → ℕ → (line : ℕ) → (keeps : Bool) → Expressions → List Formal → ℕ → ℕ → Type 0
-  ActualsAt s code site n line keeps NoMore [] p q = q ≡ p
-  ActualsAt s code site n line keeps NoMore (f ∷ fs) p q = ⊥
-  ActualsAt s code site n line keeps (Then e es) [] p q = ⊥
-  ActualsAt s code site n line keeps (Then e es) (f ∷ fs) p q =
-      (x : ℕ) × FittingAt s code site n line (class_passed s f) (ActualAt code site n line keeps f.mode f.kind (is_text_type f.ty) (ExprAt s code site n e)
-      (λ inner. ObjectAt (is_placed s e) (PlaceAt s code inner 0 (class_given s code e) e) (ExprAt s code inner 0 e))) p x × ActualsAt s code site (suc n) line keeps es fs x q
+  pub PassedAt : Source → CodeOf → Site → ℕ → (line : ℕ) → (keeps : Bool) → Expressions → List Formal → ℕ → ℕ → Type 0
+  PassedAt s code site n line keeps NoMore [] p q = q ≡ p
+  PassedAt s code site n line keeps NoMore (f ∷ fs) p q = ⊥
+  PassedAt s code site n line keeps (Then e es) [] p q = ⊥
+  PassedAt s code site n line keeps (Then e es) (f ∷ fs) p q =
+      (x : ℕ) × FittingAt s code site n line (class_passed s f) (ActualAt code site n line keeps f.mode f.kind (is_text_type f.ty) (ExprAt s code site n e) (ProcedureAt s code site n e)
+      (λ as_procedure inner. GivenBy as_procedure (ProcedureAt s code inner 0 e) (ObjectAt (is_placed s e) (PlaceAt s code inner 0 (class_given s code e) e) (ExprAt s code inner 0 e)))) p x × PassedAt s code site (suc n) line keeps es fs x q
+
+  -- actual parameters of a call that is checked when it is done, from a number on
+  pub ParametersAt : Source → CodeOf → Site → ℕ → (line number : ℕ) → Expressions → ℕ → ℕ → Type 0
+  ParametersAt s code site n line number NoMore p q = q ≡ p
+  ParametersAt s code site n line number (Then e es) p q =
+      (x : ℕ) × ParameterAt code site n line number (passed s e)
+      (λ as_procedure inner. GivenBy as_procedure (ProcedureAt s code inner 0 e) (ObjectAt (is_placed s e) (PlaceAt s code inner 0 (class_given s code e) e) (ExprAt s code inner 0 e))) p x × ParametersAt s code site (suc n) line (suc number) es x q
+
+abbrev pub ActualsAt : Source → CodeOf → Site → ℕ → (line : ℕ) → (keeps : Bool) → Expressions → Parameters → ℕ → ℕ → Type 0
+ActualsAt s code site n line keeps es fs p q = ActualsBy (λ fs. PassedAt s code site n line keeps es fs) (λ p q. (x : ℕ) × CheckAt s code line es p x × ParametersAt s code site n line 0 es x q) fs p q
 
 -- ---- where a reference lies, with its qualification
 

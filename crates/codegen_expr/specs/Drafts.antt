@@ -1,10 +1,11 @@
 -- Code that is not yet whole.
-use Rattle.std.specs.Prelude.{◌≡◌, ◌≢◌, ◌≤◌, ◌<◌, ℕ, suc, max, Bool, true, false, List, [], ◌∷◌, ◌++◌, length, slice_get, slice_set, Option, Some, None}
+use Rattle.std.specs.Prelude.{◌≡◌, ◌≢◌, ◌≤◌, ◌<◌, ℕ, zero, suc, max, Bool, true, false, List, [], ◌∷◌, ◌++◌, length, slice_get, slice_set, Option, Some, None}
 use Rattle.sim_code.specs.declared.instr.Instr.{Instr}
 use Rattle.sim_code.specs.declared.instr.Instr.TheVariants as i
 use Rattle.sim_code.specs.declared.instr.Lined.{Lined}
 use Rattle.sim_code.specs.Code.{CodeOf}
 use Rattle.sim_code.specs.Running.{AllRun}
+use Rattle.sim_code.specs.declared.code.CodeActual.{CodeActual}
 use Rattle.sim_code.specs.declared.code.CodeType.{CodeType}
 use Rattle.sim_code.specs.declared.code.ThunkRecord.{ThunkRecord}
 use Rattle.sim_code.specs.Code as code
@@ -22,7 +23,7 @@ pub record PlannedOf : Type 0 where
 
 -- What is written so far: the instructions, the room on the operand stack that is enough for them, how many cells and temps are enough, and
 -- whether all that was to be written is written. Where a form is not built, it is not. And for each block of the code what is planned of it. And
--- the thunks so far, of which one has room for no value as long as its code is being written.
+-- the thunks so far, of which one has room for no value as long as its code is being written; and the actual parameters of checked calls.
 pub record DraftOf : Type 0 where
   pub instrs : List Lined
   pub room : ℕ
@@ -30,34 +31,35 @@ pub record DraftOf : Type 0 where
   pub whole : Bool
   pub classes : List PlannedOf
   pub thunks : List ThunkRecord
+  pub lists : List (List CodeActual)
 
 -- one more instruction
 unfoldable pub with_instr : DraftOf → Instr → (line : ℕ) → DraftOf
-with_instr c x line = record { instrs = c.instrs ++ (lined x line ∷ []); room = c.room; size = c.size; whole = c.whole; classes = c.classes; thunks = c.thunks }
+with_instr c x line = record { instrs = c.instrs ++ (lined x line ∷ []); room = c.room; size = c.size; whole = c.whole; classes = c.classes; thunks = c.thunks; lists = c.lists }
 
 -- one more instruction, which may push a value on n others
 unfoldable pub with_push : DraftOf → (n : ℕ) → Instr → (line : ℕ) → DraftOf
-with_push c n x line = record { instrs = c.instrs ++ (lined x line ∷ []); room = max c.room (suc n); size = c.size; whole = c.whole; classes = c.classes; thunks = c.thunks }
+with_push c n x line = record { instrs = c.instrs ++ (lined x line ∷ []); room = max c.room (suc n); size = c.size; whole = c.whole; classes = c.classes; thunks = c.thunks; lists = c.lists }
 
 -- the operand stack has room for a value on n others
 unfoldable pub with_room : DraftOf → (n : ℕ) → DraftOf
-with_room c n = record { instrs = c.instrs; room = max c.room (suc n); size = c.size; whole = c.whole; classes = c.classes; thunks = c.thunks }
+with_room c n = record { instrs = c.instrs; room = max c.room (suc n); size = c.size; whole = c.whole; classes = c.classes; thunks = c.thunks; lists = c.lists }
 
 -- the frame has a temp of this number
 unfoldable pub with_temp : DraftOf → (temp : ℕ) → DraftOf
-with_temp c temp = record { instrs = c.instrs; room = c.room; size = max c.size (suc temp); whole = c.whole; classes = c.classes; thunks = c.thunks }
+with_temp c temp = record { instrs = c.instrs; room = c.room; size = max c.size (suc temp); whole = c.whole; classes = c.classes; thunks = c.thunks; lists = c.lists }
 
 -- a hole, in which an instruction is still to be written: a jump whose target is not known yet
 unfoldable pub with_hole : DraftOf → DraftOf
-with_hole c = record { instrs = c.instrs ++ (lined i.Halt 0 ∷ []); room = c.room; size = c.size; whole = c.whole; classes = c.classes; thunks = c.thunks }
+with_hole c = record { instrs = c.instrs ++ (lined i.Halt 0 ∷ []); room = c.room; size = c.size; whole = c.whole; classes = c.classes; thunks = c.thunks; lists = c.lists }
 
 -- an instruction in the place of a hole
 unfoldable pub filled_in : DraftOf → (place : ℕ) → Instr → DraftOf
-filled_in c k x = record { instrs = slice_set c.instrs k (lined x 0); room = c.room; size = c.size; whole = c.whole; classes = c.classes; thunks = c.thunks }
+filled_in c k x = record { instrs = slice_set c.instrs k (lined x 0); room = c.room; size = c.size; whole = c.whole; classes = c.classes; thunks = c.thunks; lists = c.lists }
 
 -- A thunk begins here. Its operand stack has room for what it gives.
 unfoldable pub thunk_begun : DraftOf → DraftOf
-thunk_begun c = record { instrs = c.instrs; room = 1; size = c.size; whole = c.whole; classes = c.classes; thunks = c.thunks ++ (record { entry = length c.instrs; room = 0 } ∷ []) }
+thunk_begun c = record { instrs = c.instrs; room = 1; size = c.size; whole = c.whole; classes = c.classes; thunks = c.thunks ++ (record { entry = length c.instrs; room = 0 } ∷ []); lists = c.lists }
 
 abbrev pub with_room_of : Option ThunkRecord → List ThunkRecord → (number room : ℕ) → List ThunkRecord
 with_room_of None ts t n = ts
@@ -65,11 +67,15 @@ with_room_of (Some x) ts t n = slice_set ts t (record { entry = x.entry; room = 
 
 -- the code of a thunk is written, outside of which this room was enough
 unfoldable pub thunk_ended : DraftOf → (number outside : ℕ) → DraftOf
-thunk_ended c t n = record { instrs = c.instrs; room = n; size = c.size; whole = c.whole; classes = c.classes; thunks = with_room_of (slice_get c.thunks t) c.thunks t c.room }
+thunk_ended c t n = record { instrs = c.instrs; room = n; size = c.size; whole = c.whole; classes = c.classes; thunks = with_room_of (slice_get c.thunks t) c.thunks t c.room; lists = c.lists }
+
+-- one more list of actual parameters
+unfoldable pub with_list : DraftOf → List CodeActual → DraftOf
+with_list c xs = record { instrs = c.instrs; room = c.room; size = c.size; whole = c.whole; classes = c.classes; thunks = c.thunks; lists = c.lists ++ (xs ∷ []) }
 
 -- something is not built
 unfoldable pub given_up : DraftOf → DraftOf
-given_up c = record { instrs = c.instrs; room = c.room; size = c.size; whole = false; classes = c.classes; thunks = c.thunks }
+given_up c = record { instrs = c.instrs; room = c.room; size = c.size; whole = false; classes = c.classes; thunks = c.thunks; lists = c.lists }
 
 abbrev pub planned_or_none : Option PlannedOf → PlannedOf
 planned_or_none None = record { class = 0; cells = 0; room = 0; types = [] }
@@ -105,17 +111,36 @@ planned_start s xs k = length (planned_front s xs k).types
 pub record Grows (code final : List Lined) : Type 0 where
   pub keeps : (k : ℕ) (x : Lined) → slice_get code k ≡ Some x → x.instr ≢ i.Halt → slice_get final k ≡ Some x
 
--- a list of thunks, and a longer one that begins with it
-pub record Longer (thunks longer : List ThunkRecord) : Type 0 where
+-- the last thunk whose code is being written: it has room for no value yet
+abbrev pub open_if : (room number : ℕ) → (before : Option ℕ) → Option ℕ
+open_if zero n o = Some n
+open_if (suc r) n o = o
+
+abbrev pub open_from : (number : ℕ) → (before : Option ℕ) → List ThunkRecord → Option ℕ
+open_from n o [] = o
+open_from n o (x ∷ xs) = open_from (suc n) (open_if x.room n o) xs
+
+unfoldable pub open_thunk : List ThunkRecord → Option ℕ
+open_thunk xs = open_from 0 None xs
+
+-- a list, and a longer one that begins with it
+pub record Longer {A : Type 0} (xs longer : List A) : Type 0 where
+  pub more : List A
+  pub front : longer ≡ xs ++ more
+
+-- and further thunks, where the same one is being written
+pub record MoreThunks (thunks later : List ThunkRecord) : Type 0 where
   pub more : List ThunkRecord
-  pub front : longer ≡ thunks ++ more
+  pub front : later ≡ thunks ++ more
+  pub opened : open_thunk later ≡ open_thunk thunks
 
 -- a later list of thunks keeps each one whose code is written
 pub record ThunksGrow (thunks final : List ThunkRecord) : Type 0 where
   pub keeps : (k : ℕ) (x : ThunkRecord) → slice_get thunks k ≡ Some x → x.room ≢ 0 → slice_get final k ≡ Some x
 
 -- a code that a draft becomes in the end, for a spot: it keeps what is written, the operand stack has the room and the frame the size, and
--- another instruction follows; its thunks are kept; and its blocks are as planned
+-- another instruction follows; its thunks and its lists of actual parameters are kept; the code belongs to the thunk that is being written; and
+-- its blocks are as planned
 pub record Becomes (spot : Spot) (c : DraftOf) (final : CodeOf) (site : Site) : Type 0 where
   pub grows : Grows c.instrs final.instrs
   pub roomy : c.room ≤ site.room
@@ -125,6 +150,8 @@ pub record Becomes (spot : Spot) (c : DraftOf) (final : CodeOf) (site : Site) : 
   pub taken : site.used ≡ spot.used
   pub follows : length c.instrs < length final.instrs
   pub thunked : ThunksGrow c.thunks final.thunks
+  pub belongs : site.thunk ≡ open_thunk c.thunks
+  pub listed : Longer c.lists final.actual_lists
   pub classed : (block : ℕ) → planned_in (slice_get final.blocks block) ≡ planned_at c.classes block
 
 -- Behind old there is new. The draft stays whole just where all that is meant is built; and if it is whole, then whatever the code is in the
@@ -132,7 +159,8 @@ pub record Becomes (spot : Spot) (c : DraftOf) (final : CodeOf) (site : Site) : 
 pub record Emits (spot : Spot) (old new : DraftOf) (Built : Type 0) (Here : CodeOf → Site → ℕ → ℕ → Type 0) : Type 0 where
   pub rest : List Lined
   pub front : new.instrs ≡ old.instrs ++ rest
-  pub thunked : Longer old.thunks new.thunks
+  pub thunked : MoreThunks old.thunks new.thunks
+  pub listed : Longer old.lists new.lists
   pub roomier : old.room ≤ new.room
   pub larger : old.size ≤ new.size
   pub classed : new.classes ≡ old.classes

@@ -1,5 +1,5 @@
 -- What is written of an expression.
-use Rattle.std.specs.Prelude.{◌≡◌, ◌<◌, ◌≤◌, ◌-◌, ◌&&◌, ◌||◌, not, ⊤, ℕ, suc, pos, Bool, true, false, List, [], ◌∷◌, drop, length, map, slice_get, take, Option, Some, None}
+use Rattle.std.specs.Prelude.{◌≡◌, ◌<◌, ◌-◌, ◌&&◌, ◌||◌, not, ⊤, ℕ, suc, pos, Bool, true, false, List, [], ◌∷◌, drop, length, map, slice_get, take, Option, Some, None}
 use Rattle.sim_base.specs.declared.numbering.DeclNo.{DeclNo}
 use Rattle.sim_base.specs.declared.numbering.TokenNo.{TokenNo}
 use Rattle.sim_scope.specs.declared.bound.Bound.{Bound}
@@ -50,8 +50,8 @@ use Rattle.codegen_expr.specs.declared.operators.Seen.TheVariants as seen
 use Rattle.codegen_expr.specs.declared.operators.Sorted.{Sorted}
 use Rattle.codegen_expr.specs.declared.operators.Sorted.TheVariants as sorted
 use Rattle.codegen_expr.specs.declared.spot.Spot.{Spot}
-use Rattle.codegen_expr.specs.Built.{ActualBuilt, ActualsBuilt, AreBuilt, ArrayBuilt, ArrayPlaceBuilt, CallBuilt, CellBuilt, ConnectedNameBuilt, ConstantBuilt, DotBuilt, IsBuilt, NameBuilt, NamedBuilt, NamedPlaceBuilt, ObjectBuilt, OfObjectBuilt, OwnBuilt, OwnNameBuilt, PlaceBuilt, PlainBuilt, StandardBuilt, StandsIn, ThisFoundBuilt, ThroughBuilt, VariableBuilt}
-use Rattle.codegen_expr.specs.CodeExpr.{ActualAt, ActualsAt, ArrayAt, ArrayPlaceAt, ByNameAt, CallAt, CellAt, CellPlaceAt, ConnectedNameAt, ConstantAt, DotAt, ElementAt, ExprAt, ExprsAt, FittingAt, GivenAt, IsConstant, NamedAt, NamedPlaceAt, ObjectAt, OfObjectAt, OwnAt, OwnNameAt, PlaceAt, Stand, StandardAt, StandardIs, ThisAt, ThisFoundAt, ThroughAt, ThunkAt, VariableAt, VariablePlaceAt, VirtualAt, class_given, join_instrs, operands, two_instr}
+use Rattle.codegen_expr.specs.Built.{ActualBuilt, ActualsBuilt, ProcedureBuilt, AreBuilt, ArrayBuilt, ArrayPlaceBuilt, CallBuilt, CellBuilt, ConnectedNameBuilt, ConstantBuilt, DotBuilt, IsBuilt, NameBuilt, NamedBuilt, NamedPlaceBuilt, ObjectBuilt, OfObjectBuilt, OwnBuilt, OwnNameBuilt, PlaceBuilt, PlainBuilt, StandardBuilt, StandsIn, ThisFoundBuilt, ThroughBuilt, VariableBuilt}
+use Rattle.codegen_expr.specs.CodeExpr.{Checked, FormalProcedureAt, GivenBy, Listed, MatchAt, NamedArrayAt, NamedArrayPlaceAt, NamedElementAt, Parameters, PastThunkAt, ProcedureAt, ValueCallAt, is_by_name, parameters_at, ActualAt, ActualsAt, ArrayAt, ArrayPlaceAt, ByNameAt, CallAt, CellAt, CellPlaceAt, ConnectedNameAt, ConstantAt, DotAt, ElementAt, ExprAt, ExprsAt, FittingAt, GivenAt, IsConstant, NamedAt, NamedPlaceAt, ObjectAt, OfObjectAt, OwnAt, OwnNameAt, PlaceAt, Stand, StandardAt, StandardIs, ThisAt, ThisFoundAt, ThroughAt, ThunkAt, VariableAt, VariablePlaceAt, class_given, join_instrs, operands, two_instr}
 use Rattle.codegen_expr.specs.Drafts.{DraftOf, Emits}
 use Rattle.codegen_expr.specs.Sites.{Inside, Pushes, Site}
 
@@ -83,10 +83,10 @@ formals_of_block s block = formals_from s (formals_in (slice_get s.tables.blocks
 -- what a declared identifier is seen as
 abbrev pub seen_formal : Mode → FormalKind → Seen
 seen_formal mode.ByName shape.Simple = seen.Named
-seen_formal mode.ByName kind = seen.Nothing
+seen_formal mode.ByName shape.Array = seen.NamedArray
 seen_formal mode shape.Simple = seen.Variable
 seen_formal mode shape.Array = seen.Array
-seen_formal mode shape.Procedure = seen.Nothing
+seen_formal mode shape.Procedure = seen.Procedure (is_by_name mode)
 
 abbrev pub seen_of : Option Entry → Seen
 seen_of (Some (entry.Variable type)) = seen.Variable
@@ -97,22 +97,26 @@ seen_of (Some (entry.Procedure result block)) = seen.Call block
 seen_of (Some (entry.Virtual result own)) = seen.Virtual
 seen_of _ = seen.Nothing
 
-abbrev pub SeenBuilt : Source → (text : ℕ) → DeclNo → Seen → Expressions → (Operands : Type 0) → (Actuals : List Formal → Type 0) → Type 0
+abbrev pub SeenBuilt : Source → (text : ℕ) → DeclNo → Seen → Expressions → (Operands : Type 0) → (Actuals : Parameters → Type 0) → Type 0
 SeenBuilt s text d seen.Variable es Operands Actuals = VariableBuilt s text d es
 SeenBuilt s text d seen.Array es Operands Actuals = ArrayBuilt s text d es Operands
 SeenBuilt s text d seen.Constant es Operands Actuals = ConstantBuilt (constant_of s d) es
-SeenBuilt s text d (seen.Call block) es Operands Actuals = CallBuilt s text d (Actuals (formals_of_block s block))
-SeenBuilt s text d seen.Virtual es Operands Actuals = StandsIn s text (block_of s d)
+SeenBuilt s text d (seen.Call block) es Operands Actuals = CallBuilt s text d (Actuals (Listed (formals_of_block s block)))
+SeenBuilt s text d seen.Virtual es Operands Actuals = StandsIn s text (block_of s d) × Actuals Checked
 SeenBuilt s text d seen.Named es Operands Actuals = VariableBuilt s text d es
+SeenBuilt s text d seen.NamedArray es Operands Actuals = ArrayBuilt s text d es Operands
+SeenBuilt s text d (seen.Procedure by_name) es Operands Actuals = CellBuilt s text d × Actuals Checked
 SeenBuilt s text d seen.Nothing es Operands Actuals = ⊥
 
-abbrev pub SeenAt : Source → CodeOf → Site → ℕ → (line : ℕ) → DeclNo → Seen → Expressions → (Operands : ℕ → ℕ → Type 0) → (Actuals : List Formal → ℕ → ℕ → Type 0) → ℕ → ℕ → Type 0
+abbrev pub SeenAt : Source → CodeOf → Site → ℕ → (line : ℕ) → DeclNo → Seen → Expressions → (Operands : ℕ → ℕ → Type 0) → (Actuals : Parameters → ℕ → ℕ → Type 0) → ℕ → ℕ → Type 0
 SeenAt s code site n line d seen.Variable es Operands Actuals p q = VariableAt s code site n d es p q
 SeenAt s code site n line d seen.Array es Operands Actuals p q = ArrayAt s code site n line d es Operands p q
 SeenAt s code site n line d seen.Constant es Operands Actuals p q = ConstantAt s code site n (constant_of s d) es p q
-SeenAt s code site n line d (seen.Call block) es Operands Actuals p q = CallAt s code site n line d block es (Actuals (formals_of_block s block)) p q
-SeenAt s code site n line d seen.Virtual es Operands Actuals p q = VirtualAt code line d.0 es (ThisAt s code site n (block_of s d)) p q
+SeenAt s code site n line d (seen.Call block) es Operands Actuals p q = CallAt s code site n line d block es (Actuals (Listed (formals_of_block s block))) p q
+SeenAt s code site n line d seen.Virtual es Operands Actuals p q = ValueCallAt code line es (MatchAt code line d.0 (ThisAt s code site n (block_of s d))) (Actuals Checked) p q
 SeenAt s code site n line d seen.Named es Operands Actuals p q = ByNameAt s code site n d es (ForValue (class_of_formal s d) line) p q
+SeenAt s code site n line d seen.NamedArray es Operands Actuals p q = NamedArrayAt s code site n line d es Operands p q
+SeenAt s code site n line d (seen.Procedure by_name) es Operands Actuals p q = ValueCallAt code line es (FormalProcedureAt s code site n line d by_name) (Actuals Checked) p q
 SeenAt s code site n line d seen.Nothing es Operands Actuals p q = ⊥
 
 -- what an attribute of an object is seen as
@@ -139,8 +143,9 @@ passed_of keeps mode.ByValue shape.Simple true = passed.CopiedText
 passed_of keeps mode.ByValue shape.Simple false = passed.Plain
 passed_of keeps mode.ByReference shape.Simple text = passed.Plain
 passed_of keeps mode.ByName shape.Simple text = passed.Named
-passed_of keeps mode.ByName kind text = passed.Other
-passed_of keeps mode shape.Procedure text = passed.Other
+passed_of keeps mode.ByName shape.Array text = passed.Named
+passed_of keeps mode.ByName shape.Procedure text = passed.NamedProcedure
+passed_of keeps mode shape.Procedure text = passed.Procedure
 
 -- what code has of a standard name that is done by itself: its number, and how many operands it takes
 pub record NumberedIs (name : Standard) (row : StandardCode) : Type 0 where
@@ -232,12 +237,12 @@ unfoldable pub PutsOwn : Source → Spot → (n : ℕ) → (old new : DraftOf) �
 PutsOwn s w n old new token u es =
     Emits w old new
     (OwnBuilt (own_attribute s token.0)
-    (λ d. OwnNameBuilt s w.text (found_at s token.0) (entry_of s.tables d) es (ActualsBuilt s w.text es (formals_at s d))
-    (OfObjectBuilt s d (entry_of s.tables d) es (ThisFoundBuilt s w.text (found_at s token.0)) (AreBuilt s w.text es) (ActualsBuilt s w.text es (formals_at s d))))
+    (λ d. OwnNameBuilt s w.text (found_at s token.0) (entry_of s.tables d) es (ActualsBuilt s w.text es (Listed (formals_at s d)))
+    (OfObjectBuilt s d (entry_of s.tables d) es (ThisFoundBuilt s w.text (found_at s token.0)) (AreBuilt s w.text es) (ActualsBuilt s w.text es (parameters_at s d))))
     (NamedBuilt s w.text u es (AreBuilt s w.text es) (λ formals. ActualsBuilt s w.text es formals)))
     (λ final site p q. OwnAt (own_attribute s token.0)
-    (λ d. OwnNameAt s final site n (line_at s token.0) (found_at s token.0) (entry_of s.tables d) es (λ x y. ActualsAt s final site (suc n) (line_at s token.0) false es (formals_at s d) x y)
-    (λ x y. OfObjectAt s final site n (line_at s token.0) d (entry_of s.tables d) es (λ x y. ThisFoundAt s final site n (found_at s token.0) x y) (λ x y. ExprsAt s final site (suc n) es x y) (λ x y. ActualsAt s final site (suc n) (line_at s token.0) false es (formals_at s d) x y) x y))
+    (λ d. OwnNameAt s final site n (line_at s token.0) (found_at s token.0) (entry_of s.tables d) es (λ x y. ActualsAt s final site (suc n) (line_at s token.0) false es (Listed (formals_at s d)) x y)
+    (λ x y. OfObjectAt s final site n (line_at s token.0) d (entry_of s.tables d) es (λ x y. ThisFoundAt s final site n (found_at s token.0) x y) (λ x y. ExprsAt s final site (suc n) es x y) (λ x y. ActualsAt s final site (suc n) (line_at s token.0) false es (parameters_at s d) x y) x y))
     (NamedAt s final site n (line_at s token.0) u es (λ x y. ExprsAt s final site n es x y) (λ x y. ExprsAt s final site (suc n) es x y) (λ formals x y. ActualsAt s final site (suc n) (line_at s token.0) false es formals x y)) p q)
 
 unfoldable pub WritesOwn : Bound → Spot → (n : ℕ) → (old new : DraftOf) → TokenNo → Option Denotation → List Expr → Type 0
@@ -249,14 +254,14 @@ PutsNamed s w n old new token u es =
     Emits w old new
     (ThroughBuilt (connection_at s token.0) (λ k. ConnectedNameBuilt s w.text k u es (AreBuilt s w.text es) (λ formals. ActualsBuilt s w.text es formals))
     (OwnBuilt (own_attribute s token.0)
-    (λ d. OwnNameBuilt s w.text (found_at s token.0) (entry_of s.tables d) es (ActualsBuilt s w.text es (formals_at s d))
-    (OfObjectBuilt s d (entry_of s.tables d) es (ThisFoundBuilt s w.text (found_at s token.0)) (AreBuilt s w.text es) (ActualsBuilt s w.text es (formals_at s d))))
+    (λ d. OwnNameBuilt s w.text (found_at s token.0) (entry_of s.tables d) es (ActualsBuilt s w.text es (Listed (formals_at s d)))
+    (OfObjectBuilt s d (entry_of s.tables d) es (ThisFoundBuilt s w.text (found_at s token.0)) (AreBuilt s w.text es) (ActualsBuilt s w.text es (parameters_at s d))))
     (NamedBuilt s w.text u es (AreBuilt s w.text es) (λ formals. ActualsBuilt s w.text es formals))))
     (λ final site p q. ThroughAt (connection_at s token.0)
     (λ k. ConnectedNameAt s final site n (line_at s token.0) k u es (λ x y. ExprsAt s final site (suc n) es x y) (λ formals x y. ActualsAt s final site (suc n) (line_at s token.0) false es formals x y))
     (OwnAt (own_attribute s token.0)
-    (λ d. OwnNameAt s final site n (line_at s token.0) (found_at s token.0) (entry_of s.tables d) es (λ x y. ActualsAt s final site (suc n) (line_at s token.0) false es (formals_at s d) x y)
-    (λ x y. OfObjectAt s final site n (line_at s token.0) d (entry_of s.tables d) es (λ x y. ThisFoundAt s final site n (found_at s token.0) x y) (λ x y. ExprsAt s final site (suc n) es x y) (λ x y. ActualsAt s final site (suc n) (line_at s token.0) false es (formals_at s d) x y) x y))
+    (λ d. OwnNameAt s final site n (line_at s token.0) (found_at s token.0) (entry_of s.tables d) es (λ x y. ActualsAt s final site (suc n) (line_at s token.0) false es (Listed (formals_at s d)) x y)
+    (λ x y. OfObjectAt s final site n (line_at s token.0) d (entry_of s.tables d) es (λ x y. ThisFoundAt s final site n (found_at s token.0) x y) (λ x y. ExprsAt s final site (suc n) es x y) (λ x y. ActualsAt s final site (suc n) (line_at s token.0) false es (parameters_at s d) x y) x y))
     (NamedAt s final site n (line_at s token.0) u es (λ x y. ExprsAt s final site n es x y) (λ x y. ExprsAt s final site (suc n) es x y) (λ formals x y. ActualsAt s final site (suc n) (line_at s token.0) false es formals x y))) p q)
 
 unfoldable pub WritesNamed : Bound → Spot → (n : ℕ) → (old new : DraftOf) → TokenNo → Option Denotation → List Expr → Type 0
@@ -276,11 +281,17 @@ WritesElement b w n old new class token d es =
     Emits w old new (CellBuilt (source_of b) w.text d × AreBuilt (source_of b) w.text (expressions (map syntax_of es)))
     (λ final site p q. ElementAt (source_of b) final site n (line_at (source_of b) token.0) class d (expressions (map syntax_of es)) (λ x y. ExprsAt (source_of b) final site (suc n) (expressions (map syntax_of es)) x y) p q)
 
+-- the same where the array is a formal parameter by name
+unfoldable pub WritesNamedElement : Bound → Spot → (n : ℕ) → (old new : DraftOf) → (class : ℕ) → TokenNo → DeclNo → List Expr → Type 0
+WritesNamedElement b w n old new class token d es =
+    Emits w old new (CellBuilt (source_of b) w.text d × AreBuilt (source_of b) w.text (expressions (map syntax_of es)))
+    (λ final site p q. NamedElementAt (source_of b) final site n (line_at (source_of b) token.0) class d (expressions (map syntax_of es)) (λ x y. ExprsAt (source_of b) final site (suc n) (expressions (map syntax_of es)) x y) p q)
+
 -- actual parameters, one for each formal; the token is that of the identifier that is called
 unfoldable pub WritesActuals : Bound → Spot → (n : ℕ) → (old new : DraftOf) → (keeps : Bool) → TokenNo → List Expr → List Formal → Type 0
 WritesActuals b w n old new keeps token es formals =
-    Emits w old new (ActualsBuilt (source_of b) w.text (expressions (map syntax_of es)) formals)
-    (λ final site p q. ActualsAt (source_of b) final site n (line_at (source_of b) token.0) keeps (expressions (map syntax_of es)) formals p q)
+    Emits w old new (ActualsBuilt (source_of b) w.text (expressions (map syntax_of es)) (Listed formals))
+    (λ final site p q. ActualsAt (source_of b) final site n (line_at (source_of b) token.0) keeps (expressions (map syntax_of es)) (Listed formals) p q)
 
 -- the link to the instance of a text around
 unfoldable pub WritesLinkTo : Bound → Spot → (n : ℕ) → (old new : DraftOf) → (text : ℕ) → Type 0
@@ -353,12 +364,14 @@ abbrev pub SeenPlaceBuilt : Source → (text : ℕ) → DeclNo → Seen → Expr
 SeenPlaceBuilt s text d seen.Variable es Subscripts = VariableBuilt s text d es
 SeenPlaceBuilt s text d seen.Array es Subscripts = ArrayPlaceBuilt s text d es Subscripts
 SeenPlaceBuilt s text d seen.Named es Subscripts = VariableBuilt s text d es
+SeenPlaceBuilt s text d seen.NamedArray es Subscripts = ArrayPlaceBuilt s text d es Subscripts
 SeenPlaceBuilt s text d _ es Subscripts = ⊥
 
 abbrev pub SeenPlaceAt : Source → CodeOf → Site → (n line class : ℕ) → DeclNo → Seen → Expressions → (Subscripts : ℕ → ℕ → Type 0) → ℕ → ℕ → Type 0
 SeenPlaceAt s code site n line class d seen.Variable es Subscripts p q = VariablePlaceAt s code site n class d es p q
 SeenPlaceAt s code site n line class d seen.Array es Subscripts p q = ArrayPlaceAt s code site n line class d es Subscripts p q
 SeenPlaceAt s code site n line class d seen.Named es Subscripts p q = ByNameAt s code site n d es (ForPlace true line) p q
+SeenPlaceAt s code site n line class d seen.NamedArray es Subscripts p q = NamedArrayPlaceAt s code site n line class d es Subscripts p q
 SeenPlaceAt s code site n line class d _ es Subscripts p q = ⊥
 
 unfoldable pub WritesSeenPlace : Bound → Spot → (n : ℕ) → (old new : DraftOf) → (class : ℕ) → TokenNo → DeclNo → Seen → List Expr → Type 0
@@ -519,20 +532,25 @@ WritesTextAt b w n old new token =
 
 -- ---- parameters by name
 
--- what a thunk gives
-abbrev pub GivenBuilt : Source → (text : ℕ) → Expression → Type 0
-GivenBuilt s text e = ObjectBuilt (is_placed s e) (PlaceBuilt s text e) (IsBuilt s text e)
+-- what a thunk gives, for a procedure or for anything else
+abbrev pub GivenBuilt : Source → (text : ℕ) → (as_procedure : Bool) → Expression → Type 0
+GivenBuilt s text true e = ProcedureBuilt s text e
+GivenBuilt s text false e = ObjectBuilt (is_placed s e) (PlaceBuilt s text e) (IsBuilt s text e)
 
-abbrev pub ThunkGivesAt : Source → CodeOf → Site → Expression → ℕ → ℕ → Type 0
-ThunkGivesAt s code site e p q = ObjectAt (is_placed s e) (PlaceAt s code site 0 (class_given s code e) e) (ExprAt s code site 0 e) p q
+abbrev pub ThunkGivesAt : Source → CodeOf → Site → (as_procedure : Bool) → Expression → ℕ → ℕ → Type 0
+ThunkGivesAt s code site as_procedure e p q = GivenBy as_procedure (ProcedureAt s code site 0 e) (ObjectAt (is_placed s e) (PlaceAt s code site 0 (class_given s code e) e) (ExprAt s code site 0 e)) p q
 
-unfoldable pub WritesGiven : Bound → Spot → (old new : DraftOf) → Expr → Type 0
-WritesGiven b w old new e = Emits w old new (GivenBuilt (source_of b) w.text (syntax_of e)) (λ final site p q. ThunkGivesAt (source_of b) final site (syntax_of e) p q)
+unfoldable pub WritesGiven : Bound → Spot → (old new : DraftOf) → (as_procedure : Bool) → Expr → Type 0
+WritesGiven b w old new as_procedure e = Emits w old new (GivenBuilt (source_of b) w.text as_procedure (syntax_of e)) (λ final site p q. ThunkGivesAt (source_of b) final site as_procedure (syntax_of e) p q)
 
--- an actual parameter by name
-unfoldable pub WritesThunk : Bound → Spot → (n : ℕ) → (old new : DraftOf) → Expr → Type 0
-WritesThunk b w n old new e =
-    Emits w old new (GivenBuilt (source_of b) w.text (syntax_of e)) (λ final site p q. ThunkAt final site n (λ inner x y. ThunkGivesAt (source_of b) final inner (syntax_of e) x y) p q)
+-- the code of a thunk, with its number; and an actual parameter by name
+unfoldable pub WritesPast : Bound → Spot → (old new : DraftOf) → (as_procedure : Bool) → Expr → (number : ℕ) → Type 0
+WritesPast b w old new as_procedure e number =
+    Emits w old new (GivenBuilt (source_of b) w.text as_procedure (syntax_of e)) (λ final site p q. PastThunkAt final site number (λ inner x y. ThunkGivesAt (source_of b) final inner as_procedure (syntax_of e) x y) p q)
+
+unfoldable pub WritesThunk : Bound → Spot → (n : ℕ) → (old new : DraftOf) → (as_procedure : Bool) → Expr → Type 0
+WritesThunk b w n old new as_procedure e =
+    Emits w old new (GivenBuilt (source_of b) w.text as_procedure (syntax_of e)) (λ final site p q. ThunkAt final site n (λ inner x y. ThunkGivesAt (source_of b) final inner as_procedure (syntax_of e) x y) p q)
 
 -- a use of a formal parameter by name: its value; or where it lies, with the line of its token
 unfoldable pub WritesUse : Bound → Spot → (n : ℕ) → (old new : DraftOf) → DeclNo → Use → Type 0
@@ -541,6 +559,10 @@ WritesUse b w n old new d wanted = Emits w old new (CellBuilt (source_of b) w.te
 unfoldable pub WritesName : Bound → Spot → (n : ℕ) → (old new : DraftOf) → TokenNo → DeclNo → Type 0
 WritesName b w n old new token d = WritesUse b w n old new d (ForValue (class_of_formal (source_of b) d) (line_at (source_of b) token.0))
 
+-- an array or a procedure
+unfoldable pub WritesNameWhole : Bound → Spot → (n : ℕ) → (old new : DraftOf) → TokenNo → DeclNo → Type 0
+WritesNameWhole b w n old new token d = WritesUse b w n old new d (ForValue None (line_at (source_of b) token.0))
+
 unfoldable pub WritesNamePlace : Bound → Spot → (n : ℕ) → (old new : DraftOf) → (value_too : Bool) → TokenNo → DeclNo → Type 0
 WritesNamePlace b w n old new value_too token d = WritesUse b w n old new d (ForPlace value_too (line_at (source_of b) token.0))
 
@@ -548,15 +570,15 @@ WritesNamePlace b w n old new value_too token d = WritesUse b w n old new d (For
 unfoldable pub WritesPassed : Bound → Spot → (n : ℕ) → (old new : DraftOf) → (keeps : Bool) → TokenNo → Expr → Formal → Type 0
 WritesPassed b w n old new keeps token e f =
     let s = source_of b in
-    Emits w old new (ActualBuilt f.mode f.kind (IsBuilt s w.text (syntax_of e)) (GivenBuilt s w.text (syntax_of e)))
-    (λ final site p q. ActualAt final site n (line_at s token.0) keeps f.mode f.kind (is_text_type f.ty) (λ x y. ExprAt s final site n (syntax_of e) x y) (λ inner x y. ThunkGivesAt s final inner (syntax_of e) x y) p q)
+    Emits w old new (ActualBuilt f.mode f.kind (IsBuilt s w.text (syntax_of e)) (ProcedureBuilt s w.text (syntax_of e)) (GivenBuilt s w.text false (syntax_of e)))
+    (λ final site p q. ActualAt final site n (line_at s token.0) keeps f.mode f.kind (is_text_type f.ty) (λ x y. ExprAt s final site n (syntax_of e) x y) (λ x y. ProcedureAt s final site n (syntax_of e) x y) (λ as_procedure inner x y. ThunkGivesAt s final inner as_procedure (syntax_of e) x y) p q)
 
 -- and held against the qualification of the formal
 unfoldable pub WritesActual : Bound → Spot → (n : ℕ) → (old new : DraftOf) → (keeps : Bool) → TokenNo → Expr → Formal → Type 0
 WritesActual b w n old new keeps token e f =
     let s = source_of b in
-    Emits w old new (ActualBuilt f.mode f.kind (IsBuilt s w.text (syntax_of e)) (GivenBuilt s w.text (syntax_of e)))
-    (λ final site p q. FittingAt s final site n (line_at s token.0) (class_passed s f) (λ u v. ActualAt final site n (line_at s token.0) keeps f.mode f.kind (is_text_type f.ty) (λ x y. ExprAt s final site n (syntax_of e) x y) (λ inner x y. ThunkGivesAt s final inner (syntax_of e) x y) u v) p q)
+    Emits w old new (ActualBuilt f.mode f.kind (IsBuilt s w.text (syntax_of e)) (ProcedureBuilt s w.text (syntax_of e)) (GivenBuilt s w.text false (syntax_of e)))
+    (λ final site p q. FittingAt s final site n (line_at s token.0) (class_passed s f) (λ u v. ActualAt final site n (line_at s token.0) keeps f.mode f.kind (is_text_type f.ty) (λ x y. ExprAt s final site n (syntax_of e) x y) (λ x y. ProcedureAt s final site n (syntax_of e) x y) (λ as_procedure inner x y. ThunkGivesAt s final inner as_procedure (syntax_of e) x y) u v) p q)
 
 -- in a loop: what is written of the rest is written of the whole
 unfoldable pub OwesList : Bound → Spot → (n : ℕ) → (old : DraftOf) → List Expr → (m : ℕ) → (now : DraftOf) → List Expr → Type 0

@@ -1,11 +1,10 @@
 -- What is written of objects, of what they have, and of the classes that are named.
-use Rattle.std.specs.Prelude.{◌<◌, ◌≤◌, ⊤, ℕ, suc, pos, true, false, List, map, Option, Some}
+use Rattle.std.specs.Prelude.{◌≡◌, ⊤, ℕ, suc, pos, true, false, List, map, Option, Some}
 use Rattle.sim_base.specs.declared.numbering.DeclNo.{DeclNo}
 use Rattle.sim_base.specs.declared.numbering.TokenNo.{TokenNo}
 use Rattle.sim_scope.specs.declared.bound.Bound.{Bound}
-use Rattle.sim_scope.specs.declared.types.Formal.{Formal}
 use Rattle.sim_scope.specs.Scopes.{entry_of}
-use Rattle.sim_scope.specs.Source.{Source, block_of, denoted, found_at, level_of, line_at, source_of}
+use Rattle.sim_scope.specs.Source.{Source, block_of, denoted, found_at, line_at, source_of}
 use Rattle.sim_tree.specs.declared.expr.Expr.{Expr}
 use Rattle.sim_tree.specs.declared.expr.Identifier.{Identifier}
 use Rattle.sim_tree.specs.declared.expr.Membership.{Membership}
@@ -13,18 +12,17 @@ use Rattle.sim_tree.specs.Syntax.{Expression, Expressions, NoMore, expressions}
 use Rattle.sim_tree.specs.SyntaxOf.{syntax_of}
 use Rattle.sim_code.specs.declared.instr.Instr.TheVariants as i
 use Rattle.sim_code.specs.Code.{CodeOf}
-use Rattle.sim_meaning.specs.Attributes.{class_made}
-use Rattle.sim_meaning.specs.Closing.{class_parameters, formals_at}
-use Rattle.sim_meaning.specs.Levels.{class_at}
-use Rattle.sim_meaning.specs.Pending.{Declared}
+use Rattle.sim_meaning.specs.Closing.{class_parameters}
+use Rattle.sim_meaning.specs.Levels.{class_at, is_process_itself}
+use Rattle.sim_meaning.specs.Pending.{Declared, Origin}
 use Rattle.codegen_expr.specs.declared.operators.Seen.{Seen}
 use Rattle.codegen_expr.specs.declared.operators.Seen.TheVariants as seen
 use Rattle.codegen_expr.specs.declared.spot.Spot.{Spot}
 use Rattle.codegen_expr.specs.Built.{ActualsBuilt, AreBuilt, ArrayOfBuilt, ArrayPlaceOfBuilt, ClassBuilt, ConnectedBuilt, ConstantOfBuilt, GenerationBuilt, HasBuilt, IsBuilt, OfObjectBuilt, PlaceBehindBuilt, PlaceOfObjectBuilt, StandsIn, ThisFoundBuilt, VariableOfBuilt}
-use Rattle.codegen_expr.specs.CodeExpr.{ActualsAt, ArrayOfAt, ArrayPlaceOfAt, AttributePlaceAt, ConnectedAt, ConstantAttributeAt, ElementOfAt, ExprAt, ExprsAt, GenerationAt, HeldAt, MemberAt, NewAt, OfObjectAt, PlaceBehindAt, PlaceOfObjectAt, QuaAt, RemoteCallAt, ThisAt, ThisFoundAt, VariableOfAt, VariablePlaceOfAt, VirtualAt}
+use Rattle.codegen_expr.specs.CodeExpr.{Checked, Listed, MatchAt, Parameters, ValueCallAt, parameters_at, ActualsAt, ArrayOfAt, ArrayPlaceOfAt, AttributePlaceAt, ConnectedAt, ConstantAttributeAt, ElementOfAt, ExprAt, ExprsAt, GenerationAt, HeldAt, MemberAt, NewAt, OfObjectAt, PlaceBehindAt, PlaceOfObjectAt, QuaAt, RemoteCallAt, ThisAt, ThisFoundAt, VariableOfAt, VariablePlaceOfAt}
 use Rattle.codegen_expr.specs.Drafts.{DraftOf, Emits}
 use Rattle.codegen_expr.specs.Emit.{Puts, formals_of_block}
-use Rattle.codegen_expr.specs.Sites.{At, Is, Pushes, Site, class_number}
+use Rattle.codegen_expr.specs.Sites.{At, HasCell, Is, Pushes, Site, class_number, slot_of}
 
 -- ---- objects
 
@@ -83,23 +81,21 @@ WritesElementOf b w n old new class token d ys =
     (λ final site p q. ElementOfAt s final (line_at s token.0) class d es (λ u v. BaseAt s final site n x u v) (λ u v. ExprsAt s final site (suc n) es u v) p q)
 
 -- what an object has, as it is seen
-abbrev pub SeenOfBuilt : Source → DeclNo → Seen → Expressions → (Object Operands : Type 0) → (Actuals : List Formal → Type 0) → Type 0
+abbrev pub SeenOfBuilt : Source → DeclNo → Seen → Expressions → (Object Operands : Type 0) → (Actuals : Parameters → Type 0) → Type 0
 SeenOfBuilt s d seen.Variable es Object Operands Actuals = VariableOfBuilt s d es Object
 SeenOfBuilt s d seen.Constant es Object Operands Actuals = ConstantOfBuilt s d es Object
 SeenOfBuilt s d seen.Array es Object Operands Actuals = ArrayOfBuilt s d Object Operands
-SeenOfBuilt s d (seen.Call block) es Object Operands Actuals = Object × Actuals (formals_of_block s block)
-SeenOfBuilt s d seen.Virtual es Object Operands Actuals = Object
-SeenOfBuilt s d seen.Named es Object Operands Actuals = ⊥
-SeenOfBuilt s d seen.Nothing es Object Operands Actuals = ⊥
+SeenOfBuilt s d (seen.Call block) es Object Operands Actuals = Object × Actuals (Listed (formals_of_block s block))
+SeenOfBuilt s d seen.Virtual es Object Operands Actuals = Object × Actuals Checked
+SeenOfBuilt s d _ es Object Operands Actuals = ⊥
 
-abbrev pub SeenOfAt : Source → CodeOf → Site → ℕ → (line : ℕ) → DeclNo → Seen → Expressions → (Object Inner : ℕ → ℕ → Type 0) → (Actuals : List Formal → ℕ → ℕ → Type 0) → ℕ → ℕ → Type 0
+abbrev pub SeenOfAt : Source → CodeOf → Site → ℕ → (line : ℕ) → DeclNo → Seen → Expressions → (Object Inner : ℕ → ℕ → Type 0) → (Actuals : Parameters → ℕ → ℕ → Type 0) → ℕ → ℕ → Type 0
 SeenOfAt s code site n line d seen.Variable es Object Inner Actuals p q = VariableOfAt s code line d es Object p q
 SeenOfAt s code site n line d seen.Constant es Object Inner Actuals p q = ConstantAttributeAt s code site n line d es Object p q
 SeenOfAt s code site n line d seen.Array es Object Inner Actuals p q = ArrayOfAt s code line d es Object Inner p q
-SeenOfAt s code site n line d (seen.Call block) es Object Inner Actuals p q = RemoteCallAt s code line block es Object (Actuals (formals_of_block s block)) p q
-SeenOfAt s code site n line d seen.Virtual es Object Inner Actuals p q = VirtualAt code line d.0 es Object p q
-SeenOfAt s code site n line d seen.Named es Object Inner Actuals p q = ⊥
-SeenOfAt s code site n line d seen.Nothing es Object Inner Actuals p q = ⊥
+SeenOfAt s code site n line d (seen.Call block) es Object Inner Actuals p q = RemoteCallAt s code line block es Object (Actuals (Listed (formals_of_block s block))) p q
+SeenOfAt s code site n line d seen.Virtual es Object Inner Actuals p q = ValueCallAt code line es (MatchAt code line d.0 Object) (Actuals Checked) p q
+SeenOfAt s code site n line d _ es Object Inner Actuals p q = ⊥
 
 unfoldable pub WritesSeenOf : Bound → Spot → (n : ℕ) → (old new : DraftOf) → TokenNo → DeclNo → Seen → List Expr → Type 0
 WritesSeenOf b w n old new token d k ys =
@@ -114,8 +110,8 @@ WritesOf b w n old new token d ys =
     let s = source_of b in
     let es = expressions (map syntax_of ys) in
     (start : DraftOf) (x : Base) → PutsBase s w n start old x
-    → Emits w start new (OfObjectBuilt s d (entry_of s.tables d) es (BaseBuilt s w.text x) (AreBuilt s w.text es) (ActualsBuilt s w.text es (formals_at s d)))
-    (λ final site p q. OfObjectAt s final site n (line_at s token.0) d (entry_of s.tables d) es (λ u v. BaseAt s final site n x u v) (λ u v. ExprsAt s final site (suc n) es u v) (λ u v. ActualsAt s final site (suc n) (line_at s token.0) false es (formals_at s d) u v) p q)
+    → Emits w start new (OfObjectBuilt s d (entry_of s.tables d) es (BaseBuilt s w.text x) (AreBuilt s w.text es) (ActualsBuilt s w.text es (parameters_at s d)))
+    (λ final site p q. OfObjectAt s final site n (line_at s token.0) d (entry_of s.tables d) es (λ u v. BaseAt s final site n x u v) (λ u v. ExprsAt s final site (suc n) es u v) (λ u v. ActualsAt s final site (suc n) (line_at s token.0) false es (parameters_at s d) u v) p q)
 
 -- ---- where variables of objects lie
 
@@ -181,12 +177,20 @@ unfoldable pub WritesGeneration : Bound → Spot → (n : ℕ) → (old new : Dr
 WritesGeneration b w n old new token x d k ys =
     let s = source_of b in
     let es = expressions (map syntax_of ys) in
-    Emits w old new (StandsIn s w.text (block_of s d) × ActualsBuilt s w.text es (class_parameters s (Some k)))
-    (λ final site p q. NewAt s final site n (line_at s token.0) d k es (λ u v. ActualsAt s final site (suc n) (line_at s x.token.0) true es (class_parameters s (Some k)) u v) p q)
+    Emits w old new (StandsIn s w.text (block_of s d) × ActualsBuilt s w.text es (Listed (class_parameters s (Some k))))
+    (λ final site p q. NewAt s final site n (line_at s token.0) d k es (λ u v. ActualsAt s final site (suc n) (line_at s x.token.0) true es (Listed (class_parameters s (Some k))) u v) p q)
+
+-- what is written behind the new object of `process` itself, whose text this is; the token is that of the class
+unfoldable pub WritesOrigin : Bound → Spot → (n : ℕ) → (old new : DraftOf) → (token class : TokenNo) → (text : ℕ) → Type 0
+WritesOrigin b w n old new token class k =
+    let s = source_of b in
+    is_process_itself s k ≡ true
+    → Emits w old new ⊤
+    (λ final site p q. (HasCell s k Origin) × (y : ℕ) × (z : ℕ) × (v : ℕ) × Pushes final site (suc n) i.Dup p y × At final (i.AddrR (pos (slot_of s final k Origin)) (pos 0)) (line_at s token.0) y z × Pushes final site (suc (suc n)) (i.Int (pos class.0)) z v × Is final i.Put v q)
 
 unfoldable pub WritesNew : Bound → Spot → (n : ℕ) → (old new : DraftOf) → TokenNo → Identifier → List Expr → Type 0
 WritesNew b w n old new token x ys =
     let s = source_of b in
     let es = expressions (map syntax_of ys) in
-    Emits w old new (GenerationBuilt s w.text (denoted s x.token.0) (class_made s (class_at s x.token.0)) (ActualsBuilt s w.text es (class_parameters s (class_at s x.token.0))))
-    (λ final site p q. GenerationAt s final site n (line_at s token.0) (denoted s x.token.0) (class_made s (class_at s x.token.0)) es (λ u v. ActualsAt s final site (suc n) (line_at s x.token.0) true es (class_parameters s (class_at s x.token.0)) u v) p q)
+    Emits w old new (GenerationBuilt s w.text (denoted s x.token.0) (class_at s x.token.0) (ActualsBuilt s w.text es (Listed (class_parameters s (class_at s x.token.0)))))
+    (λ final site p q. GenerationAt s final site n (line_at s token.0) x.token.0 (denoted s x.token.0) (class_at s x.token.0) es (λ u v. ActualsAt s final site (suc n) (line_at s x.token.0) true es (Listed (class_parameters s (class_at s x.token.0))) u v) p q)

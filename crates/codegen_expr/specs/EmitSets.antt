@@ -18,7 +18,7 @@ use Rattle.sim_meaning.specs.Attributes.{attribute_formals}
 use Rattle.codegen_expr.specs.declared.sets.SetProcedure.{SetProcedure}
 use Rattle.codegen_expr.specs.declared.spot.Spot.{Spot}
 use Rattle.codegen_expr.specs.Built.{ActualsBuilt}
-use Rattle.codegen_expr.specs.CodeExpr.{ActualsAt, SetAt, SetNamed, operands}
+use Rattle.codegen_expr.specs.CodeExpr.{ActualsAt, Listed, SetAt, SetNamed, operands}
 use Rattle.codegen_expr.specs.Drafts.{DraftOf, Emits}
 use Rattle.codegen_expr.specs.Emit.{WritesActuals}
 use Rattle.codegen_expr.specs.EmitObjects.{Base, BaseAt, BaseBuilt, PutsBase}
@@ -56,5 +56,5 @@ WritesSet b w n old new token y ys =
     let s = source_of b in
     let es = expressions (map syntax_of ys) in
     (start : DraftOf) (x : Base) → PutsBase s w n start old x
-    → Emits w start new (BaseBuilt s w.text x × SetNamed y.name y.result (operands es) × ActualsBuilt s w.text es (attribute_formals y.parameter))
-    (λ final site p q. SetAt final (line_at s token.0) y.name y.result es (λ u v. BaseAt s final site n x u v) (λ u v. ActualsAt s final site (suc n) (line_at s token.0) false es (attribute_formals y.parameter) u v) p q)
+    → Emits w start new (BaseBuilt s w.text x × SetNamed y.name y.result (operands es) × ActualsBuilt s w.text es (Listed (attribute_formals y.parameter)))
+    (λ final site p q. SetAt final (line_at s token.0) y.name y.result es (λ u v. BaseAt s final site n x u v) (λ u v. ActualsAt s final site (suc n) (line_at s token.0) false es (Listed (attribute_formals y.parameter)) u v) p q)

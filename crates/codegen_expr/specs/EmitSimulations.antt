@@ -19,7 +19,7 @@ use Rattle.sim_meaning.specs.Closing.{formals_at}
 use Rattle.codegen_expr.specs.declared.sets.SetProcedure.{SetProcedure}
 use Rattle.codegen_expr.specs.declared.spot.Spot.{Spot}
 use Rattle.codegen_expr.specs.Built.{ActualsBuilt, AreBuilt, OfObjectBuilt, OwnNameBuilt, SimulationFoundBuilt, StandsIn, ThisFoundBuilt}
-use Rattle.codegen_expr.specs.CodeExpr.{ActualsAt, ExprsAt, OfObjectAt, OwnNameAt, SimulationAt, SimulationFoundAt, SimulationNamed, ThisFoundAt, operands}
+use Rattle.codegen_expr.specs.CodeExpr.{ActualsAt, Listed, parameters_at, ExprsAt, OfObjectAt, OwnNameAt, SimulationAt, SimulationFoundAt, SimulationNamed, ThisFoundAt, operands}
 use Rattle.codegen_expr.specs.Drafts.{DraftOf, Emits}
 use Rattle.codegen_expr.specs.EmitSets.{set_procedure}
 
@@ -53,16 +53,16 @@ unfoldable pub WritesSimulationOf : Bound → Spot → (n : ℕ) → (old new : 
 WritesSimulationOf b w n old new token k y ys =
     let s = source_of b in
     let es = expressions (map syntax_of ys) in
-    Emits w old new (SimulationNamed y.name y.result (operands es) × StandsIn s w.text k × ActualsBuilt s w.text es (attribute_formals y.parameter))
-    (λ final site p q. SimulationAt s final site n (line_at s token.0) k y.name y.result es (λ u v. ActualsAt s final site (suc n) (line_at s token.0) false es (attribute_formals y.parameter) u v) p q)
+    Emits w old new (SimulationNamed y.name y.result (operands es) × StandsIn s w.text k × ActualsBuilt s w.text es (Listed (attribute_formals y.parameter)))
+    (λ final site p q. SimulationAt s final site n (line_at s token.0) k y.name y.result es (λ u v. ActualsAt s final site (suc n) (line_at s token.0) false es (Listed (attribute_formals y.parameter)) u v) p q)
 
 -- a procedure of the simulation block in which it is found
 unfoldable pub WritesSimulation : Bound → Spot → (n : ℕ) → (old new : DraftOf) → TokenNo → SetProcedure → List Expr → Type 0
 WritesSimulation b w n old new token y ys =
     let s = source_of b in
     let es = expressions (map syntax_of ys) in
-    Emits w old new (SimulationFoundBuilt s w.text (found_at s token.0) y.name y.result es (ActualsBuilt s w.text es (attribute_formals y.parameter)))
-    (λ final site p q. SimulationFoundAt s final site n (line_at s token.0) (found_at s token.0) y.name y.result es (λ u v. ActualsAt s final site (suc n) (line_at s token.0) false es (attribute_formals y.parameter) u v) p q)
+    Emits w old new (SimulationFoundBuilt s w.text (found_at s token.0) y.name y.result es (ActualsBuilt s w.text es (Listed (attribute_formals y.parameter))))
+    (λ final site p q. SimulationFoundAt s final site n (line_at s token.0) (found_at s token.0) y.name y.result es (λ u v. ActualsAt s final site (suc n) (line_at s token.0) false es (Listed (attribute_formals y.parameter)) u v) p q)
 
 -- an attribute that is seen without a dot, by its declaration: of a simulation block around, or of the object around
 unfoldable pub WritesOwnName : Bound → Spot → (n : ℕ) → (old new : DraftOf) → TokenNo → DeclNo → List Expr → Type 0
@@ -70,7 +70,7 @@ WritesOwnName b w n old new token d ys =
     let s = source_of b in
     let es = expressions (map syntax_of ys) in
     Emits w old new
-    (OwnNameBuilt s w.text (found_at s token.0) (entry_of s.tables d) es (ActualsBuilt s w.text es (formals_at s d))
-    (OfObjectBuilt s d (entry_of s.tables d) es (ThisFoundBuilt s w.text (found_at s token.0)) (AreBuilt s w.text es) (ActualsBuilt s w.text es (formals_at s d))))
-    (λ final site p q. OwnNameAt s final site n (line_at s token.0) (found_at s token.0) (entry_of s.tables d) es (λ x y. ActualsAt s final site (suc n) (line_at s token.0) false es (formals_at s d) x y)
-    (λ x y. OfObjectAt s final site n (line_at s token.0) d (entry_of s.tables d) es (λ x y. ThisFoundAt s final site n (found_at s token.0) x y) (λ x y. ExprsAt s final site (suc n) es x y) (λ x y. ActualsAt s final site (suc n) (line_at s token.0) false es (formals_at s d) x y) x y) p q)
+    (OwnNameBuilt s w.text (found_at s token.0) (entry_of s.tables d) es (ActualsBuilt s w.text es (Listed (formals_at s d)))
+    (OfObjectBuilt s d (entry_of s.tables d) es (ThisFoundBuilt s w.text (found_at s token.0)) (AreBuilt s w.text es) (ActualsBuilt s w.text es (parameters_at s d))))
+    (λ final site p q. OwnNameAt s final site n (line_at s token.0) (found_at s token.0) (entry_of s.tables d) es (λ x y. ActualsAt s final site (suc n) (line_at s token.0) false es (Listed (formals_at s d)) x y)
+    (λ x y. OfObjectAt s final site n (line_at s token.0) d (entry_of s.tables d) es (λ x y. ThisFoundAt s final site n (found_at s token.0) x y) (λ x y. ExprsAt s final site (suc n) es x y) (λ x y. ActualsAt s final site (suc n) (line_at s token.0) false es (parameters_at s d) x y) x y) p q)

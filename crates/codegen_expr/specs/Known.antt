@@ -9,16 +9,16 @@ use Rattle.sim_scope.specs.Access.{joined}
 use Rattle.sim_scope.specs.Scopes.{formals_in}
 use Rattle.sim_scope.specs.Source.{Source, block_of, source_of}
 use Rattle.sim_values.specs.Plain.{Plain, Integer, Truth, Character, Text as TextOf}
-use Rattle.sim_meaning.specs.Attributes.{is_bare_process, is_connection}
+use Rattle.sim_meaning.specs.Attributes.{is_connection}
 use Rattle.sim_meaning.specs.Closing.{class_parameters, formals_from}
 use Rattle.sim_meaning.specs.Constants.{text_constant}
-use Rattle.sim_meaning.specs.Levels.{is_class}
-use Rattle.sim_meaning.specs.Pending.{Declared, Key}
+use Rattle.sim_meaning.specs.Levels.{is_class, is_process_itself}
+use Rattle.sim_meaning.specs.Pending.{Declared, Key, Origin}
 use Rattle.sim_meaning.specs.Texts.{ProcedureText, Text, constant_of, text}
 use Rattle.codegen_expr.specs.declared.cells.Cells.{Cells}
 use Rattle.codegen_expr.specs.declared.cells.ConstantValue.{ConstantValue}
 use Rattle.codegen_expr.specs.declared.cells.ConstantValue.TheVariants as constant
-use Rattle.codegen_expr.specs.Built.{place_from}
+use Rattle.codegen_expr.specs.Built.{place_from, slot_in}
 use Rattle.codegen_expr.specs.Sites.{block_number, cells_in, frame_text, is_connected}
 
 -- whether a text is a procedure with a result, whose cell is then the first
@@ -71,7 +71,7 @@ pub record KnownOf (s : Source) (w : Cells) : Type 0 where
   pub results : (k : ℕ) → truth_or_false (slice_get w.results.items k) ≡ has_result (text s k)
   pub classes : (k : ℕ) → truth_or_false (slice_get w.classes.items k) ≡ is_class (text s k)
   pub connections : (k : ℕ) → truth_or_false (slice_get w.connections.items k) ≡ is_connection (text s k)
-  pub processes : (k : ℕ) → truth_or_false (slice_get w.processes.items k) ≡ is_bare_process (text s k)
+  pub processes : (k : ℕ) → truth_or_false (slice_get w.processes.items k) ≡ is_process_itself s k
   pub counts : (k : ℕ) → number_or 0 (slice_get w.counts.items k) ≡ length (cells_in s k (text s k))
   -- by block of the tables: its number among the blocks of code, its formal parameters, and those of a class
   pub numbers : (k : ℕ) → number_or w.block_count (slice_get w.numbers.items k) ≡ block_number s k
@@ -84,3 +84,7 @@ Known b w = KnownOf (source_of b) w
 -- whether a block of the tables is a connection whose cell lies in the frames of a text
 abbrev pub is_hidden : Source → (text block : ℕ) → Bool
 is_hidden s k n = is_connected s.tables n && frame_text s n == k
+
+-- the place of the hidden cell of the class `process`
+unfoldable pub OriginSlot : Source → (text slot : ℕ) → Type 0
+OriginSlot s k slot = is_process_itself s k ≡ true → slot_in s k Origin ≡ Some slot

@@ -9,6 +9,7 @@ use Rattle.sim_scope.specs.Access.{encloser}
 use Rattle.sim_scope.specs.Scopes.{entry_of}
 use Rattle.sim_scope.specs.Source.{Source}
 use Rattle.sim_scope.specs.Tables.{BlockOf, Tables}
+use Rattle.sim_values.specs.Plain.{Integer}
 use Rattle.sim_code.specs.declared.code.CodeType.{CodeType}
 use Rattle.sim_code.specs.declared.instr.Instr.{Instr}
 use Rattle.sim_code.specs.declared.instr.Instr.TheVariants as i
@@ -16,7 +17,8 @@ use Rattle.sim_code.specs.declared.instr.Lined.{Lined}
 use Rattle.sim_code.specs.Code.{CodeOf}
 use Rattle.sim_code.specs.Code as code
 use Rattle.sim_meaning.specs.Entries.{cells_from, first_cells, numbers_of}
-use Rattle.sim_meaning.specs.Pending.{Connection, Held, Key, same_key}
+use Rattle.sim_meaning.specs.Levels.{is_process_itself}
+use Rattle.sim_meaning.specs.Pending.{Connection, Held, Key, Of, Origin, same_key}
 use Rattle.sim_meaning.specs.Texts.{ClassText, PrefixedText, StandardText, Text, text}
 
 -- Where code stands: in which text, how many values its operand stack holds, where the temps of expressions begin, how many cells and temps of
@@ -28,6 +30,8 @@ pub record Site : Type 0 where
   pub temps : ℕ
   pub used : ℕ
   pub size : ℕ
+  -- the thunk to which the code belongs
+  pub thunk : Option ℕ
 
 -- how many temps expressions have
 abbrev pub expression_temps : ℕ
@@ -163,19 +167,24 @@ abbrev pub cells_in : Source → ℕ → Option Text → List Held
 cells_in s k None = []
 cells_in s k (Some x) = own_cells s k x
 
--- the cells of the connections that stand in a text, in their order
+-- the cell in which an object of `process` itself keeps where it was generated
+abbrev pub origin_in : (is_process : Bool) → List Held
+origin_in true = record { key = Origin; value = Some (Of (Integer (pos 0))) } ∷ []
+origin_in false = []
+
+-- the cells of the connections that stand in a text, in their order, and behind them that of an origin
 abbrev pub hidden_before : Bool → BlockOf → List Held → List Held
 hidden_before true b hs = record { key = Connection b.first; value = None } ∷ hs
 hidden_before false b hs = hs
 
 abbrev pub hidden_from : Source → (text number : ℕ) → List BlockOf → List Held
-hidden_from s k n [] = []
+hidden_from s k n [] = origin_in (is_process_itself s k)
 hidden_from s k n (b ∷ bs) = hidden_before (is_connection b.kind && frame_text s n == k) b (hidden_from s k (suc n) bs)
 
 unfoldable pub hidden_in : Source → (text : ℕ) → List Held
 hidden_in s k = hidden_from s k 0 s.tables.blocks
 
--- A text's own part of a frame: what it declares, then the cells of its connections; its temps stand behind.
+-- A text's own part of a frame: what it declares, then its hidden cells, which cost no words; its temps stand behind.
 abbrev pub own_part : Source → (text : ℕ) → List Held
 own_part s k = cells_in s k (text s k) ++ hidden_in s k
 

@@ -1,8 +1,9 @@
 //! Identifiers with their operands: variables, elements of arrays, constants, calls.
-ghost use Rattle.codegen_expr.specs.Emit.{WritesActual, WritesActuals, WritesCall, WritesElement, WritesGiving, WritesNamed, WritesOwn, WritesPassed, WritesSeen, WritesThrough, WritesUnconnected};
+ghost use Rattle.codegen_expr.specs.Emit.{WritesActual, WritesActuals, WritesCall, WritesElement, WritesGiving, WritesNamed, WritesNamedElement, WritesOwn, WritesPassed, WritesSeen, WritesThrough, WritesUnconnected};
 ghost use Rattle.codegen_expr.specs.Known.{Known};
 ghost use Rattle.std.specs.Prelude.{OnOk};
 
+use crate::actuals::emit_value_call;
 use crate::cells::Cells;
 use crate::classes::{connection_at, passed_qualification};
 use crate::draft::{Draft, deeper};
@@ -13,12 +14,12 @@ use crate::lookups::{block_number, block_of, denoted, formals_of_block, gives, l
 use crate::objects::emit_of;
 use crate::operands::emit_list;
 use crate::operators::{Passed, Seen, passed_of, seen_of};
+use crate::procedures::{emit_held, emit_match, emit_procedure};
 use crate::sets::own_attribute;
 use crate::simulations::emit_own_name;
 use crate::spot::Spot;
 use crate::standard::emit_standard;
-use crate::thunks::{emit_name, emit_thunk};
-use crate::virtuals::emit_match;
+use crate::thunks::{emit_name, emit_name_whole, emit_thunk};
 use sim_base::{DeclNo, Line, TokenNo};
 use sim_code::Instr;
 use sim_scope::{Bound, Denotation, Formal, entry_of};
@@ -44,6 +45,32 @@ pub fn emit_element(
 {
     let inside = deeper(depth)?;
     emit_cell(bound, cells, spot, draft, depth, declaration)?;
+    emit_list(bound, cells, spot, draft, inside, subscripts)?;
+    draft.put(
+        element_instr(subscripts.len(), class)?,
+        line_at(bound, token),
+    )
+}
+
+/// The same where the array is a formal parameter by name.
+#[cycle(emit)]
+#[tactic(auto, using(crate::proofs::ByName::elements))]
+pub fn emit_named_element(
+    bound: &Bound,
+    cells: &Cells,
+    spot: Spot,
+    draft: &mut Draft,
+    depth: u32,
+    class: u32,
+    token: TokenNo,
+    declaration: DeclNo,
+    subscripts: &[Expr],
+) -> Result<(), AllocError>
+    requires cells { Known bound.now cells.now }
+    ensures { OnOk result (WritesNamedElement bound.now spot depth draft.old draft.new class token declaration subscripts.now) }
+{
+    let inside = deeper(depth)?;
+    emit_name_whole(bound, cells, spot, draft, depth, token, declaration)?;
     emit_list(bound, cells, spot, draft, inside, subscripts)?;
     draft.put(
         element_instr(subscripts.len(), class)?,
@@ -82,11 +109,9 @@ fn emit_passed(
             emit_expr(bound, cells, spot, draft, depth, expr)?;
             draft.push(depth, standard_instr(15), line_at(bound, token))
         }
-        Passed::Named => emit_thunk(bound, cells, spot, draft, depth, expr),
-        Passed::Other => {
-            draft.give_up();
-            Ok(())
-        }
+        Passed::Named => emit_thunk(bound, cells, spot, draft, depth, false, expr),
+        Passed::NamedProcedure => emit_thunk(bound, cells, spot, draft, depth, true, expr),
+        Passed::Procedure => emit_procedure(bound, cells, spot, draft, depth, expr),
     }
 }
 
@@ -250,9 +275,40 @@ fn emit_seen(
             draft.give_up();
             Ok(())
         }
+        Seen::NamedArray => {
+            if list.len() == 0 {
+                return emit_name_whole(bound, cells, spot, draft, depth, token, declaration);
+            }
+            emit_named_element(
+                bound,
+                cells,
+                spot,
+                draft,
+                depth,
+                0,
+                token,
+                declaration,
+                list,
+            )?;
+            draft.put(Instr::Fetch, Line(0))
+        }
+        Seen::Procedure(by_name) => {
+            emit_held(
+                bound,
+                cells,
+                spot,
+                draft,
+                depth,
+                token,
+                declaration,
+                by_name,
+            )?;
+            emit_value_call(bound, cells, spot, draft, depth, token, list)
+        }
         Seen::Virtual => {
             emit_object(bound, spot, draft, depth, block_of(bound, declaration))?;
-            emit_match(bound, draft, token, declaration, list)
+            emit_match(bound, draft, token, declaration)?;
+            emit_value_call(bound, cells, spot, draft, depth, token, list)
         }
         Seen::Nothing => {
             draft.give_up();

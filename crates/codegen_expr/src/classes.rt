@@ -1,12 +1,12 @@
 //! What the emitter looks up of classes, objects and connections.
 ghost use Rattle.std.specs.Prelude.{◌≡◌, IfOk};
 ghost use Rattle.sim_scope.specs.Source.{found_at as found_at_of, source_of};
-ghost use Rattle.sim_meaning.specs.Attributes.{is_bare_process, cell_of_connection, connection_at as connection_at_of, connection_in, first_in, is_connection as is_connection_of, parameter_qualification as qualification_of_parameter};
+ghost use Rattle.sim_meaning.specs.Attributes.{cell_of_connection, connection_at as connection_at_of, connection_in, first_in, is_connection as is_connection_of, parameter_qualification as qualification_of_parameter};
 ghost use Rattle.sim_meaning.specs.Closing.{class_parameters as class_parameters_of, class_passed as class_passed_of};
-ghost use Rattle.sim_meaning.specs.Levels.{class_at as class_at_of, class_text as class_text_of, is_class as is_class_of, qualification as qualification_of};
+ghost use Rattle.sim_meaning.specs.Levels.{class_at as class_at_of, class_text as class_text_of, is_class as is_class_of, is_process_itself, qualification as qualification_of};
 ghost use Rattle.sim_meaning.specs.Texts.{text as text_of};
 ghost use Rattle.codegen_expr.specs.Built.{slot_in};
-ghost use Rattle.codegen_expr.specs.Known.{Known, is_hidden};
+ghost use Rattle.codegen_expr.specs.Known.{Known, OriginSlot, is_hidden};
 ghost use Rattle.codegen_expr.specs.Sites.{frame_text as frame_text_of, is_connected as is_connected_of};
 ghost use Rattle.std.specs.Prelude.{Some, slice_get};
 
@@ -58,7 +58,7 @@ pub fn is_connection(bound: &Bound, cells: &Cells, text: u32) -> bool
 #[tactic(auto, unfolding(crate::specs::Known::Known))]
 pub fn is_process(bound: &Bound, cells: &Cells, text: u32) -> bool
     requires cells { Known bound.now cells.now }
-    ensures { result ≡ is_bare_process (text_of (source_of bound.now) text) }
+    ensures { result ≡ is_process_itself (source_of bound.now) text }
 {
     match cells.processes.get(text as usize) {
         Some(truth) => *truth,
@@ -238,7 +238,7 @@ pub fn is_kept_in(bound: &Bound, block: u32, frame: u32) -> bool
 }
 
 /// The number of a place in a table.
-fn number_of(index: usize) -> Result<u32, AllocError>
+pub(crate) fn number_of(index: usize) -> Result<u32, AllocError>
     ensures { IfOk result (λ n. n ≡ index) }
 {
     u32::try_from(index).map_err(|_| AllocError)
@@ -267,4 +267,20 @@ pub fn connection_slot(
         }
     }
     Ok(None)
+}
+
+/// The place of the hidden cell of the class `process`, behind those of connections. Time is linear in the number of blocks.
+#[tactic(auto, using(crate::proofs::Frames::frames))]
+pub fn origin_slot(bound: &Bound, cells: &Cells, process: u32) -> Result<u32, AllocError>
+    requires cells { Known bound.now cells.now }
+    ensures { IfOk result (λ slot. OriginSlot (source_of bound.now) process slot) }
+{
+    let mut slot = cell_count(bound, cells, process);
+    for index in 0..bound.scopes.block_count() {
+        let block = number_of(index)?;
+        if is_kept_in(bound, block, process) {
+            slot = deeper(slot)?;
+        }
+    }
+    Ok(slot)
 }

@@ -1,16 +1,16 @@
 //! What stands before a dot, and what behind it.
 ghost use Rattle.std.specs.Prelude.{◌≡◌, ◌≢◌, ◌&&◌, ◌||◌, drop, length, map};
 ghost use Rattle.sim_scope.specs.Source.{source_of};
-ghost use Rattle.sim_tree.specs.Syntax.{Expression, Expressions};
+ghost use Rattle.sim_tree.specs.Syntax.{Expression, expressions};
 ghost use Rattle.sim_tree.specs.SyntaxOf.{selected, selector_syntax, syntax_of};
-ghost use Rattle.sim_meaning.specs.Closing.{is_attribute as is_attribute_of, is_attribute_denoted as is_attribute_denoted_of, is_image_denoted, is_placed as is_placed_of, is_variable as is_variable_of, is_variable_denoted as is_variable_denoted_of, is_variable_entry as is_variable_entry_of, stream_denoted as stream_denoted_of, stream_of as stream_of_expression};
+ghost use Rattle.sim_meaning.specs.Closing.{has_operands as has_operands_of, is_attribute as is_attribute_of, is_attribute_denoted as is_attribute_denoted_of, is_image_denoted, is_placed as is_placed_of, is_variable as is_variable_of, is_variable_denoted as is_variable_denoted_of, is_variable_entry as is_variable_entry_of, stream_denoted as stream_denoted_of, stream_of as stream_of_expression};
 ghost use Rattle.codegen_expr.specs.Emit.{image_placed as image_placed_of, moves_denoted as moves_denoted_of, moves_next, moves_selection, takes_attribute as takes_attribute_of, takes_image as takes_image_of};
 
 use crate::forms::{Form, form_of};
 use crate::lookups::denoted;
 use crate::names::moves_position;
 use crate::operators::Object;
-use sim_scope::{Bound, Denotation, Entry, FormalKind, Mode, StandardName, entry_of};
+use sim_scope::{Bound, Denotation, Entry, FormalKind, StandardName, entry_of};
 use sim_tree::{Expr, Selector};
 use sim_values::Standard;
 
@@ -60,31 +60,41 @@ pub(crate) fn takes_image(bound: &Bound, selector: &Selector) -> bool
     }
 }
 
-/// Whether what is declared is a variable, with subscripts or without.
-fn is_variable_entry(entry: Option<Entry>) -> bool
-    ensures { (es : Expressions) → result ≡ is_variable_entry_of entry es }
+/// Whether there are subscripts.
+#[tactic(auto, using(crate::proofs::Attributes::dots))]
+fn has_operands(subscripts: &[Expr]) -> bool
+    ensures { result ≡ has_operands_of (expressions (map syntax_of subscripts.now)) }
+{
+    if subscripts.len() == 0 {
+        return false;
+    }
+    true
+}
+
+/// Whether what is declared is a variable, with these subscripts: an array alone is none.
+fn is_variable_entry(entry: Option<Entry>, subscripts: &[Expr]) -> bool
+    ensures { result ≡ is_variable_entry_of entry (expressions (map syntax_of subscripts.now)) }
 {
     match entry {
         Some(Entry::Variable(_)) => true,
-        Some(Entry::Array { .. }) => true,
-        Some(Entry::Formal(formal)) => match (formal.mode, formal.kind) {
-            (_, FormalKind::Simple) => true,
-            (Mode::ByName, _) => false,
-            (_, FormalKind::Array) => true,
-            (_, FormalKind::Procedure) => false,
+        Some(Entry::Array { .. }) => has_operands(subscripts),
+        Some(Entry::Formal(formal)) => match formal.kind {
+            FormalKind::Simple => true,
+            FormalKind::Array => has_operands(subscripts),
+            FormalKind::Procedure => false,
         },
         _ => false,
     }
 }
 
-/// Whether what is denoted is a variable, with subscripts or without, or an image.
+/// Whether what is denoted is a variable, with these subscripts, or an image.
 #[tactic(auto, unfolding(sim_scope::specs::Source::source_of))]
-fn is_variable_denoted(bound: &Bound, denotation: Option<Denotation>) -> bool
-    ensures { (es : Expressions) → result ≡ is_variable_denoted_of (source_of bound.now) denotation es }
+fn is_variable_denoted(bound: &Bound, denotation: Option<Denotation>, subscripts: &[Expr]) -> bool
+    ensures { result ≡ is_variable_denoted_of (source_of bound.now) denotation (expressions (map syntax_of subscripts.now)) }
 {
     match denotation {
         Some(Denotation::Declared(declaration)) => {
-            is_variable_entry(entry_of(&bound.scopes, declaration))
+            is_variable_entry(entry_of(&bound.scopes, declaration), subscripts)
         }
         _ => is_image(denotation),
     }
@@ -113,7 +123,9 @@ pub(crate) fn is_variable(bound: &Bound, expr: &Expr) -> bool
     ensures { result ≡ is_variable_of (source_of bound.now) (syntax_of expr.now) }
 {
     match form_of(expr) {
-        Form::Named { name, .. } => is_variable_denoted(bound, denoted(bound, name.token)),
+        Form::Named { name, arguments } => {
+            is_variable_denoted(bound, denoted(bound, name.token), arguments)
+        }
         Form::Taken { primary, rest } => is_image_taken(bound, primary, rest),
         Form::Closed { .. } => false,
         Form::New => false,
@@ -121,14 +133,14 @@ pub(crate) fn is_variable(bound: &Bound, expr: &Expr) -> bool
     }
 }
 
-/// Whether what is denoted is a variable of an object, or an array that it has.
+/// Whether what is denoted is a variable of an object, or an element of an array that it has.
 #[tactic(auto, unfolding(sim_scope::specs::Source::source_of))]
-fn is_attribute_denoted(bound: &Bound, denotation: Option<Denotation>) -> bool
-    ensures { (es : Expressions) → result ≡ is_attribute_denoted_of (source_of bound.now) denotation es }
+fn is_attribute_denoted(bound: &Bound, denotation: Option<Denotation>, subscripts: &[Expr]) -> bool
+    ensures { result ≡ is_attribute_denoted_of (source_of bound.now) denotation (expressions (map syntax_of subscripts.now)) }
 {
     match denotation {
         Some(Denotation::Declared(declaration)) => {
-            is_variable_entry(entry_of(&bound.scopes, declaration))
+            is_variable_entry(entry_of(&bound.scopes, declaration), subscripts)
         }
         _ => false,
     }
@@ -140,7 +152,11 @@ fn takes_attribute(bound: &Bound, selector: &Selector) -> bool
     ensures { result ≡ takes_attribute_of (source_of bound.now) (selector_syntax selector.now) }
 {
     match selector {
-        Selector::Dot { name, .. } => is_attribute_denoted(bound, denoted(bound, name.token)),
+        Selector::Dot {
+            name,
+            arguments,
+            ..
+        } => is_attribute_denoted(bound, denoted(bound, name.token), arguments),
         Selector::Qua { .. } => false,
     }
 }
@@ -186,7 +202,9 @@ pub(crate) fn is_declared_variable(bound: &Bound, expr: &Expr) -> bool
     ensures { result ≡ is_placed_of (source_of bound.now) (syntax_of expr.now) }
 {
     match form_of(expr) {
-        Form::Named { name, .. } => is_attribute_denoted(bound, denoted(bound, name.token)),
+        Form::Named { name, arguments } => {
+            is_attribute_denoted(bound, denoted(bound, name.token), arguments)
+        }
         Form::Taken { rest, .. } => is_attribute_taken(bound, rest),
         Form::Closed { .. } => false,
         Form::New => false,

@@ -1,10 +1,10 @@
 //! Code that is being written.
 ghost use Rattle.std.specs.Prelude.{◌≡◌, [], IfOk, OnOk, length, pos, suc, true};
 ghost use Rattle.sim_code.specs.declared.instr.Instr.TheVariants as i;
-ghost use Rattle.codegen_expr.specs.Drafts.{class_of as class_of_block, filled_in, given_up, size_of as size_of_block, thunk_begun, thunk_ended, with_hole, with_instr, with_push, with_room, with_temp};
+ghost use Rattle.codegen_expr.specs.Drafts.{class_of as class_of_block, filled_in, given_up, size_of as size_of_block, thunk_begun, thunk_ended, with_hole, with_instr, with_list, with_push, with_room, with_temp};
 
 use sim_base::Line;
-use sim_code::{CodeType, Instr, Lined, ThunkRecord};
+use sim_code::{ActualList, CodeType, Instr, Lined, ThunkRecord};
 use std::alloc::{AllocError, Global};
 use std::marker::Model;
 
@@ -38,6 +38,7 @@ pub struct Draft {
     whole: bool,
     classes: Vec<Planned>,
     thunks: Vec<ThunkRecord>,
+    lists: Vec<ActualList>,
 }
 
 impl Model for Draft {
@@ -45,13 +46,13 @@ impl Model for Draft {
 
     ghost Value = { DraftOf };
 
-    ghost view = { λ d. record { instrs = d.instrs.items; room = d.room; size = d.size; whole = d.whole; classes = d.classes.items; thunks = d.thunks.items } };
+    ghost view = { λ d. record { instrs = d.instrs.items; room = d.room; size = d.size; whole = d.whole; classes = d.classes.items; thunks = d.thunks.items; lists = d.lists.items } };
 }
 
 impl Draft {
     /// No instruction yet. It is given what is planned of each block of the code.
     pub fn new(alloc: Global, classes: Vec<Planned>) -> Draft
-        ensures { result ≡ record { instrs = []; room = 0; size = 0; whole = true; classes = classes.items; thunks = [] } }
+        ensures { result ≡ record { instrs = []; room = 0; size = 0; whole = true; classes = classes.items; thunks = []; lists = [] } }
     {
         Draft {
             instrs: Vec::new(alloc),
@@ -60,6 +61,7 @@ impl Draft {
             whole: true,
             classes,
             thunks: Vec::new(alloc),
+            lists: Vec::new(alloc),
         }
     }
 
@@ -116,12 +118,24 @@ impl Draft {
         self.size
     }
 
-    /// The instructions and the thunks, where no more are written.
-    pub fn into_parts(self) -> (Vec<Lined>, Vec<ThunkRecord>)
+    /// The instructions, the thunks and the lists of actual parameters, where no more are written.
+    pub fn into_parts(self) -> (Vec<Lined>, Vec<ThunkRecord>, Vec<ActualList>)
         ensures instrs { result.0.items ≡ self.instrs }
         ensures thunks { result.1.items ≡ self.thunks }
+        ensures lists { result.2.items ≡ self.lists }
     {
-        (self.instrs, self.thunks)
+        (self.instrs, self.thunks, self.lists)
+    }
+
+    /// One more list of actual parameters. The answer is its number.
+    #[tactic(auto, unfolding(crate::specs::Drafts::with_list))]
+    pub fn add_list(&mut self, list: ActualList) -> Result<i64, AllocError>
+        ensures number { IfOk result (λ n. n ≡ pos (length self.old.lists)) }
+        ensures added { OnOk result (self.new ≡ with_list self.old list) }
+    {
+        let number = i64::try_from(self.lists.len()).map_err(|_| AllocError)?;
+        self.lists.push(list)?;
+        Ok(number)
     }
 
     /// A thunk begins here. Its operand stack holds what it gives. The answer is its number.

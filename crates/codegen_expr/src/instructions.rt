@@ -60,6 +60,47 @@ pub fn virtual_instr(declaration: u32) -> Instr
     Instr::Virt(i64::from(declaration))
 }
 
+/// The instruction that makes a procedure of a block of code a value, with the link or the object on top.
+pub fn procedure_instr(block: u32) -> Instr
+    ensures { result ≡ i.ProcVal (pos block) }
+{
+    Instr::ProcVal(i64::from(block))
+}
+
+/// The instruction that passes what one of two thunks gives for the formal parameter of this number.
+pub fn parameter_instr(number: usize, value: u32, procedure: u32) -> Result<Instr, AllocError>
+    ensures { IfOk result (λ x. x ≡ i.Param (pos number) (pos value) (pos procedure)) }
+{
+    let formal = i64::try_from(number).map_err(|_| AllocError)?;
+    Ok(Instr::Param {
+        formal,
+        thunk: i64::from(value),
+        procedure: i64::from(procedure),
+    })
+}
+
+/// The instruction that holds a procedure against the actual parameters of a list.
+pub fn check_instr(list: i64) -> Instr
+    ensures { result ≡ i.Check list }
+{
+    Instr::Check(list)
+}
+
+/// The instruction that pushes a number.
+pub fn integer_instr(value: u32) -> Instr
+    ensures { result ≡ i.Int (pos value) }
+{
+    Instr::Int(i64::from(value))
+}
+
+/// The instruction that calls a procedure that is a value, with so many actual parameters.
+pub fn value_call_instr(actuals: usize) -> Result<Instr, AllocError>
+    ensures { IfOk result (λ x. x ≡ i.CallV (pos actuals)) }
+{
+    let values = i64::try_from(actuals).map_err(|_| AllocError)?;
+    Ok(Instr::CallV(values))
+}
+
 /// The instruction that pushes a character.
 pub fn character_instr(value: u8) -> Instr
     ensures is { result ≡ i.Char (pos value) }

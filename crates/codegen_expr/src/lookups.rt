@@ -8,7 +8,7 @@ ghost use Rattle.sim_meaning.specs.Pending.{Declared};
 ghost use Rattle.sim_meaning.specs.Texts.{constant_of, text as text_of};
 ghost use Rattle.codegen_expr.specs.Built.{around_or, is_around as is_around_of, is_level as is_level_of, slot_in};
 ghost use Rattle.codegen_expr.specs.Drafts.{planned_start};
-ghost use Rattle.codegen_expr.specs.CodeExpr.{gives as gives_of, gives_entry as gives_entry_of};
+ghost use Rattle.codegen_expr.specs.CodeExpr.{gives as gives_of, gives_entry as gives_entry_of, gives_formal as gives_formal_of};
 ghost use Rattle.codegen_expr.specs.Emit.{formals_of_block as formals_of_block_by};
 ghost use Rattle.codegen_expr.specs.Known.{Known, has_result as has_result_of, number_in, place_in, plain_in};
 ghost use Rattle.codegen_expr.specs.Sites.{block_number as block_number_of, cells_in, prefix_of as prefix_of_block};
@@ -19,7 +19,9 @@ use crate::draft::Draft;
 use crate::forms::typed_token;
 use crate::names::standard_leaves;
 use sim_base::{DeclNo, Line, TokenNo};
-use sim_scope::{BlockKind, Bound, Denotation, Entry, Formal, Scopes, SimType, encloser, entry_of};
+use sim_scope::{
+    BlockKind, Bound, Denotation, Entry, Formal, FormalKind, Scopes, SimType, encloser, entry_of,
+};
 use sim_tree::Expr;
 use std::alloc::AllocError;
 
@@ -256,7 +258,18 @@ pub fn formals_of_block<'a>(bound: &Bound, cells: &'a Cells, block: u32) -> &'a 
     }
 }
 
-/// Whether what is declared is no procedure without a result, also no virtual one and none of SIMSET.
+/// Whether a formal parameter is no procedure without a result.
+fn gives_formal(formal: Formal) -> bool
+    ensures { result ≡ gives_formal_of formal.kind formal.ty }
+{
+    match formal.kind {
+        FormalKind::Procedure => formal.ty.is_some(),
+        FormalKind::Simple => true,
+        FormalKind::Array => true,
+    }
+}
+
+/// Whether what is declared is no procedure without a result, also no virtual one, no formal one and none of SIMSET.
 fn gives_entry(entry: Option<Entry>) -> bool
     ensures { result ≡ gives_entry_of entry }
 {
@@ -264,6 +277,7 @@ fn gives_entry(entry: Option<Entry>) -> bool
         Some(Entry::Procedure { result, .. }) => result.is_some(),
         Some(Entry::Virtual { result, .. }) => result.is_some(),
         Some(Entry::Attribute { result, .. }) => result.is_some(),
+        Some(Entry::Formal(formal)) => gives_formal(formal),
         _ => true,
     }
 }

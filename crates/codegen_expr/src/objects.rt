@@ -1,20 +1,21 @@
 //! What objects have, and how they are generated.
-ghost use Rattle.codegen_expr.specs.EmitObjects.{WritesElementOf, WritesGeneration, WritesNew, WritesOf, WritesPlaceBehind, WritesPlaceOf, WritesSeenOf, WritesSeenPlaceOf};
+ghost use Rattle.codegen_expr.specs.EmitObjects.{WritesElementOf, WritesGeneration, WritesNew, WritesOf, WritesOrigin, WritesPlaceBehind, WritesPlaceOf, WritesSeenOf, WritesSeenPlaceOf};
 ghost use Rattle.codegen_expr.specs.Known.{Known};
 ghost use Rattle.std.specs.Prelude.{OnOk};
 
+use crate::actuals::emit_value_call;
 use crate::calls::emit_actuals;
 use crate::cells::Cells;
-use crate::classes::{class_at, class_parameters, is_process};
+use crate::classes::{class_at, class_parameters, is_process, origin_slot};
 use crate::draft::{Draft, deeper};
-use crate::instructions::{call_instr, element_instr, new_instr};
+use crate::instructions::{attribute_instr, call_instr, element_instr, integer_instr, new_instr};
 use crate::leaves::{emit_attribute, emit_constant_of, emit_link};
-use crate::lookups::{block_number, denoted, formals_of_block, line_at};
+use crate::lookups::{block_number, cell_number, denoted, formals_of_block, line_at};
 use crate::operands::emit_list;
 use crate::operators::{Seen, attribute_of};
+use crate::procedures::emit_match;
 use crate::sets::{emit_set, set_procedure};
 use crate::spot::Spot;
-use crate::virtuals::emit_match;
 use sim_base::{DeclNo, Line, TokenNo};
 use sim_code::Instr;
 use sim_scope::{Bound, Denotation, entry_of};
@@ -110,8 +111,19 @@ fn emit_seen_of(
             let number = block_number(bound, cells, block);
             draft.put(call_instr(number, list.len())?, line_at(bound, token))
         }
-        Seen::Virtual => emit_match(bound, draft, token, declaration, list),
+        Seen::Virtual => {
+            emit_match(bound, draft, token, declaration)?;
+            emit_value_call(bound, cells, spot, draft, depth, token, list)
+        }
         Seen::Named => {
+            draft.give_up();
+            Ok(())
+        }
+        Seen::NamedArray => {
+            draft.give_up();
+            Ok(())
+        }
+        Seen::Procedure(_) => {
             draft.give_up();
             Ok(())
         }
@@ -214,6 +226,14 @@ fn emit_seen_place_of(
             Ok(())
         }
         Seen::Named => {
+            draft.give_up();
+            Ok(())
+        }
+        Seen::NamedArray => {
+            draft.give_up();
+            Ok(())
+        }
+        Seen::Procedure(_) => {
             draft.give_up();
             Ok(())
         }
@@ -325,6 +345,31 @@ fn emit_generation(
     draft.put(new_instr(number, list.len())?, line_at(bound, token))
 }
 
+/// A new object of `process` itself keeps the token of the class, which tells where it was generated.
+#[tactic(auto, using(crate::proofs::Origins::origins))]
+fn emit_origin(
+    bound: &Bound,
+    cells: &Cells,
+    spot: Spot,
+    draft: &mut Draft,
+    depth: u32,
+    token: TokenNo,
+    class: TokenNo,
+    process: u32,
+) -> Result<(), AllocError>
+    requires cells { Known bound.now cells.now }
+    ensures { OnOk result (WritesOrigin bound.now spot depth draft.old draft.new token class process) }
+{
+    let above = deeper(depth)?;
+    let inside = deeper(above)?;
+    let place = origin_slot(bound, cells, process)?;
+    let slot = cell_number(bound, cells, draft, process, place)?;
+    draft.push(above, Instr::Dup, Line(0))?;
+    draft.put(attribute_instr(slot, 0), line_at(bound, token))?;
+    draft.push(inside, integer_instr(class.0), Line(0))?;
+    draft.put(Instr::Put, Line(0))
+}
+
 /// `new`. The token is that of the word, and the name is that of the class.
 #[cycle(emit)]
 #[tactic(auto, using(crate::proofs::OfObjects::objects))]
@@ -347,11 +392,6 @@ pub(crate) fn emit_new(
                 draft.give_up();
                 return Ok(());
             };
-            // objects of `process` itself are not built
-            if is_process(bound, cells, class) {
-                draft.give_up();
-                return Ok(());
-            }
             emit_generation(
                 bound,
                 cells,
@@ -363,7 +403,11 @@ pub(crate) fn emit_new(
                 declaration,
                 class,
                 list,
-            )
+            )?;
+            if is_process(bound, cells, class) {
+                return emit_origin(bound, cells, spot, draft, depth, token, name.token, class);
+            }
+            Ok(())
         }
         Some(Denotation::Standard(_)) => {
             draft.give_up();

@@ -89,6 +89,10 @@ pub(crate) enum Seen {
     Virtual,
     /// A formal parameter by name.
     Named,
+    /// One that is an array.
+    NamedArray,
+    /// A formal parameter that is a procedure, by name or not.
+    Procedure(bool),
     /// It is not built.
     Nothing,
 }
@@ -105,10 +109,11 @@ pub(crate) fn seen_of(entry: Option<Entry>) -> Seen
         Some(Entry::Virtual { .. }) => Seen::Virtual,
         Some(Entry::Formal(formal)) => match (formal.mode, formal.kind) {
             (Mode::ByName, FormalKind::Simple) => Seen::Named,
-            (Mode::ByName, _) => Seen::Nothing,
+            (Mode::ByName, FormalKind::Array) => Seen::NamedArray,
+            (Mode::ByName, FormalKind::Procedure) => Seen::Procedure(true),
             (_, FormalKind::Simple) => Seen::Variable,
             (_, FormalKind::Array) => Seen::Array,
-            (_, FormalKind::Procedure) => Seen::Nothing,
+            (_, FormalKind::Procedure) => Seen::Procedure(false),
         },
         _ => Seen::Nothing,
     }
@@ -146,8 +151,10 @@ pub(crate) enum Passed {
     CopiedText,
     /// By name.
     Named,
-    /// It is not built.
-    Other,
+    /// As a procedure.
+    Procedure,
+    /// As a procedure by name.
+    NamedProcedure,
 }
 
 /// How an actual parameter is passed; an array that is passed by reference to a class is kept.
@@ -155,9 +162,9 @@ pub(crate) fn passed_of(keeps: bool, formal: Formal) -> Passed
     ensures { result ≡ passed_by keeps formal.mode formal.kind (is_text_type formal.ty) }
 {
     match (formal.mode, formal.kind, formal.ty) {
-        (Mode::ByName, FormalKind::Simple, _) => Passed::Named,
-        (Mode::ByName, _, _) => Passed::Other,
-        (_, FormalKind::Procedure, _) => Passed::Other,
+        (Mode::ByName, FormalKind::Procedure, _) => Passed::NamedProcedure,
+        (Mode::ByName, _, _) => Passed::Named,
+        (_, FormalKind::Procedure, _) => Passed::Procedure,
         (Mode::ByValue, FormalKind::Array, _) => Passed::Copied,
         (Mode::ByReference, FormalKind::Array, _) => match keeps {
             true => Passed::Kept,

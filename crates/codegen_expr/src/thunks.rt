@@ -1,10 +1,10 @@
 //! Parameters by name: thunks, and the uses of formal parameters.
-ghost use Rattle.std.specs.Prelude.{◌≡◌, OnOk};
+ghost use Rattle.std.specs.Prelude.{◌≡◌, IfOk, OnOk};
 ghost use Rattle.sim_scope.specs.Scopes.{entry_of as entry_in};
 ghost use Rattle.sim_scope.specs.Source.{source_of};
 ghost use Rattle.sim_tree.specs.SyntaxOf.{syntax_of};
 ghost use Rattle.sim_meaning.specs.Closing.{by_name as by_name_of, class_of_formal, formal_by_name, name_denoted as name_denoted_of};
-ghost use Rattle.codegen_expr.specs.Emit.{WritesGiven, WritesName, WritesNamePlace, WritesThunk};
+ghost use Rattle.codegen_expr.specs.Emit.{WritesGiven, WritesName, WritesNamePlace, WritesNameWhole, WritesPast, WritesThunk};
 ghost use Rattle.codegen_expr.specs.Known.{Known};
 ghost use Rattle.codegen_expr.specs.Thunks.{ClassGiven, ClassOrNone, name_if};
 
@@ -18,6 +18,7 @@ use crate::instructions::{name_address_instr, name_value_instr};
 use crate::lookups::{
     block_number, block_of, cell_number, denoted, is_around, level_of, line_at, slot_of, type_at,
 };
+use crate::procedures::emit_procedure;
 use crate::spot::Spot;
 use crate::variables::emit_place;
 use sim_base::{DeclNo, Line, TokenNo};
@@ -93,7 +94,7 @@ fn actual_class(bound: &Bound, cells: &Cells, draft: &Draft, expr: &Expr) -> u32
 
 /// The number of a class, if there is one, or 0.
 #[tactic(auto, using(crate::proofs::ByName::thunks))]
-fn class_or_none(bound: &Bound, cells: &Cells, draft: &Draft, class: Option<u32>) -> u32
+pub fn class_or_none(bound: &Bound, cells: &Cells, draft: &Draft, class: Option<u32>) -> u32
     requires cells { Known bound.now cells.now }
     ensures { ClassOrNone bound.now draft.now class result }
 {
@@ -103,7 +104,7 @@ fn class_or_none(bound: &Bound, cells: &Cells, draft: &Draft, class: Option<u32>
     }
 }
 
-/// What an actual parameter by name gives: where a variable lies, or the value of any other expression.
+/// What a thunk gives: a procedure; or else where a variable lies, or the value of any other expression.
 #[cycle(emit)]
 #[tactic(auto, using(crate::proofs::ByName::thunks))]
 fn emit_given(
@@ -111,16 +112,46 @@ fn emit_given(
     cells: &Cells,
     spot: Spot,
     draft: &mut Draft,
+    as_procedure: bool,
     expr: &Expr,
 ) -> Result<(), AllocError>
     requires cells { Known bound.now cells.now }
-    ensures { OnOk result (WritesGiven bound.now spot draft.old draft.new expr.now) }
+    ensures { OnOk result (WritesGiven bound.now spot draft.old draft.new as_procedure expr.now) }
 {
+    if as_procedure {
+        return emit_procedure(bound, cells, spot, draft, 0, expr);
+    }
     if is_declared_variable(bound, expr) {
         let class = actual_class(bound, cells, draft, expr);
         return emit_place(bound, cells, spot, draft, 0, class, expr);
     }
     emit_expr(bound, cells, spot, draft, 0, expr)
+}
+
+/// The code of a thunk, which is gone past. The answer is its number.
+#[cycle(emit)]
+#[tactic(auto, using(crate::proofs::ByName::thunks))]
+pub(crate) fn emit_past(
+    bound: &Bound,
+    cells: &Cells,
+    spot: Spot,
+    draft: &mut Draft,
+    as_procedure: bool,
+    expr: &Expr,
+) -> Result<u32, AllocError>
+    requires cells { Known bound.now cells.now }
+    ensures { IfOk result (λ number. WritesPast bound.now spot draft.old draft.new as_procedure expr.now number) }
+{
+    let over = draft.here();
+    draft.leave_hole()?;
+    let outside = draft.room();
+    let thunk = draft.begin_thunk()?;
+    emit_given(bound, cells, spot, draft, as_procedure, expr)?;
+    draft.put(Instr::EndThunk, Line(0))?;
+    draft.end_thunk(thunk, outside);
+    let end = draft.place()?;
+    draft.fill_in(over, Instr::Jump(end));
+    Ok(thunk)
 }
 
 /// An actual parameter by name: its code, which is gone past, and its thunk.
@@ -132,20 +163,13 @@ pub(crate) fn emit_thunk(
     spot: Spot,
     draft: &mut Draft,
     depth: u32,
+    as_procedure: bool,
     expr: &Expr,
 ) -> Result<(), AllocError>
     requires cells { Known bound.now cells.now }
-    ensures { OnOk result (WritesThunk bound.now spot depth draft.old draft.new expr.now) }
+    ensures { OnOk result (WritesThunk bound.now spot depth draft.old draft.new as_procedure expr.now) }
 {
-    let over = draft.here();
-    draft.leave_hole()?;
-    let outside = draft.room();
-    let thunk = draft.begin_thunk()?;
-    emit_given(bound, cells, spot, draft, expr)?;
-    draft.put(Instr::EndThunk, Line(0))?;
-    draft.end_thunk(thunk, outside);
-    let end = draft.place()?;
-    draft.fill_in(over, Instr::Jump(end));
+    let thunk = emit_past(bound, cells, spot, draft, as_procedure, expr)?;
     draft.push(depth, Instr::Thunk(i64::from(thunk)), Line(0))
 }
 
@@ -173,6 +197,34 @@ pub(crate) fn emit_name(
         let qualification = formal_qualification(bound, cells, declaration);
         let class = class_or_none(bound, cells, draft, qualification);
         let instr = name_value_instr(level_of(bound, block), slot, class);
+        return draft.push(depth, instr, line_at(bound, token));
+    }
+    draft.give_up();
+    Ok(())
+}
+
+/// The array or the procedure that is passed to a formal parameter by name. The token is that of its identifier.
+#[tactic(auto, using(crate::proofs::ByName::thunks))]
+pub(crate) fn emit_name_whole(
+    bound: &Bound,
+    cells: &Cells,
+    spot: Spot,
+    draft: &mut Draft,
+    depth: u32,
+    token: TokenNo,
+    declaration: DeclNo,
+) -> Result<(), AllocError>
+    requires cells { Known bound.now cells.now }
+    ensures { OnOk result (WritesNameWhole bound.now spot depth draft.old draft.new token declaration) }
+{
+    let block = block_of(bound, declaration);
+    let Some(place) = slot_of(bound, cells, declaration) else {
+        draft.give_up();
+        return Ok(());
+    };
+    if is_around(&bound.scopes, spot.text, block) {
+        let slot = cell_number(bound, cells, draft, block, place)?;
+        let instr = name_value_instr(level_of(bound, block), slot, 0);
         return draft.push(depth, instr, line_at(bound, token));
     }
     draft.give_up();

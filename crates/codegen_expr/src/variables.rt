@@ -4,7 +4,7 @@ ghost use Rattle.codegen_expr.specs.Known.{Known};
 ghost use Rattle.codegen_expr.specs.PlaceAlone.{WritesPlaceAlone};
 ghost use Rattle.std.specs.Prelude.{OnOk};
 
-use crate::calls::emit_element;
+use crate::calls::{emit_element, emit_named_element};
 use crate::cells::Cells;
 use crate::classes::connection_at;
 use crate::dots::moves_at;
@@ -81,6 +81,27 @@ fn emit_seen_place(
             if subscripts.len() == 0 {
                 return emit_name_place(bound, cells, spot, draft, depth, true, token, declaration);
             }
+            draft.give_up();
+            Ok(())
+        }
+        Seen::NamedArray => {
+            if subscripts.len() == 0 {
+                draft.give_up();
+                return Ok(());
+            }
+            emit_named_element(
+                bound,
+                cells,
+                spot,
+                draft,
+                depth,
+                class,
+                token,
+                declaration,
+                subscripts,
+            )
+        }
+        Seen::Procedure(_) => {
             draft.give_up();
             Ok(())
         }

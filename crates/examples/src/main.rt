@@ -33,7 +33,7 @@ const MODELS: [(&str, Option<&str>); 15] = [
 ];
 
 // The collections of data/ whose sources are run, in the order in which they are shown.
-const COLLECTIONS: [&str; 15] = [
+const COLLECTIONS: [&str; 16] = [
     "messages.cases",
     "programs.cases",
     "tokens.cases",
@@ -47,6 +47,7 @@ const COLLECTIONS: [&str; 15] = [
     "virtuals.cases",
     "keeping.cases",
     "names.cases",
+    "formals.cases",
     "manual.cases",
     "models.cases",
 ];

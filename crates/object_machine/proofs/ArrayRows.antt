@@ -28,7 +28,7 @@ use Rattle.object_machine.proofs.Parks.{parks_later}
 
 -- ---- stacks
 
-one_more : (at : ℕ) (stack : List Slot) → at < length stack → values_of (suc at) stack ≡ value_of (slot_at stack at) ∷ values_of at stack
+pub one_more : (at : ℕ) (stack : List Slot) → at < length stack → values_of (suc at) stack ≡ value_of (slot_at stack at) ∷ values_of at stack
 one_more at stack h =
     ap (λ l. map value_of (reverse l)) (take-suc stack at empty_slot h) ∙ ap (map value_of) (reverse-append (take at stack) (slot_at stack at ∷ []))
 

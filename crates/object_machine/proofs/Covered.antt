@@ -87,6 +87,7 @@ module _ (l : Limits) (line : ℕ) (p p2 : Storage) (k : ℕ) (b : BlockOf) (g :
     covered_by flow.NoRule c = absurd c
     covered_by flow.TickLimit c = absurd c
     covered_by flow.Exhausted c = absurd c
+    covered_by (flow.ExhaustedAt place) c = absurd c
     covered_by (flow.Fault e) c = absurd c
     covered_by (flow.FaultAt e place) c = absurd c
     covered_by flow.Memory c = tt

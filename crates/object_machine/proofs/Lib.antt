@@ -67,3 +67,6 @@ pub mod Pushed
 pub mod Held
 pub mod VirtualRows
 pub mod ThunkRows
+pub mod Fitted
+pub mod Formals
+pub mod Copies

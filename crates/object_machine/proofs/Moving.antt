@@ -64,6 +64,7 @@ module _ (l : Limits) (line : ℕ) (before : Option (List ℕ)) (now : Outside) 
     joins_on flow.NoRule h fit e stores ek et = absurd (misfit kept h.0 h.1 h.2 fit h.3 h.4)
     joins_on flow.TickLimit h fit e stores ek et = absurd h
     joins_on flow.Exhausted h fit e stores ek et = absurd h
+    joins_on (flow.ExhaustedAt place) h fit e stores ek et = absurd h
     joins_on (flow.Fault x) h fit e stores ek et = absurd h
     joins_on (flow.FaultAt x place) h fit e stores ek et = absurd h
     joins_on flow.Memory h fit e stores ek et = tt
@@ -132,6 +133,7 @@ module _ (l : Limits) (line : ℕ) (p : Storage) (top : working.Activation) (bel
     leaving_ends flow.NoRule ne p2 kept top2 below2 h = nothing_left p2 top2 below2 h
     leaving_ends flow.TickLimit ne p2 kept top2 below2 h = absurd h
     leaving_ends flow.Exhausted ne p2 kept top2 below2 h = absurd h
+    leaving_ends (flow.ExhaustedAt place) ne p2 kept top2 below2 h = absurd h
     leaving_ends (flow.Fault e) ne p2 kept top2 below2 h = absurd h
     leaving_ends (flow.FaultAt e place) ne p2 kept top2 below2 h = absurd h
     leaving_ends flow.Memory ne p2 kept top2 below2 h = tt

@@ -2,16 +2,17 @@
 use Rattle.std.proofs.Common.{◌≡◌, ℕ, zero, suc, ◌+◌, ◌-◌, List, [], ◌∷◌, ◌++◌, length, sym, subst, refl, ap, ◌∙◌, arith}
 use Rattle.std.specs.Prelude.{Bool, true, false, ℤ, Option, Some, None, Err, IfSome, slice_get}
 use Rattle.sim_base.specs.declared.limits.Limits.{Limits}
-use Rattle.sim_base.specs.declared.run_error.RunError.TheVariants.{ActualIsNoVariable}
+use Rattle.sim_base.specs.declared.numbering.Line.{Line}
+use Rattle.sim_base.specs.declared.run_error.RunError.TheVariants.{ActualIsNoVariable, OutsideQualification}
 use Rattle.sim_code.specs.declared.code.ThunkRecord.{ThunkRecord}
 use Rattle.sim_code.specs.declared.instr.Instr.{Instr}
 use Rattle.sim_code.specs.declared.instr.Instr.TheVariants as i
 use Rattle.sim_code.specs.declared.instr.Lined.{Lined}
 use Rattle.sim_code.specs.declared.stage.Stage.TheVariants as stage
 use Rattle.sim_code.specs.Code.{CodeOf}
-use Rattle.sim_code.specs.Events.{having, no_rule, popping, stopping}
+use Rattle.sim_code.specs.Events.{having, no_rule, popping, stopping, when}
 use Rattle.sim_code.specs.Instances.{is_live}
-use Rattle.sim_code.specs.Machine.{Activation, Address, ArrayValue, Frames, Link, Machine, Of, ProcedureValue, ThunkValue, Value, at, place_in, pushing, thunk_in, waiting}
+use Rattle.sim_code.specs.Machine.{Activation, Address, ArrayValue, Frames, Link, Machine, Of, ProcedureValue, ThunkValue, Value, at, place_in, thunk_in, waiting}
 use Rattle.sim_code.specs.Outcome.{Going, Run, RunFault, World}
 use Rattle.sim_code.specs.Rows.{row, thunk_ended, thunk_given}
 use Rattle.sim_code.specs.Thunks.{in_thunk, instruction_before, is_place, locating, value_given}
@@ -87,6 +88,14 @@ module _ (code : CodeOf) (o : World) (m : Frames) (t home : ℕ) (below : List A
   unfolding in_thunk
   home_gone e = when_fails (is_live m home) o Found e
 
+  missing_where : (b : Bool) → slice_get code.thunks t ≡ None → when b o Found ≡ no_rule o
+  missing_where true e = when_holds true o Found refl ∙ having_none (slice_get code.thunks t) o (λ x. Entry x) (sym e)
+  missing_where false e = when_fails false o Found refl
+
+  pub thunk_missing : slice_get code.thunks t ≡ None → in_thunk code o m t home below ≡ no_rule o
+  unfolding in_thunk
+  thunk_missing e = missing_where (is_live m home) e
+
   module _ (live : is_live m home ≡ true) where
     pub no_such_thunk : slice_get code.thunks t ≡ None → in_thunk code o m t home below ≡ no_rule o
     unfolding in_thunk
@@ -144,6 +153,7 @@ module _ (l : Limits) (line : ℕ) (p : Storage) (next : working.Activation) (r 
   on_top_by flow.NoRule c = absurd c
   on_top_by flow.TickLimit c = absurd c
   on_top_by flow.Exhausted c = absurd c
+  on_top_by (flow.ExhaustedAt place) c = absurd c
   on_top_by (flow.Fault e) c = absurd c
   on_top_by (flow.FaultAt e place) c = absurd c
   on_top_by flow.Memory c = tt
@@ -209,10 +219,12 @@ module _ (line : ℕ) (o : World) (r : Run Machine) where
   no_variable b e = ap (λ b. locating line b false o r) e
 
 -- an instruction that runs no thunk asks for nothing
-pub asks_nothing : (code : CodeOf) (o : World) (m : Frames) (v : Value) (line : ℕ) (x : Instr) → ((z c class : ℤ) → x ≡ i.NameVal z c class → ⊥) → ((z c value : ℤ) → x ≡ i.NameAddr z c value → ⊥) → Asked (Err flow.NoRule) code o m v line x
-asks_nothing code o m v line (i.NameVal z c class) h h2 = absurd (h z c class refl)
-asks_nothing code o m v line (i.NameAddr z c value) h h2 = absurd (h2 z c value refl)
-asks_nothing code o m v line _ h h2 = λ b rest. refl
+pub asks_nothing : (code : CodeOf) (l : Limits) (o : World) (m : Frames) (b : Activation) (rest : List Activation) (v : Value) (line : ℕ) (x : Instr) → ((z c class : ℤ) → x ≡ i.NameVal z c class → ⊥) → ((z c value : ℤ) → x ≡ i.NameAddr z c value → ⊥) → ((n t p : ℤ) → x ≡ i.Param n t p → ⊥) →
+    thunk_given code l o m b rest v line x ≡ no_rule o
+asks_nothing code l o m b rest v line (i.NameVal z c class) h h2 h3 = absurd (h z c class refl)
+asks_nothing code l o m b rest v line (i.NameAddr z c value) h h2 h3 = absurd (h2 z c value refl)
+asks_nothing code l o m b rest v line (i.Param n t p) h h2 h3 = absurd (h3 n t p refl)
+asks_nothing code l o m b rest v line _ h h2 h3 = refl
 
 -- ---- it goes to the activation that waits
 
@@ -222,10 +234,10 @@ before_is code (suc n) h = let e : n ≡ suc n - 1 = omega arith in ap (λ n. sl
 
 module _ (code : CodeOf) (l : Limits) (line : ℕ) (p : Storage) (r : Registers) (stack : List Slot) (below : List working.Activation) (before : Option (List ℕ)) (now : Outside) (o : World) (m : Frames) (v : Value) (s : Stands l p r stack below before now o m) where
   abbrev pub Handed : Run Machine
-  Handed = thunk_ended code o m v (activation_at r stack ∷ below_of below)
+  Handed = thunk_ended code l o m v (activation_at r stack ∷ below_of below)
 
   abbrev pub Given : Lined → Run Machine
-  Given x = thunk_given code o m (activation_at r stack) (below_of below) v x.line.0 x.instr
+  Given x = thunk_given code l o m (activation_at r stack) (below_of below) v x.line.0 x.instr
 
   pub at_start : r.pc ≡ 0 → Handed ≡ no_rule o
   at_start e = having_none (instruction_before code r.pc) o Given (sym (ap (instruction_before code) e))
@@ -237,31 +249,37 @@ module _ (code : CodeOf) (l : Limits) (line : ℕ) (p : Storage) (r : Registers)
     pub one_before : (x : Lined) → slice_get code.instrs (r.pc - 1) ≡ Some x → Handed ≡ Given x
     one_before x e = having_some (instruction_before code r.pc) x o Given (sym (before_is code r.pc some ∙ e))
 
-  module _ (r2 : Registers) (stack2 : List Slot) (x : Lined) where
-    pub asked_ends : (f : Flow) → Asked (Err f) code o m v x.line.0 x.instr → Leaves f l line p r2 stack2 below before now (Given x)
+-- ---- what was asked for goes to the activation that waits
+
+module _ (l : Limits) (line : ℕ) (p : Storage) (r : Registers) (stack : List Slot) (below : List working.Activation) (before : Option (List ℕ)) (now : Outside) (o : World) (m : Frames) (run : Run Machine) (s : Stands l p r stack below before now o m) where
+  module _ (r2 : Registers) (stack2 : List Slot) where
+    pub asked_ends : (f : Flow) → Asked (Err f) o m (activation_at r stack) (below_of below) run → Leaves f l line p r2 stack2 below before now run
     unfolding Leaves no_rule stopping
     asked_ends flow.On h = absurd h
     asked_ends flow.Jumped h = absurd h
     asked_ends flow.Normal h = absurd h
-    asked_ends flow.NoRule h = subst (λ q. Leaves flow.NoRule l line p r2 stack2 below before now q) (sym (h (activation_at r stack) (below_of below))) (refl, s.stores.world.written)
+    asked_ends flow.NoRule h = subst (λ q. Leaves flow.NoRule l line p r2 stack2 below before now q) (sym h) (refl, s.stores.world.written)
     asked_ends flow.TickLimit h = absurd h
     asked_ends flow.Exhausted h = absurd h
+    asked_ends (flow.ExhaustedAt place) h = absurd h
     asked_ends (flow.Fault e) h = absurd h
-    asked_ends (flow.FaultAt e place) h = subst (λ q. Leaves (flow.FaultAt e place) l line p r2 stack2 below before now q) (sym (h (activation_at r stack) (below_of below))) (refl, (o, s.stores.world, refl))
+    asked_ends (flow.FaultAt e place) h = subst (λ q. Leaves (flow.FaultAt e place) l line p r2 stack2 below before now q) (sym h) (refl, (o, s.stores.world, refl))
     asked_ends flow.Memory h = tt
     asked_ends flow.WriteFault h = absurd h
     asked_ends flow.InputFault h = absurd h
 
-  module _ (value : Slot) where
-    abbrev pub Behind : List Value → Run Machine
-    Behind values = at o m (activation_at r stack) r.pc values (below_of below)
+  abbrev pub Behind : List Value → Run Machine
+  Behind values = at o m (activation_at r stack) r.pc values (below_of below)
 
-    abbrev pub Pushed : Run Machine
-    Pushed = pushing (length stack) (values_of r.depth stack) (value_of value) o Behind
+  pub value_goes : (r2 : Registers) (stack2 : List Slot) → r2.home ≡ r.home → r2.stage ≡ r.stage → r2.thunk ≡ r.thunk → r.pc ≡ r2.pc → length stack ≡ length stack2 → AllLead p.frames.items m stack2 → AllLeadArrays p.arrays.regions o.arrays stack2 →
+      Leaves flow.On l line p r2 stack2 below before now (Behind (values_of r2.depth stack2))
+  value_goes r2 stack2 home stage thunk pc long slots arrays = goes_on l line p below before now r r2 stack stack2 o m r.pc (values_of r2.depth stack2) (length stack) s (home, stage, thunk) slots arrays pc refl long
 
-    pub value_goes : (r2 : Registers) (stack2 : List Slot) → r2.home ≡ r.home → r2.stage ≡ r.stage → r2.thunk ≡ r.thunk → r.pc ≡ r2.pc → length stack ≡ length stack2 → AllLead p.frames.items m stack2 → AllLeadArrays p.arrays.regions o.arrays stack2 →
-        Leaves flow.On l line p r2 stack2 below before now (Behind (values_of r2.depth stack2))
-    value_goes r2 stack2 home stage thunk pc long slots arrays = goes_on l line p below before now r r2 stack stack2 o m r.pc (values_of r2.depth stack2) (length stack) s (home, stage, thunk) slots arrays pc refl long
+-- an error of the instruction that asked
+pub fault_there : (l : Limits) (line : ℕ) (p : Storage) (r : Registers) (stack : List Slot) (below : List working.Activation) (before : Option (List ℕ)) (now : Outside) (o : World) (m : Frames) (place : Line) → Stands l p r stack below before now o m →
+    Leaves (flow.FaultAt OutsideQualification place) l line p r stack below before now (stopping (RunFault OutsideQualification place.0) o)
+unfolding Leaves stopping
+fault_there l line p r stack below before now o m place s = (refl, (o, s.stores.world, refl))
 
 -- ---- a thunk ends
 
@@ -274,12 +292,12 @@ module _ (l : Limits) (line : ℕ) (p : Storage) (r : Registers) (stack : List S
     others = λ k u there. s.others k u (subst (λ w. slice_get w k ≡ Some u) (sym e) (get_front rest (next ∷ []) k u there));
   }
 
-  pub ends_onto : (code : CodeOf) (v : Value) → thunk_ended code o m v (below_of below) ≡ thunk_ended code o m v (activation_of next ∷ below_of rest)
-  ends_onto code v = ap (λ w. thunk_ended code o m v w) (ap (λ w. below_of w) e ∙ below_more rest next)
+  pub ends_onto : (code : CodeOf) (v : Value) → thunk_ended code l o m v (below_of below) ≡ thunk_ended code l o m v (activation_of next ∷ below_of rest)
+  ends_onto code v = ap (λ w. thunk_ended code l o m v w) (ap (λ w. below_of w) e ∙ below_more rest next)
 
 module _ (code : CodeOf) (l : Limits) (o : World) (m : Frames) (r : Registers) (stack : List Slot) (below : List Activation) (line : ℕ) where
   abbrev pub EndsWith : Value → List Value → Run Machine
-  EndsWith v rest = thunk_ended code o m v below
+  EndsWith v rest = thunk_ended code l o m v below
 
   abbrev pub Ending : Run Machine
   Ending = popping (values_of r.depth stack) o EndsWith

@@ -1,24 +1,27 @@
 -- Matches of virtuals, and procedures in hand.
-use Rattle.std.proofs.Common.{◌≡◌, ℕ, ◌+◌, ◌<◌, ◌≤◌, List, [], ◌∷◌, length, drop, sym, refl, ap, ◌∙◌, arith}
+use Rattle.std.proofs.Common.{◌≡◌, ℕ, ◌+◌, ◌<◌, ◌≤◌, List, [], length, drop, sym, refl, ap, ◌∙◌, arith}
 use Rattle.std.proofs.lemmas.List.{drop_all, drop_more}
 use Rattle.std.specs.Prelude.{ℤ, Bool, true, false, ◌==◌, if◌then◌else◌, Option, Some, None, slice_get, slice_index_or}
-use Rattle.sim_base.specs.declared.run_error.RunError.TheVariants.{NoMatch, WrongNumberOfParameters}
+use Rattle.sim_base.specs.declared.run_error.RunError.TheVariants.{NoMatch}
 use Rattle.sim_code.specs.declared.code.BlockKind.TheVariants as block
 use Rattle.sim_code.specs.declared.code.CodeActual.{CodeActual}
 use Rattle.sim_code.specs.declared.code.Match.{Match}
 use Rattle.sim_code.specs.Classes.{class_numbered, class_of}
 use Rattle.sim_code.specs.Code.{BlockOf, ClassOf, CodeOf}
-use Rattle.sim_code.specs.Events.{choosing, having, no_rule, pop_many, popping, stopping, when}
+use Rattle.sim_code.specs.Events.{having, no_rule, pop_many, popping, stopping, when}
+use Rattle.sim_code.specs.Formals.{of_procedure, procedure_of}
 use Rattle.sim_code.specs.Instances.{is_live}
-use Rattle.sim_code.specs.Machine.{Activation, Frames, Machine, Value, index, number, on, procedure_in, same_kind}
+use Rattle.sim_code.specs.Machine.{Activation, Frames, Machine, Value, index, procedure_in, same_kind}
 use Rattle.sim_code.specs.Outcome.{Run, RunFault, World}
 use Rattle.sim_code.specs.Rows.{checking}
-use Rattle.sim_code.specs.Virtuals.{counting, match_found, matched, matched_in, matching, record_of}
+use Rattle.sim_code.specs.Virtuals.{match_found, matched, matched_in, matching, record_of}
 use Rattle.frame_arena.specs.declared.slot.Slot.{Slot}
 use Rattle.frame_arena.specs.declared.slot.SlotKind.{SlotKind}
 use Rattle.frame_arena.specs.declared.slot.SlotKind.TheVariants as k
 use Rattle.frame_arena.specs.Slots.{count_of, value_by, value_of}
+use Rattle.object_machine.specs.Checking.{held_against}
 use Rattle.object_machine.specs.Matching.{value_called}
+use Rattle.object_machine.proofs.Having.{having_none, having_some}
 
 -- ---- the first entry for a virtual
 
@@ -88,7 +91,7 @@ other_by k.Thunk s h = refl
 pub no_procedure : (s : Slot) → (s.kind ≡ k.Procedure → ⊥) → None ≡ procedure_in (value_of s)
 no_procedure s h = other_by s.kind s h
 
--- ---- how many parameters there are
+-- ---- the procedure in hand against a list
 
 pub when_holds : (b : Bool) (o : World) (r : Run Machine) → b ≡ true → when b o r ≡ r
 unfolding when
@@ -98,40 +101,12 @@ pub when_fails : (b : Bool) (o : World) (r : Run Machine) → b ≡ false → wh
 unfolding when
 when_fails b o r e = ap (λ c. if c then r else no_rule o) e
 
-module _ (line formals actuals : ℕ) (o : World) (r : Run Machine) where
-  pub counted : formals ≡ actuals → counting line formals actuals o r ≡ r
-  unfolding counting choosing
-  counted e =
-      let same : (formals == actuals) ≡ true = grind (arith, e) in
-      ap (λ b. if b then r else stopping (RunFault WrongNumberOfParameters line) o) same
-
-  pub not_counted : (formals ≡ actuals → ⊥) → counting line formals actuals o r ≡ stopping (RunFault WrongNumberOfParameters line) o
-  unfolding counting choosing
-  not_counted e =
-      let other : (formals == actuals) ≡ false = grind (arith, e) in
-      ap (λ b. if b then r else stopping (RunFault WrongNumberOfParameters line) o) other
-
-  pub none_left : actuals ≡ 0 → when (actuals == 0) o r ≡ r
-  none_left e =
-      let none : (actuals == 0) ≡ true = grind (arith, e) in
-      when_holds (actuals == 0) o r none
-
-  pub some_left : (actuals ≡ 0 → ⊥) → when (actuals == 0) o r ≡ no_rule o
-  some_left e =
-      let some : (actuals == 0) ≡ false = grind (arith, e) in
-      when_fails (actuals == 0) o r some
-
--- ---- the procedure in hand against a list
-
 module _ (code : CodeOf) (o : World) (m : Frames) (a : Activation) (below : List Activation) (line : ℕ) where
-  abbrev pub HeldNumbers : (formals actuals : ℕ) → Run Machine
-  HeldNumbers formals actuals = counting line formals actuals o (when (actuals == 0) o (on o m a a.stack below))
-
-  abbrev pub Held : List CodeActual → BlockOf → Run Machine
-  Held actuals b = HeldNumbers (length b.formals) (length actuals)
+  abbrev pub Held : List CodeActual → ℕ × ℕ → BlockOf → Run Machine
+  Held actuals q b = held_against code o m a below line q.1 b.formals actuals
 
   abbrev pub HeldBlock : List CodeActual → ℕ × ℕ → Run Machine
-  HeldBlock actuals q = having (slice_get code.blocks q.0) o (λ b. when (same_kind b.kind block.Procedure) o (Held actuals b))
+  HeldBlock actuals q = having (slice_get code.blocks q.0) o (λ b. when (same_kind b.kind block.Procedure) o (Held actuals q b))
 
   abbrev pub HeldValue : List CodeActual → Value → List Value → Run Machine
   HeldValue actuals v rest = having (procedure_in v) o (λ q. HeldBlock actuals q)
@@ -141,6 +116,22 @@ module _ (code : CodeOf) (o : World) (m : Frames) (a : Activation) (below : List
 
   pub checking_is : (z : ℤ) → checking code o m a below line z ≡ index z o (λ n. HeldList n)
   checking_is z = refl
+
+-- ---- the procedure of a number
+
+module _ (code : CodeOf) (k : ℕ) (o : World) (r : Run Machine) where
+  abbrev Procedure_then : Run Machine
+  Procedure_then = having (procedure_of code k) o (λ _. r)
+
+  pub procedure_missing : slice_get code.blocks k ≡ None → Procedure_then ≡ no_rule o
+  procedure_missing e = having_none (procedure_of code k) o (λ _. r) (sym (ap of_procedure e))
+
+  module _ (b : BlockOf) (e : slice_get code.blocks k ≡ Some b) where
+    pub procedure_other : same_kind b.kind block.Procedure ≡ false → Procedure_then ≡ no_rule o
+    procedure_other h = having_none (procedure_of code k) o (λ _. r) (sym (ap of_procedure e ∙ ap (λ c. if c then Some b else None) h))
+
+    pub procedure_there : same_kind b.kind block.Procedure ≡ true → Procedure_then ≡ r
+    procedure_there h = having_some (procedure_of code k) b o (λ _. r) (sym (ap of_procedure e ∙ ap (λ c. if c then Some b else None) h))
 
 -- ---- what a call of the procedure in hand finds on the operand stack
 

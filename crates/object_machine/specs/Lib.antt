@@ -30,3 +30,5 @@ pub mod Preparing
 pub mod Keeping
 pub mod Transferring
 pub mod Thunking
+pub mod Checking
+pub mod Copying

@@ -2,13 +2,11 @@
 use Rattle.std.specs.Prelude.{◌≡◌, ℕ, ℤ, List, ◌∷◌, Option, Some, None, Result, Ok, Err}
 use Rattle.sim_base.specs.declared.limits.Limits.{Limits}
 use Rattle.sim_code.specs.declared.code.ThunkRecord.{ThunkRecord}
-use Rattle.sim_code.specs.declared.instr.Instr.{Instr}
 use Rattle.sim_code.specs.declared.instr.Lined.{Lined}
 use Rattle.sim_code.specs.Code.{CodeOf}
 use Rattle.sim_code.specs.Events.{having, no_rule, stopping}
 use Rattle.sim_code.specs.Machine.{Activation, Frames, Machine, Value, at, cell, cell_at, pushing, thunk_in, waiting}
 use Rattle.sim_code.specs.Outcome.{Run, RunFault, World}
-use Rattle.sim_code.specs.Rows.{thunk_given}
 use Rattle.sim_code.specs.Thunks.{in_thunk}
 use Rattle.frame_arena.specs.declared.frames.Frame.{Frame}
 use Rattle.frame_arena.specs.declared.slot.Slot.{Slot}
@@ -58,10 +56,10 @@ abbrev pub AnswerLeads : Result Slot Flow → Storage → World → Frames → T
 AnswerLeads (Ok x) p o m = LeadsFrom p o m x
 AnswerLeads (Err f) p o m = Unit {0}
 
--- What an instruction asked for, of what its thunk gave: what goes to the activation that waits; or how the run ends.
-abbrev pub Asked : Result Slot Flow → CodeOf → World → Frames → Value → (line : ℕ) → Instr → Type 0
-Asked (Ok x) code o m v line i = (b : Activation) (rest : List Activation) → thunk_given code o m b rest v line i ≡ pushing b.room b.stack (value_of x) o (λ stack. at o m b b.pc stack rest)
-Asked (Err (flow.FaultAt f place)) code o m v line i = (b : Activation) (rest : List Activation) → thunk_given code o m b rest v line i ≡ stopping (RunFault f place.0) o
-Asked (Err flow.NoRule) code o m v line i = (b : Activation) (rest : List Activation) → thunk_given code o m b rest v line i ≡ no_rule o
-Asked (Err flow.Memory) code o m v line i = Unit {0}
-Asked (Err _) code o m v line i = ⊥
+-- What an instruction asked for of what its thunk gave, which goes to the activation that waits; or how the run ends.
+abbrev pub Asked : Result Slot Flow → World → Frames → (waiting : Activation) → (rest : List Activation) → Run Machine → Type 0
+Asked (Ok x) o m b rest run = run ≡ pushing b.room b.stack (value_of x) o (λ stack. at o m b b.pc stack rest)
+Asked (Err (flow.FaultAt f place)) o m b rest run = run ≡ stopping (RunFault f place.0) o
+Asked (Err flow.NoRule) o m b rest run = run ≡ no_rule o
+Asked (Err flow.Memory) o m b rest run = Unit {0}
+Asked (Err _) o m b rest run = ⊥

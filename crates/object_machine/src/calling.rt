@@ -47,10 +47,11 @@ pub struct Actuals {
     pub parent: FrameRef,
 }
 
-// The frame that a slot names.
+/// The frame that a slot names.
 #[inline(always)]
-fn named(slot: Slot) -> Option<FrameRef>
+pub fn named(slot: Slot) -> Option<FrameRef>
     ensures number { number_in result ≡ frame_in (value_of slot) }
+    ensures short { IfSome result (λ f. f.stamp < 2 ^ 63) }
     ensures leads { IfSome result (λ f. (frames : List Frame) (m : Frames) → SlotLeads frames m slot → Leads frames m f) }
 {
     let stamp = if slot.data < 0 { 0 } else { slot.data as u64 };

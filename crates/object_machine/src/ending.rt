@@ -86,6 +86,15 @@ pub fn answer<O: Sink>(limits: &Limits, storage: &mut Storage, out: &mut O, stop
             };
             closed(storage, out, ending)
         }
+        Flow::ExhaustedAt(line) => {
+            let used = storage.words;
+            let wanted = storage.wanted;
+            closed(
+                storage,
+                out,
+                Ending::StorageExhausted { line, used, wanted },
+            )
+        }
         Flow::Fault(error) => {
             let line = stop.line;
             closed(storage, out, Ending::RunFault { error, line })

@@ -64,8 +64,8 @@ fn own_block(blocks: &[BlockRecord], number: u32, kind: BlockKind) -> Option<Own
     })
 }
 
-// Whether a block gives no result.
-fn is_nothing(result_type: CodeType) -> bool
+/// Whether nothing has this type.
+pub fn is_nothing(result_type: CodeType) -> bool
     ensures { result ≡ is_nothing_of result_type }
 {
     match result_type {

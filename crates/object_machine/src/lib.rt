@@ -2,12 +2,14 @@
 #![tactic(auto)]
 
 mod activations;
+mod actuals;
 mod arrays;
 mod begin;
 mod blocks;
 mod calling;
 mod cells;
 mod chains;
+mod checking;
 mod classes;
 mod constants;
 mod control;
@@ -16,6 +18,7 @@ mod ending;
 mod entering;
 mod finishing;
 mod first;
+mod fitting;
 mod generating;
 mod handing;
 mod images;

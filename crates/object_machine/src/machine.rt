@@ -100,6 +100,8 @@ pub enum Flow {
     TickLimit,
     /// The words that are wanted are not left.
     Exhausted,
+    /// The words that another instruction wants are not left, with the line of that.
+    ExhaustedAt(Line),
     /// A run-time error.
     Fault(RunError),
     /// A run-time error of another instruction, with the line of that.

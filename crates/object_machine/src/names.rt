@@ -1,8 +1,9 @@
 //! Standard names.
-ghost use Rattle.std.specs.Prelude.{◌≡◌, ℕ, ◌+◌, ◌<◌, ◌≤◌, ◌^◌, List, Option, Some, IfSome, length, true};
+ghost use Rattle.std.specs.Prelude.{◌≡◌, ℕ, ◌+◌, ◌<◌, ◌≤◌, ◌∷◌, ◌^◌, List, Option, Some, IfSome, length, true};
 ghost use Rattle.sim_code.specs.Code.{CodeOf};
-ghost use Rattle.sim_code.specs.Events.{having};
-ghost use Rattle.sim_code.specs.Machine.{Frames};
+ghost use Rattle.sim_code.specs.Events.{having, popping};
+ghost use Rattle.sim_code.specs.Formals.{TextCopied, copying_value};
+ghost use Rattle.sim_code.specs.Machine.{ArrayValue, Frames, Of, array_in, on, plain};
 ghost use Rattle.sim_code.specs.Outcome.{ArrayOf, World};
 ghost use Rattle.sim_code.specs.Rows.{standard_of, standard_row};
 ghost use Rattle.sim_code.specs.Running.{standard_runs};
@@ -27,7 +28,7 @@ use crate::processes::{is_process_name, process_standard};
 use crate::reading::{first_operand, read_operands, text_operand};
 use crate::scheduling::is_simulation_name;
 use crate::sets::{is_set_name, set_standard};
-use frame_arena::{EMPTY, Slot};
+use frame_arena::{EMPTY, Slot, SlotKind, stack};
 use sim_base::Limits;
 use sim_ports::{Sink, Source};
 use sim_values::Standard;
@@ -204,6 +205,30 @@ fn whole_standard(
         &mut storage.texts,
     );
     settle_performed(storage, regs, performed, address)
+}
+
+/// A copy of the text on top, in its place.
+pub fn copy_text(
+    limits: &Limits,
+    storage: &mut Storage,
+    stack: &mut [Slot],
+    regs: &mut Registers,
+) -> Flow
+    requires fits { regs.old.depth ≤ length stack.old }
+    requires short { regs.old.pc + 1 < 2 ^ 64 }
+    requires images { HasImages storage.old.texts storage.old.image }
+    ensures fits { regs.new.depth ≤ length stack.new }
+    ensures valid { HasImages storage.new.texts storage.new.image }
+    ensures row { (line : ℕ) (below : List Activation) (now : Outside) →
+        Obeys result limits.now line (λ o m a b. popping a.stack o (λ v st. copying_value Of plain ArrayValue array_in limits.now line a.home TextCopied v o (λ v w. on w m a (v ∷ st) b))) storage.old storage.new regs.old regs.new stack.old stack.new below below now now }
+{
+    let Some(at) = stack::pop(stack, regs.depth) else {
+        return Flow::NoRule;
+    };
+    match stack[at].kind {
+        SlotKind::Text => whole_standard(limits, storage, stack, regs, Standard::Copy),
+        _ => Flow::NoRule,
+    }
 }
 
 // The same, with a copy of the registers handed over.

@@ -2,7 +2,7 @@
 ghost use Rattle.std.specs.Prelude.{◌≡◌, ℕ, ◌+◌, ◌<◌, ◌≤◌, ◌^◌, List, Option, IfSome, length};
 ghost use Rattle.sim_base.specs.declared.limits.Limits.{Limits as LimitsOf};
 ghost use Rattle.sim_code.specs.Code.{CodeOf};
-ghost use Rattle.sim_code.specs.Events.{no_rule as no_rule_of, stopping};
+ghost use Rattle.sim_code.specs.Events.{stopping};
 ghost use Rattle.sim_code.specs.Outcome.{Normal};
 ghost use Rattle.sim_code.specs.Rows.{row};
 ghost use Rattle.frame_arena.specs.declared.slot.Slot.{Slot as SlotOf};
@@ -24,7 +24,7 @@ use crate::operands::{
 };
 use crate::pairs::{relate, relation_of_texts};
 use crate::texts::{image_address, notext};
-use crate::virtuals::find_match;
+use crate::virtuals::{find_match, procedure_value};
 use frame_arena::Slot;
 use frame_arena::frames::Span;
 use sim_base::Limits;
@@ -39,15 +39,6 @@ fn halt() -> Flow
         Obeys result l line (λ o m a b. stopping Normal o) p p r r stack stack below below now now }
 {
     Flow::Normal
-}
-
-// Where there is no rule.
-#[inline(always)]
-fn no_rule() -> Flow
-    ensures { (l : LimitsOf) (line : ℕ) (p : Storage) (r : Registers) (stack : List SlotOf) (below : List Activation) (now : Outside) →
-        Obeys result l line (λ o m a b. no_rule_of o) p p r r stack stack below below now now }
-{
-    Flow::NoRule
 }
 
 // What is not built: the machine stops as for want of memory.
@@ -188,9 +179,8 @@ pub fn obey_other(
         Instr::Is(class) => test_class(&storage.frames, blocks, classes, true, stack, regs, class),
         Instr::In(class) => test_class(&storage.frames, blocks, classes, false, stack, regs, class),
         Instr::Qua(class) => qua(&storage.frames, blocks, classes, stack, regs, class),
-        Instr::ProcVal(_) => no_rule(),
+        Instr::ProcVal(block) => procedure_value(blocks, stack, regs, block),
         Instr::Virt(number) => { find_match(&storage.frames, blocks, classes, stack, regs, number) }
-        Instr::Param { .. } => no_rule(),
         Instr::NotNone => not_none(stack, regs),
         _ => not_built(),
     }

@@ -11,7 +11,9 @@ ghost use Rattle.object_machine.specs.Taking.{StepTakes};
 ghost use Rattle.frame_arena.specs.declared.slot.Slot.{Slot};
 
 use crate::activations::activate;
+use crate::actuals::pass_parameter;
 use crate::calling::call;
+use crate::checking::check_actuals;
 use crate::entering::enter;
 use crate::generating::generate;
 use crate::leaving::{end_level, give_result, leave};
@@ -25,7 +27,7 @@ use crate::stages::{inner, next_declarations};
 use crate::texts::constant;
 use crate::thunks::{end_thunk, push_thunk, use_name};
 use crate::transfers::{attach, detach, resume};
-use crate::virtuals::{call_value, check_actuals};
+use crate::virtuals::call_value;
 use sim_base::{ByteString, Limits};
 use sim_code::{ActualList, BlockRecord, ClassRecord, Instr, Lined, ThunkRecord};
 use sim_ports::{Sink, Source};
@@ -118,7 +120,25 @@ pub fn step<I: Source, O: Sink>(
             without_ports(flow)
         }
         Instr::Check(list) => {
-            let flow = check_actuals(blocks, lists, &top.stack, &mut top.registers, list);
+            let flow = check_actuals(
+                &storage.frames,
+                blocks,
+                classes,
+                lists,
+                &top.stack,
+                &mut top.registers,
+                list,
+            );
+            without_ports(flow)
+        }
+        Instr::Param {
+            formal,
+            thunk,
+            procedure,
+        } => {
+            let flow = pass_parameter(
+                alloc, blocks, instrs, thunks, storage, top, below, formal, thunk, procedure,
+            );
             without_ports(flow)
         }
         Instr::CallV(values) => {
@@ -142,7 +162,7 @@ pub fn step<I: Source, O: Sink>(
             without_ports(flow)
         }
         Instr::EndThunk => {
-            let flow = end_thunk(blocks, instrs, classes, storage, top, below);
+            let flow = end_thunk(blocks, instrs, classes, limits, storage, top, below);
             without_ports(flow)
         }
         Instr::Leave => {

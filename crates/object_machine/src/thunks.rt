@@ -3,20 +3,21 @@ ghost use Rattle.std.specs.Prelude.{◌≡◌, ◌∷◌, ◌+◌, ◌<◌, ◌�
 ghost use Rattle.sim_base.specs.declared.limits.Limits.{Limits as LimitsOf};
 ghost use Rattle.sim_code.specs.declared.instr.Instr.{Instr};
 ghost use Rattle.sim_code.specs.Code.{CodeOf};
-ghost use Rattle.sim_code.specs.Machine.{Activation as ActivationOf, Frames, ThunkValue, cell_at};
-ghost use Rattle.sim_code.specs.Outcome.{World};
-ghost use Rattle.sim_code.specs.Rows.{row, thunk_ended};
+ghost use Rattle.sim_code.specs.Machine.{Activation as ActivationOf, Frames, Machine, ThunkValue, cell_at};
+ghost use Rattle.sim_code.specs.Outcome.{Run, World};
+ghost use Rattle.sim_code.specs.Rows.{row, thunk_ended, thunk_given};
 ghost use Rattle.sim_code.specs.Thunks.{is_place as is_place_in, using_name, value_given as value_given_in};
 ghost use Rattle.frame_arena.specs.Arrays.{names_array};
 ghost use Rattle.frame_arena.specs.Frames.{Leads, SlotLeads, found_value};
 ghost use Rattle.frame_arena.specs.Slots.{value_of};
 ghost use Rattle.frame_arena.specs.declared.frames.Frame.{Frame};
 ghost use Rattle.object_machine.specs.declared.machine.Storage.{Storage as StorageOf};
-ghost use Rattle.object_machine.specs.Standing.{AllFit, Leaves, Obeys, Outside, Stands, Stores, activation_of, below_of};
+ghost use Rattle.object_machine.specs.Standing.{AllFit, HasImages, Leaves, Obeys, Outside, Stands, Stores, activation_of, below_of};
 ghost use Rattle.object_machine.specs.FrameEnds.{ValueLeads};
 ghost use Rattle.object_machine.specs.Placing.{LeadsFrom};
 ghost use Rattle.object_machine.specs.Thunking.{AnswerLeads, Asked, FindsThunk, IsThunk, OpensThunk};
 
+use crate::actuals::give_parameter;
 use crate::cells::level_frame;
 use crate::classes::{Qualification, qualify, stamp_of};
 use crate::constants::{index, truth};
@@ -125,8 +126,8 @@ fn named_thunk(storage: &Storage, home: FrameRef, level: i64, cell: i64) -> Opti
     thunk_of(slot)
 }
 
-// A thunk begins on top of the chain.
-fn begin_thunk(
+/// A thunk begins on top of the chain.
+pub fn begin_thunk(
     alloc: Global,
     instrs: &[Lined],
     thunks: &[ThunkRecord],
@@ -212,8 +213,8 @@ fn is_address(slot: Slot) -> bool
     }
 }
 
-// The value that an actual parameter gave: itself, or what is where it lies.
-fn value_given(storage: &Storage, given: Slot) -> Option<Slot>
+/// The value that an actual parameter gave: itself, or what is where it lies.
+pub fn value_given(storage: &Storage, given: Slot) -> Option<Slot>
     ensures leads { (l : LimitsOf) (before : Option (List ℕ)) (now : Outside) (o : World) (m : Frames) → Stores l storage.now before now o m → LeadsFrom storage.now o m given → ValueLeads storage.now.frames.items m storage.now.arrays.regions o.arrays result }
     ensures row { (l : LimitsOf) (before : Option (List ℕ)) (now : Outside) (o : World) (m : Frames) → Stores l storage.now before now o m → LeadsFrom storage.now o m given → found_value result ≡ value_given_in o m (value_of given) }
 {
@@ -240,7 +241,7 @@ fn value_asked(
 ) -> Result<Slot, Flow>
     ensures leads { (l : LimitsOf) (before : Option (List ℕ)) (now : Outside) (o : World) (m : Frames) → Stores l storage.now before now o m → LeadsFrom storage.now o m given → AnswerLeads result storage.now o m }
     ensures row { (code : CodeOf) (l : LimitsOf) (before : Option (List ℕ)) (now : Outside) (o : World) (m : Frames) (level cell : ℤ) → code.blocks ≡ blocks.now → code.classes ≡ classes.now →
-        Stores l storage.now before now o m → LeadsFrom storage.now o m given → Asked result code o m (value_of given) line.0 (Instr.NameVal level cell class) }
+        Stores l storage.now before now o m → LeadsFrom storage.now o m given → (b : ActivationOf) (rest : List ActivationOf) → Asked result o m b rest (thunk_given code l o m b rest (value_of given) line.0 (Instr.NameVal level cell class)) }
 {
     let number = match qualify(classes, class) {
         Qualification::Class(number) => number,
@@ -260,7 +261,8 @@ fn value_asked(
 // Where a thunk says that a variable lies; or else, for 1, its value.
 fn place_asked(given: Slot, value_too: i64, line: Line) -> Result<Slot, Flow>
     ensures leads { (p : StorageOf) (o : World) (m : Frames) → LeadsFrom p o m given → AnswerLeads result p o m }
-    ensures row { (code : CodeOf) (o : World) (m : Frames) (level cell : ℤ) → Asked result code o m (value_of given) line.0 (Instr.NameAddr level cell value_too) }
+    ensures row { (code : CodeOf) (l : LimitsOf) (o : World) (m : Frames) (level cell : ℤ) (b : ActivationOf) (rest : List ActivationOf) →
+        Asked result o m b rest (thunk_given code l o m b rest (value_of given) line.0 (Instr.NameAddr level cell value_too)) }
 {
     let Some(either) = truth(value_too) else {
         return Err(Flow::NoRule);
@@ -274,50 +276,15 @@ fn place_asked(given: Slot, value_too: i64, line: Line) -> Result<Slot, Flow>
     Err(Flow::FaultAt(RunError::ActualIsNoVariable, line))
 }
 
-// What the instruction that ran a thunk asked for, of what the thunk gave.
-fn asked(
-    blocks: &[BlockRecord],
-    classes: &[ClassRecord],
-    storage: &Storage,
-    given: Slot,
-    asking: Lined,
-) -> Result<Slot, Flow>
-    ensures leads { (l : LimitsOf) (before : Option (List ℕ)) (now : Outside) (o : World) (m : Frames) → Stores l storage.now before now o m → LeadsFrom storage.now o m given → AnswerLeads result storage.now o m }
-    ensures row { (code : CodeOf) (l : LimitsOf) (before : Option (List ℕ)) (now : Outside) (o : World) (m : Frames) → code.blocks ≡ blocks.now → code.classes ≡ classes.now →
-        Stores l storage.now before now o m → LeadsFrom storage.now o m given → Asked result code o m (value_of given) asking.line.0 asking.instr }
-{
-    match asking.instr {
-        Instr::NameVal { class, .. } => {
-            value_asked(blocks, classes, storage, given, class, asking.line)
-        }
-        Instr::NameAddr { value, .. } => place_asked(given, value, asking.line),
-        _ => Err(Flow::NoRule),
-    }
-}
-
-// What a thunk gave goes to the activation that waits for it, whose last instruction ran it.
-fn give(
-    blocks: &[BlockRecord],
-    instrs: &[Lined],
-    classes: &[ClassRecord],
-    storage: &Storage,
-    waiting: &mut Activation,
-    given: Slot,
-) -> Flow
+// What was asked for goes to the activation that waits for it, or the run ends.
+fn hand(waiting: &mut Activation, asked: Result<Slot, Flow>) -> Flow
     requires fits { waiting.old.registers.depth ≤ length waiting.old.stack.items }
     ensures fits { waiting.new.registers.depth ≤ length waiting.new.stack.items }
-    ensures row { (code : CodeOf) (l : LimitsOf) (line : ℕ) (below : List Activation) (before : Option (List ℕ)) (now : Outside) (o : World) (m : Frames) → code.blocks ≡ blocks.now → code.instrs ≡ instrs.now → code.classes ≡ classes.now →
-        Stands l storage.now waiting.old.registers waiting.old.stack.items below before now o m → LeadsFrom storage.now o m given →
-        Leaves result l line storage.now waiting.new.registers waiting.new.stack.items below before now (thunk_ended code o m (value_of given) (activation_of waiting.old ∷ below_of below)) }
+    ensures row { (l : LimitsOf) (line : ℕ) (p : StorageOf) (below : List Activation) (before : Option (List ℕ)) (now : Outside) (o : World) (m : Frames) (run : Run Machine) →
+        Stands l p waiting.old.registers waiting.old.stack.items below before now o m → AnswerLeads asked p o m → Asked asked o m (activation_of waiting.old) (below_of below) run →
+        Leaves result l line p waiting.new.registers waiting.new.stack.items below before now run }
 {
-    let pc = waiting.registers.pc;
-    if pc == 0 {
-        return Flow::NoRule;
-    }
-    let Some(asking) = instrs.get(pc - 1) else {
-        return Flow::NoRule;
-    };
-    let value = match asked(blocks, classes, storage, given, *asking) {
+    let value = match asked {
         Ok(value) => value,
         Err(flow) => return flow,
     };
@@ -328,21 +295,66 @@ fn give(
     Flow::On
 }
 
+// What a thunk gave goes to the activation that waits for it, whose last instruction ran it.
+fn give(
+    blocks: &[BlockRecord],
+    instrs: &[Lined],
+    classes: &[ClassRecord],
+    limits: &Limits,
+    storage: &mut Storage,
+    waiting: &mut Activation,
+    given: Slot,
+) -> Flow
+    requires fits { waiting.old.registers.depth ≤ length waiting.old.stack.items }
+    requires images { HasImages storage.old.texts storage.old.image }
+    ensures fits { waiting.new.registers.depth ≤ length waiting.new.stack.items }
+    ensures valid { HasImages storage.new.texts storage.new.image }
+    ensures row { (code : CodeOf) (line : ℕ) (below : List Activation) (before : Option (List ℕ)) (now : Outside) (o : World) (m : Frames) → code.blocks ≡ blocks.now → code.instrs ≡ instrs.now → code.classes ≡ classes.now →
+        Stands limits.now storage.old waiting.old.registers waiting.old.stack.items below before now o m → LeadsFrom storage.old o m given →
+        Leaves result limits.now line storage.new waiting.new.registers waiting.new.stack.items below before now (thunk_ended code limits.now o m (value_of given) (activation_of waiting.old ∷ below_of below)) }
+{
+    let pc = waiting.registers.pc;
+    if pc == 0 {
+        return Flow::NoRule;
+    }
+    let Some(asking) = instrs.get(pc - 1) else {
+        return Flow::NoRule;
+    };
+    let line = asking.line;
+    match asking.instr {
+        Instr::NameVal { class, .. } => {
+            let value = value_asked(blocks, classes, storage, given, class, line);
+            hand(waiting, value)
+        }
+        Instr::NameAddr { value, .. } => {
+            let place = place_asked(given, value, line);
+            hand(waiting, place)
+        }
+        Instr::Param { formal, .. } => give_parameter(
+            blocks, classes, limits, storage, waiting, given, formal, line,
+        ),
+        _ => Flow::NoRule,
+    }
+}
+
 /// A thunk ends. What it gives goes to the activation below, whose last instruction ran it; an error has the line of that.
 pub fn end_thunk(
     blocks: &[BlockRecord],
     instrs: &[Lined],
     classes: &[ClassRecord],
-    storage: &Storage,
+    limits: &Limits,
+    storage: &mut Storage,
     top: &mut Activation,
     below: &mut Vec<Activation>,
 ) -> Flow
     requires fits { top.old.registers.depth ≤ length top.old.stack.items }
     requires others { AllFit below.old.items }
+    requires images { HasImages storage.old.texts storage.old.image }
     ensures fits { top.new.registers.depth ≤ length top.new.stack.items }
     ensures others { AllFit below.new.items }
-    ensures row { (code : CodeOf) (l : LimitsOf) (line : ℕ) (now : Outside) → code.blocks ≡ blocks.now → code.instrs ≡ instrs.now → code.classes ≡ classes.now →
-        Obeys result l line (λ o m a b. row code l o m a b line Instr.EndThunk) storage.now storage.now top.old.registers top.new.registers top.old.stack.items top.new.stack.items below.old.items below.new.items now now }
+    ensures valid { HasImages storage.new.texts storage.new.image }
+    ensures row { (code : CodeOf) (line : ℕ) (now : Outside) → code.blocks ≡ blocks.now → code.instrs ≡ instrs.now → code.classes ≡ classes.now →
+        Obeys result limits.now line (λ o m a b. row code limits.now o m a b line Instr.EndThunk) storage.old storage.new top.old.registers top.new.registers top.old.stack.items top.new.stack.items below.old.items below.new.items now now }
 {
     let Some(_thunk) = top.registers.thunk else {
         return Flow::NoRule;
@@ -355,5 +367,5 @@ pub fn end_thunk(
         return Flow::NoRule;
     };
     *top = next;
-    give(blocks, instrs, classes, storage, top, given)
+    give(blocks, instrs, classes, limits, storage, top, given)
 }

@@ -1,13 +1,12 @@
 //! The rows of virtual procedures and of procedures in hand.
-ghost use Rattle.std.specs.Prelude.{◌≡◌, ◌==◌, ℕ, ◌+◌, ◌<◌, ◌≤◌, ◌^◌, List, IfSome, length};
+ghost use Rattle.std.specs.Prelude.{◌≡◌, ℕ, ◌+◌, ◌<◌, ◌≤◌, ◌^◌, List, IfSome, length};
 ghost use Rattle.sim_base.specs.declared.limits.Limits.{Limits as LimitsOf};
 ghost use Rattle.sim_code.specs.declared.instr.Instr.{Instr};
 ghost use Rattle.sim_code.specs.Code.{CodeOf};
-ghost use Rattle.sim_code.specs.Events.{when};
-ghost use Rattle.sim_code.specs.Machine.{Frames, Machine, Value, on};
+ghost use Rattle.sim_code.specs.Machine.{Frames, Machine, Value};
 ghost use Rattle.sim_code.specs.Outcome.{Run, World};
-ghost use Rattle.sim_code.specs.Rows.{checking, entering_value, row};
-ghost use Rattle.sim_code.specs.Virtuals.{counting, match_found as match_found_of, matched as matched_of};
+ghost use Rattle.sim_code.specs.Rows.{entering_value, row};
+ghost use Rattle.sim_code.specs.Virtuals.{match_found as match_found_of, matched as matched_of};
 ghost use Rattle.frame_arena.specs.Frames.{AllLead, Holds, Leads, SlotLeads};
 ghost use Rattle.frame_arena.specs.Slots.{value_of};
 ghost use Rattle.frame_arena.specs.Stacks.{values_of};
@@ -16,14 +15,14 @@ ghost use Rattle.object_machine.specs.Matching.{IsProcedure, found_in, value_cal
 ghost use Rattle.object_machine.specs.Standing.{AllFit, Obeys, Outside};
 
 use crate::blocks::{block_of, same_kind};
-use crate::calling::{Actuals, enter_called};
+use crate::calling::{Actuals, enter_called, named};
 use crate::classes::{Reference, class_of, reference_in, stamp_of};
 use crate::constants::index;
 use crate::machine::{Activation, Flow, Registers, Storage};
 use frame_arena::frames::{self, Frame};
 use frame_arena::{Slot, SlotKind, stack};
 use sim_base::{Limits, RunError};
-use sim_code::{ActualList, BlockKind, BlockRecord, ClassRecord, Lined, Match};
+use sim_code::{BlockKind, BlockRecord, ClassRecord, Lined, Match};
 use sim_values::FrameRef;
 use std::alloc::Global;
 
@@ -131,9 +130,9 @@ pub fn find_match(
     }
 }
 
-// The procedure that a slot has.
+/// The procedure that a slot has.
 #[inline(always)]
-fn procedure_in(slot: Slot) -> Option<ProcedureInHand>
+pub fn procedure_in(slot: Slot) -> Option<ProcedureInHand>
     ensures is { IsProcedure result (value_of slot) }
     ensures leads { IfSome result (λ q. (frames : List Frame) (m : Frames) → SlotLeads frames m slot → Leads frames m q.parent) }
 {
@@ -150,56 +149,40 @@ fn procedure_in(slot: Slot) -> Option<ProcedureInHand>
     }
 }
 
-// A procedure with so many formal parameters is held against so many actual ones.
-fn count_parameters(regs: &mut Registers, formals: usize, actuals: usize) -> Flow
-    requires short { regs.old.pc + 1 < 2 ^ 64 }
-    ensures depth { regs.new.depth ≡ regs.old.depth }
-    ensures row { (l : LimitsOf) (line : ℕ) (p : StorageOf) (stack : List Slot) (below : List Activation) (now : Outside) →
-        Obeys result l line (λ o m a b. counting line formals actuals o (when (actuals == 0) o (on o m a a.stack b))) p p regs.old regs.new stack stack below below now now }
-{
-    if formals != actuals {
-        return Flow::Fault(RunError::WrongNumberOfParameters);
-    }
-    if actuals != 0 {
-        return Flow::NoRule;
-    }
-    regs.pc += 1;
-    Flow::On
-}
-
-/// Holds the procedure in hand against a list of actual parameters. There is a rule only where the list has none.
-pub fn check_actuals(
+/// The link or reference on top gives way to a procedure that is declared in its frame.
+pub fn procedure_value(
     blocks: &[BlockRecord],
-    lists: &[ActualList],
-    stack: &[Slot],
+    stack: &mut [Slot],
     regs: &mut Registers,
     operand: i64,
 ) -> Flow
-    requires fits { regs.old.depth ≤ length stack.now }
+    requires fits { regs.old.depth ≤ length stack.old }
     requires short { regs.old.pc + 1 < 2 ^ 64 }
-    ensures fits { regs.new.depth ≤ length stack.now }
-    ensures row { (code : CodeOf) (l : LimitsOf) (line : ℕ) (p : StorageOf) (below : List Activation) (now : Outside) → code.blocks ≡ blocks.now → code.actual_lists ≡ lists.now →
-        Obeys result l line (λ o m a b. checking code o m a b line operand) p p regs.old regs.new stack.now stack.now below below now now }
+    ensures fits { regs.new.depth ≤ length stack.new }
+    ensures row { (code : CodeOf) (l : LimitsOf) (line : ℕ) (p : StorageOf) (below : List Activation) (now : Outside) → code.blocks ≡ blocks.now →
+        Obeys result l line (λ o m a b. row code l o m a b line (Instr.ProcVal operand)) p p regs.old regs.new stack.old stack.new below below now now }
 {
     let Some(number) = index(operand) else {
         return Flow::NoRule;
     };
-    let Some(list) = lists.get(number) else {
-        return Flow::NoRule;
-    };
-    let Some(at) = stack::pop(stack, regs.depth) else {
-        return Flow::NoRule;
-    };
-    let Some(procedure) = procedure_in(stack[at]) else {
-        return Flow::NoRule;
-    };
-    let Some(block) = blocks.get(procedure.block as usize) else {
+    let Some(block) = blocks.get(number) else {
         return Flow::NoRule;
     };
     if !same_kind(block.kind, BlockKind::Procedure) {
         return Flow::NoRule;
     }
-    count_parameters(regs, block.formals.len(), list.actuals.len())
+    let Ok(short) = u32::try_from(number) else {
+        return Flow::Memory;
+    };
+    let Some(at) = stack::pop(stack, regs.depth) else {
+        return Flow::NoRule;
+    };
+    let Some(parent) = named(stack[at]) else {
+        return Flow::NoRule;
+    };
+    stack[at] = Slot::procedure(short, parent);
+    regs.pc += 1;
+    Flow::On
 }
 
 // The procedure in hand, if it is below as many values and its frame was not given back.

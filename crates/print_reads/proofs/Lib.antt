@@ -15,3 +15,16 @@ mod Leaves
 mod Expressions
 mod Trees
 pub mod Printed
+mod ReadBack
+mod ReadExpressions
+mod ReadStatements
+mod ReadPrograms
+mod Carried
+mod CarriedExpressions
+mod CarriedDeclarations
+mod CarriedStatements
+mod CarriedBlocks
+mod CarriedParts
+mod Ahead
+mod Carry
+pub mod Backs

@@ -20,7 +20,7 @@ canonical_read p all within = read_again (program p) all (tokens_stand p) within
 
 -- ---- one text, one list of tokens
 
-tokens_of : Lexed → List Token
+abbrev pub tokens_of : Lexed → List Token
 tokens_of (Spelled tokens) = tokens
 tokens_of (Broken rule place) = []
 
@@ -39,7 +39,6 @@ abbrev pub OneReading : Type 0
 OneReading = (source : List ℕ) (first second : Lexed) → Reads source first → Reads source second → first ≡ second
 
 same_lexemes : OneReading → (source : List ℕ) (xs ys : List Lexeme) → ReadsAs source xs → ReadsAs source ys → xs ≡ ys
-unfolding tokens_of
 same_lexemes one source xs ys a b =
     let same : a.tokens ≡ b.tokens = ap tokens_of (one source (Spelled a.tokens) (Spelled b.tokens) a.reads b.reads) in
     sym (without_end xs (bare k.EndOfSource)) ∙ ap without_last (sym a.are ∙ ap (λ (l : List Token). map lexeme_of l) same ∙ b.are) ∙ without_end ys (bare k.EndOfSource)

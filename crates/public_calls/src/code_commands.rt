@@ -52,8 +52,8 @@ fn refused(rt: HostRuntime) {
             b"line 1: S10 identifier not declared\n".as_slice(),
         ),
         (
-            b"\nsimulation begin new process end",
-            b"line 1: Z1 form not built\n",
+            b"begin integer i;\ni :=\nend",
+            b"line 3: Y1 unexpected token\n",
         ),
     ];
     for (row, (source, diag)) in rows.into_iter().enumerate() {

@@ -22,7 +22,6 @@ use Rattle.sim_meaning.specs.Entries.{numbers_of}
 use Rattle.sim_meaning.specs.Texts.{Text, declared_at, text}
 use Rattle.sim_sound.specs.Held.{Among, first, later}
 use Rattle.sim_sound.specs.Typed.{arrays_in_segments, arrays_named, arrays_of_block, of_option}
-use Rattle.sim_agree.specs.Plain.{Plain}
 use Rattle.sim_agree.specs.TablesOf.{TablesOf}
 use Rattle.sim_agree.proofs.Clean.{OwedAt, RowFor}
 use Rattle.sim_agree.proofs.Constants.{has_split, only}
@@ -125,38 +124,38 @@ pub segments_more : (s : Source) (as_ : List Arrayed) (d : DeclNo) (more : List 
 segments_more s [] d more a = a
 segments_more s (x ∷ as_) d more a = named_more s x.names d (arrays_in_segments s as_ more) (segments_more s as_ d more a)
 
-module _ (s : Source) (of : TablesOf s) (plain : Plain s.program) (order : InOrder s.program) where
+module _ (s : Source) (of : TablesOf s) (order : InOrder s.program) where
   -- the row of what a block or a class declares itself has its token
   pub declared_for : (k : ℕ) (y : Identifier) (e : Entry) (q : RowFor (declared_by s.program) k y e) → declared_at s y.token.0 ≡ Some (record { 0 = q.number })
   declared_for k y e q =
       let d : DeclNo = record { 0 = q.number } in
-      let n = (t.completed_tables s of plain order).rows.stays q.number q.row q.at in
+      let n = (t.completed_tables s of order).rows.stays q.number q.row q.at in
       let own : OwnEntry e = q.own in
       let like : Alike e n.0.entry = alike_new q.row.entry n.0.entry n.2.entry e (subst (Alike e) (sym q.entry) (alike_itself e own)) in
-      let w = t.text_of_row s of plain order q.number n.0 n.1 in
-      let shown : n.0.listed ≡ true = listed_own (Bs s of plain order) (Ts s of plain order) w.0 q.number n.0 e own like w.2 in
-      ap (λ (z : TokenNo). declared_at s z.0) (sym (n.2.token ∙ q.token)) ∙ token_declared s of plain order d n.0 n.1 (shown, no_attribute e n.0.entry own like)
+      let w = t.text_of_row s of order q.number n.0 n.1 in
+      let shown : n.0.listed ≡ true = listed_own (Bs s of order) (Ts s of order) w.0 q.number n.0 e own like w.2 in
+      ap (λ (z : TokenNo). declared_at s z.0) (sym (n.2.token ∙ q.token)) ∙ token_declared s of order d n.0 n.1 (shown, no_attribute e n.0.entry own like)
 
   -- what a block or a class declares itself has a row at its token
   pub row_for : (k : ℕ) (x : Text) → text s k ≡ Some x → (y : Identifier) (e : Entry) → Has (Declares y e) (own_marks (declared_in_text x))
       → (d : DeclNo) × (declared_at s y.token.0 ≡ Some d) × ((f : Entry) × (entry_of s.tables d ≡ Some f) × Alike e f) × Among d (numbers_of s k)
   unfolding text
-  row_for k x at y e has = go ((t.clean s of plain order).complete k x at y e has)
+  row_for k x at y e has = go ((t.clean s of order).complete k x at y e has)
     where
       go : RowFor (declared_by s.program) k y e ⊎ OwedAt (declared_by s.program).tables.blocks (declared_by s.program).current [] k (Declares y e)
           → (d : DeclNo) × (declared_at s y.token.0 ≡ Some d) × ((f : Entry) × (entry_of s.tables d ≡ Some f) × Alike e f) × Among d (numbers_of s k)
       go (inr q) = absurd q
       go (inl q) =
           let d : DeclNo = record { 0 = q.number } in
-          let n = (t.completed_tables s of plain order).rows.stays q.number q.row q.at in
+          let n = (t.completed_tables s of order).rows.stays q.number q.row q.at in
           let own : OwnEntry e = q.own in
           let like : Alike e n.0.entry = alike_new q.row.entry n.0.entry n.2.entry e (subst (Alike e) (sym q.entry) (alike_itself e own)) in
-          let w = t.text_of_row s of plain order q.number n.0 n.1 in
-          let shown : n.0.listed ≡ true = listed_own (Bs s of plain order) (Ts s of plain order) w.0 q.number n.0 e own like w.2 in (
+          let w = t.text_of_row s of order q.number n.0 n.1 in
+          let shown : n.0.listed ≡ true = listed_own (Bs s of order) (Ts s of order) w.0 q.number n.0 e own like w.2 in (
             d,
             declared_for k y e q,
-            (n.0.entry, t.row_entry s of plain order d n.0 n.1, like),
-            subst (λ z. Among d (numbers_of s z)) (n.2.block ∙ q.block) (t.listed s of plain order d n.0 n.1 shown),
+            (n.0.entry, t.row_entry s of order d n.0 n.1, like),
+            subst (λ z. Among d (numbers_of s z)) (n.2.block ∙ q.block) (t.listed s of order d n.0 n.1 shown),
           )
 
   module _ (k : ℕ) (x : Text) (at : text s k ≡ Some x) where
@@ -235,9 +234,9 @@ module _ (s : Source) (of : TablesOf s) (plain : Plain s.program) (order : InOrd
     pub made : (d : DeclNo) (ty : SimType) (n : ℕ) → Among d (numbers_of s k) → entry_of s.tables d ≡ Some (entry.Array ty n) → Among d (arrays_of_block s (declared_in_text x))
     unfolding text
     made d ty n a h =
-        let q = t.owned s of plain order k d a in
-        let w = t.text_of_row s of plain order d.0 q.0 q.1 in
-        go q.0 q.1 (some_entry q.0.entry (entry.Array ty n) (sym (t.row_entry s of plain order d q.0 q.1) ∙ h)) w.0 (some_text w.0 x (sym w.1 ∙ ap (slice_get (Ts s of plain order)) q.2 ∙ at)) w.2
+        let q = t.owned s of order k d a in
+        let w = t.text_of_row s of order d.0 q.0 q.1 in
+        go q.0 q.1 (some_entry q.0.entry (entry.Array ty n) (sym (t.row_entry s of order d q.0 q.1) ∙ h)) w.0 (some_text w.0 x (sym w.1 ∙ ap (slice_get (Ts s of order)) q.2 ∙ at)) w.2
       where
         some_entry : (e f : Entry) → Some e ≡ Some f → e ≡ f
         some_entry e f z = cc
@@ -245,7 +244,7 @@ module _ (s : Source) (of : TablesOf s) (plain : Plain s.program) (order : InOrd
         some_text : (y z : Text) → Some y ≡ Some z → y ≡ z
         some_text y z e = cc
 
-        go : (row : Declaration) → slice_get s.tables.declarations d.0 ≡ Some row → row.entry ≡ entry.Array ty n → (y : Text) → y ≡ x → RowIn (Bs s of plain order) (Ts s of plain order) y d.0 row → Among d (arrays_of_block s (declared_in_text x))
+        go : (row : Declaration) → slice_get s.tables.declarations d.0 ≡ Some row → row.entry ≡ entry.Array ty n → (y : Text) → y ≡ x → RowIn (Bs s of order) (Ts s of order) y d.0 row → Among d (arrays_of_block s (declared_in_text x))
         go row e f y z (procedure_row u p) = absurd (subst (Alike (entry.Procedure (result_named p.result) p.number)) f p.entry)
         go row e f y z (class_row u p) = absurd (let g : entry.Class p.number ≡ entry.Array ty n = sym p.entry ∙ f in cc)
         go row e f y z (formal_row u p l) = absurd (subst Parametric f p)
@@ -255,7 +254,7 @@ module _ (s : Source) (of : TablesOf s) (plain : Plain s.program) (order : InOrd
         go row e f y z (own_row u p) =
             let q = array_like p.entry ty n p.fits (subst (Alike p.entry) f p.alike) in
             subst (λ v. Among d (arrays_of_block s (declared_in_text v))) z
-            (made_from (declared_in_text y) p.name q.0 q.1 d (subst (λ v. Has (Declares p.name v) (own_marks (declared_in_text y))) q.2 p.mark) (ap (λ (z : TokenNo). declared_at s z.0) p.token ∙ token_declared s of plain order d row e (p.listed, ap is_attribute f)))
+            (made_from (declared_in_text y) p.name q.0 q.1 d (subst (λ v. Has (Declares p.name v) (own_marks (declared_in_text y))) q.2 p.mark) (ap (λ (z : TokenNo). declared_at s z.0) p.token ∙ token_declared s of order d row e (p.listed, ap is_attribute f)))
 
     -- each array that is declared in the block is one of its tables
     own_named : (type : TypeName) (n : ℕ) (xs : List Identifier) (d : DeclNo) (more : List DeclNo) → ((m : Mark) → Has m (each (own_array type n) xs) → Has m (own_marks (declared_in_text x))) → Among d (arrays_named s xs more) → Among d (numbers_of s k) ⊎ Among d more

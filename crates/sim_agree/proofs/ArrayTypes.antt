@@ -31,7 +31,6 @@ use Rattle.sim_meaning.specs.Levels.{qualification}
 use Rattle.sim_meaning.specs.Texts.{BlockText, ClassText, Text, declared_at, kind_named, kind_of_type, program_texts, text, PrefixedText}
 use Rattle.sim_sound.specs.Held.{Among, Holds, IsOfKind, Simply, first, held_by, reference_to}
 use Rattle.sim_sound.specs.Typed.{ArrayIs, ArraysAre, Distinct, arrays_in_segments, arrays_named, arrays_of_block, of_option}
-use Rattle.sim_agree.specs.Plain.{Plain}
 use Rattle.sim_agree.specs.TablesOf.{TablesOf}
 use Rattle.sim_agree.proofs.ArrayNames.{declared_for, has_left, has_right, named_more, option_among, row_for, segments_more}
 use Rattle.sim_agree.proofs.Clean.{OwedAt, RowFor, WrittenFor}
@@ -180,14 +179,14 @@ same_class : (T : Tables) (a : Qualification) (class : Identifier) → a.class �
 unfolding class_written
 same_class T a class e = ap (λ (z : Identifier). class_denoted T (binding T z.token.0 z.name)) (sym e)
 
-module _ (s : Source) (of : TablesOf s) (plain : Plain s.program) (order : InOrder s.program)
+module _ (s : Source) (of : TablesOf s) (order : InOrder s.program)
     (second : second_least s.tables ≡ None)
     (outside : (token found : ℕ) (name : List ℕ) (d : DeclNo) (k : ℕ) → binding s.tables token name ≡ Some (denotation.Declared d) → entry_of s.tables d ≡ Some (entry.Class k) → found_in s.tables token name ≡ Some found → is_connection (text s found) ≡ false)
     (k : ℕ) (x : Text) (at : text s k ≡ Some x) where
   -- an array of plain values
   plain_array : (y : Identifier) (n : ℕ) (ty : SimType) → (kind_of_type ty ≡ kind.Reference → ⊥) → Has (Declares y (entry.Array ty n)) (own_marks (declared_in_text x)) → ArrayIs s (Simply (kind_of_type ty)) y
   plain_array y n ty other has =
-      let r = row_for s of plain order k x at y (entry.Array ty n) has in
+      let r = row_for s of order k x at y (entry.Array ty n) has in
       let a = array_of ty n r.2.0 r.2.2 in
       record { declaration = r.0; at = r.1; element = a.0; dimensions = n; is = r.2.1 ∙ ap Some a.1; holds = plain_held s a.0 (kind_of_type ty) other a.2 }
 
@@ -200,23 +199,23 @@ module _ (s : Source) (of : TablesOf s) (plain : Plain s.program) (order : InOrd
     number = record { 0 = p.number }
 
     now : (new : Declaration) × (slice_get s.tables.declarations p.number ≡ Some new) × Retyped p.row new
-    now = (tables.completed_tables s of plain order).rows.stays p.number p.row p.at
+    now = (tables.completed_tables s of order).rows.stays p.number p.row p.at
 
     declared : declared_at s y.token.0 ≡ Some number
-    declared = declared_for s of plain order k y (entry.Array t.NoneType n) p
+    declared = declared_for s of order k y (entry.Array t.NoneType n) p
 
     covered : (i : ℕ) × (z : Qualification) × (slice_get (declared_by s.program).tables.qualifications i ≡ Some z) × (z.declaration.0 ≡ p.number)
-    covered = tables.program_covered s.program plain of.unbroken p.number p.row p.at (subst OfReferences (sym p.entry) tt)
+    covered = tables.program_covered s.program of.unbroken p.number p.row p.at (subst OfReferences (sym p.entry) tt)
 
-    set : q.IsSet s of plain order s.tables p.number
-    set = subst (λ m. q.IsSet s of plain order s.tables m) covered.3 (q.set_there s of plain order second outside covered.0 covered.1 covered.2)
+    set : q.IsSet s of order s.tables p.number
+    set = subst (λ m. q.IsSet s of order s.tables m) covered.3 (q.set_there s of order second outside covered.0 covered.1 covered.2)
 
     entry_now : set.row.entry ≡ entry.Array (t.Ref set.class) n
     unfolding entry_to
     entry_now = set.is ∙ ap (entry_to set.class) (ap (λ (z : Declaration). z.entry) (some_same set.old p.row (sym set.was ∙ p.at)) ∙ p.entry)
 
     origin : WrittenFor (program_texts s.program.prefix s.program.block) p.row set.given.qualification.class
-    origin = (tables.clean s of plain order).origins set.given.place set.given.qualification p.row t.NoneType n set.given.at (subst (λ m. slice_get (declared_by s.program).tables.declarations m ≡ Some p.row) (sym set.given.of_row) p.at) p.entry
+    origin = (tables.clean s of order).origins set.given.place set.given.qualification p.row t.NoneType n set.given.at (subst (λ m. slice_get (declared_by s.program).tables.declarations m ≡ Some p.row) (sym set.given.of_row) p.at) p.entry
 
     of_text : origin.text ≡ x
     unfolding text
@@ -233,7 +232,7 @@ module _ (s : Source) (of : TablesOf s) (plain : Plain s.program) (order : InOrd
       at = declared;
       element = t.Ref set.class;
       dimensions = n;
-      is = tables.row_entry s of plain order number set.row set.at ∙ ap Some entry_now;
+      is = tables.row_entry s of order number set.row set.at ∙ ap Some entry_now;
       holds = sym (ap (of_class s) (same_class s.tables set.given.qualification class written_is ∙ set.given.written));
     }
 
@@ -241,7 +240,7 @@ module _ (s : Source) (of : TablesOf s) (plain : Plain s.program) (order : InOrd
   reference_array : (y : Identifier) (n : ℕ) (class : Identifier) → Only y class → Has (Declares y (entry.Array t.NoneType n)) (own_marks (declared_in_text x))
       → ArrayIs s (of_class s (class_written s.tables (record { declaration = record { 0 = 0 }; class = class }))) y
   unfolding text
-  reference_array y n class only has = go ((tables.clean s of plain order).complete k x at y (entry.Array t.NoneType n) has)
+  reference_array y n class only has = go ((tables.clean s of order).complete k x at y (entry.Array t.NoneType n) has)
     where
       go : RowFor (declared_by s.program) k y (entry.Array t.NoneType n) ⊎ OwedAt (declared_by s.program).tables.blocks (declared_by s.program).current [] k (Declares y (entry.Array t.NoneType n))
           → ArrayIs s (of_class s (class_written s.tables (record { declaration = record { 0 = 0 }; class = class }))) y
@@ -283,9 +282,9 @@ module _ (s : Source) (of : TablesOf s) (plain : Plain s.program) (order : InOrd
   declarations_hold (With (DeclareClass prefix token h interface a end) ds) has p within = declarations_hold ds has p within
 
   distinct_in : (z : Text) → text s k ≡ Some z → Distinct (arrays_of_block s (declared_in_text z))
-  distinct_in (BlockText i ds ss) e = distinct s plain order k i ds ss e
-  distinct_in (ClassText prefix h ds ss) e = distinct_class s plain order k prefix h ds ss e
-  distinct_in (PrefixedText class es ds ss) e = distinct_prefixed s plain order k class es ds ss e
+  distinct_in (BlockText i ds ss) e = distinct s order k i ds ss e
+  distinct_in (ClassText prefix h ds ss) e = distinct_class s order k prefix h ds ss e
+  distinct_in (PrefixedText class es ds ss) e = distinct_prefixed s order k class es ds ss e
   distinct_in _ e = tt
 
   -- each array that a text declares is one of what its declaration says

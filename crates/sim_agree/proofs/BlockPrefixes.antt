@@ -1,4 +1,4 @@
--- The prefix of each prefixed block of an allowed plain program is a declared class, whose parameters are those of the block, or a standard one.
+-- The prefix of each prefixed block of an allowed program is a declared class, whose parameters are those of the block, or a standard one.
 use Rattle.std.proofs.Common.{◌≡◌, ◌⊎◌, inl, inr, ℕ, zero, suc, Bool, true, false, List, [], ◌∷◌, ◌++◌, ◌+◌, length, map, Option, Some, None, refl, sym, ap, ◌∙◌, subst, append-nil}
 use Rattle.std.specs.Prelude.{◌||◌, not, slice_get}
 use Rattle.sim_base.specs.declared.numbering.DeclNo.{DeclNo}
@@ -34,7 +34,6 @@ use Rattle.sim_meaning.specs.Texts.{BlockText, ClassText, ConnectionText, Prefix
 use Rattle.sim_sound.specs.Held.{Among, first, later}
 use Rattle.sim_sound.specs.Typed.{Ends, NoFormal, NoFormals, Starts, as_block, as_prefixed, outermost, prefixed as prefixed_by}
 use Rattle.sim_agree.specs.Facts.{BlockPrefix, StandardPrefixed}
-use Rattle.sim_agree.specs.Plain.{Plain}
 use Rattle.sim_agree.specs.TablesOf.{TablesOf}
 use Rattle.sim_agree.proofs.Chains as c
 use Rattle.sim_agree.proofs.Chains.{prefix_known}
@@ -167,7 +166,7 @@ some_same a b e = cc
 
 -- ---- of a program
 
-module _ (s : Source) (of : TablesOf s) (plain : Plain s.program) (order : InOrder s.program) where
+module _ (s : Source) (of : TablesOf s) (order : InOrder s.program) where
   module _ (k : ℕ) (class : Identifier) (es : Expressions) (ds : Declarations) (ss : Statements) (is : text s k ≡ Some (PrefixedText class es ds ss)) where
     abbrev T : Tables
     T = prefixed (declared_by s.program).tables
@@ -178,7 +177,7 @@ module _ (s : Source) (of : TablesOf s) (plain : Plain s.program) (order : InOrd
     -- its block, as it was declared
     pub declared_row : (row : BlockOf) × (slice_get (declared_by s.program).tables.blocks k ≡ Some row) × (row.kind ≡ kind.Prefixed)
     unfolding text
-    declared_row = go (slice_get (declared_by s.program).tables.blocks k) refl (subst (λ o. KindIs (slice_get (declared_by s.program).tables.blocks k) o) is ((t.program_agrees s.program plain).fine.kinds k))
+    declared_row = go (slice_get (declared_by s.program).tables.blocks k) refl (subst (λ o. KindIs (slice_get (declared_by s.program).tables.blocks k) o) is ((t.program_agrees s.program).fine.kinds k))
       where
         go : (o : Option BlockOf) → slice_get (declared_by s.program).tables.blocks k ≡ o → KindIs o (Some (PrefixedText class es ds ss)) → (row : BlockOf) × (o ≡ Some row) × (row.kind ≡ kind.Prefixed)
         go None at q = absurd q
@@ -221,17 +220,17 @@ module _ (s : Source) (of : TablesOf s) (plain : Plain s.program) (order : InOrd
     known_here = go (slice_get T.blocks k) refl
       where
         from_row : (row : BlockOf) → slice_get T.blocks k ≡ Some row → KnownIn row → KnownHere
-        from_row row at (inl q) = inl (q.0, t.own_base_of s of plain order k other ∙ ap base_in at ∙ q.1)
+        from_row row at (inl q) = inl (q.0, t.own_base_of s of order k other ∙ ap base_in at ∙ q.1)
         from_row row at (inr q) =
             inr (
-              t.own_base_of s of plain order k other ∙ ap base_in at ∙ q.0,
-              (q.1.0, (t.completed_tables s of plain order).standards k ∙ ap standard_in at ∙ q.1.1),
+              t.own_base_of s of order k other ∙ ap base_in at ∙ q.0,
+              (q.1.0, (t.completed_tables s of order).standards k ∙ ap standard_in at ∙ q.1.1),
             )
 
         go : (o : Option BlockOf) → slice_get T.blocks k ≡ o → KnownHere
-        go None at = absurd (let f : None ≡ Some (record declared_row.0 { base = None; standard = None }) = sym (ap bare_row at) ∙ (t.P s of plain order).blocks k ∙ ap bare_row declared_row.1 in cc)
+        go None at = absurd (let f : None ≡ Some (record declared_row.0 { base = None; standard = None }) = sym (ap bare_row at) ∙ (t.P s of order).blocks k ∙ ap bare_row declared_row.1 in cc)
         go (Some row) at =
-            let same : record row { base = None; standard = None } ≡ record declared_row.0 { base = None; standard = None } = some_same (record row { base = None; standard = None }) (record declared_row.0 { base = None; standard = None }) (sym (ap bare_row at) ∙ (t.P s of plain order).blocks k ∙ ap bare_row declared_row.1) in
+            let same : record row { base = None; standard = None } ≡ record declared_row.0 { base = None; standard = None } = some_same (record row { base = None; standard = None }) (record declared_row.0 { base = None; standard = None }) (sym (ap bare_row at) ∙ (t.P s of order).blocks k ∙ ap bare_row declared_row.1) in
             let written : row.prefix ≡ (declared_row.0).prefix = ap (λ (z : BlockOf). z.prefix) same in
             from_row row at (known_base row at (declared_row.0).prefix written has_prefix)
 
@@ -243,8 +242,8 @@ module _ (s : Source) (of : TablesOf s) (plain : Plain s.program) (order : InOrd
         go [] e = refl
         go (d ∷ ns) e =
             let at : slice_get (formals_in (slice_get s.tables.blocks k)) 0 ≡ Some d = ap (λ z. slice_get z 0) e in
-            let formal = h.parameters_formal s of plain order k 0 d at in
-            absurd (subst NoFormal formal.1 (none_of (numbers_of s k) d (h.no_formals s of plain order k (PrefixedText class es ds ss) (λ z. z) is) (h.formal_listed s of plain order k 0 d at)))
+            let formal = h.parameters_formal s of order k 0 d at in
+            absurd (subst NoFormal formal.1 (none_of (numbers_of s k) d (h.no_formals s of order k (PrefixedText class es ds ss) (λ z. z) is) (h.formal_listed s of order k 0 d at)))
           where
             none_of : (xs : List DeclNo) (d : DeclNo) → NoFormals s xs → Among d xs → NoFormal (entry_of s.tables d)
             none_of (x ∷ xs) d n first = n.0
@@ -271,10 +270,10 @@ module _ (s : Source) (of : TablesOf s) (plain : Plain s.program) (order : InOrd
     module _ (b : ℕ) (based : base s.tables k ≡ Some b) where
       owned : (d : DeclNo) × (owner_of_level s.tables (Some b) ≡ Some d)
       unfolding text
-      owned = go (slice_get (program_texts s.program.prefix s.program.block) b) refl (t.connects s of plain order k b based)
+      owned = go (slice_get (program_texts s.program.prefix s.program.block) b) refl (t.connects s of order k b based)
         where
           of_class : OwnerIs (declared_by s.program) (owner_in (slice_get (declared_by s.program).tables.blocks b)) (entry.Class b) → (d : DeclNo) × (owner_of_level s.tables (Some b) ≡ Some d)
-          of_class q = (q.0, h.owner_at s of plain order b q.0 (t.same_owner s of plain order b ∙ q.2))
+          of_class q = (q.0, h.owner_at s of order b q.0 (t.same_owner s of order b ∙ q.2))
 
           go : (o : Option Text) → slice_get (program_texts s.program.prefix s.program.block) b ≡ o → is_class o ≡ true → (d : DeclNo) × (owner_of_level s.tables (Some b) ≡ Some d)
           go None at e = absurd (cc)
@@ -282,11 +281,11 @@ module _ (s : Source) (of : TablesOf s) (plain : Plain s.program) (order : InOrd
           go (Some (ProcedureText result h a)) at e = absurd (cc)
           go (Some ConnectionText) at e = absurd (cc)
           go (Some (PrefixedText class es ds ss)) at e = absurd (cc)
-          go (Some (ClassText prefix h ds ss)) at e = of_class (t.program_owned s.program plain of.unbroken b (ClassText prefix h ds ss) at)
-          go (Some (StandardText which)) at e = of_class (t.program_owned s.program plain of.unbroken b (StandardText which) at)
+          go (Some (ClassText prefix h ds ss)) at e = of_class (t.program_owned s.program of.unbroken b (ClassText prefix h ds ss) at)
+          go (Some (StandardText which)) at e = of_class (t.program_owned s.program of.unbroken b (StandardText which) at)
 
       apart : standard_in (slice_get s.tables.blocks k) ≡ None
-      apart = (t.completed_tables s of plain order).standards k ∙ (t.P s of plain order).apart k b (sym (t.own_base_of s of plain order k other) ∙ based)
+      apart = (t.completed_tables s of order).standards k ∙ (t.P s of order).apart k b (sym (t.own_base_of s of order k other) ∙ based)
 
       denoted : prefix_in s.tables (slice_get s.tables.blocks k) ≡ Some (denotation.Declared owned.0)
       unfolding base
@@ -304,12 +303,12 @@ module _ (s : Source) (of : TablesOf s) (plain : Plain s.program) (order : InOrd
       class_prefix : BlockPrefix s k
       unfolding class_formals
       class_prefix =
-          let class = t.connects s of plain order k b based in record {
+          let class = t.connects s of order k b based in record {
             declaration = owned.0;
-            class = record { block = b; declares = c.owners s of plain order b owned.0 class owned.1; is = class; owned = owned.1 };
+            class = record { block = b; declares = c.owners s of order b owned.0 class owned.1; is = class; owned = owned.1 };
             based = based;
             denoted = denoted;
-            parameters = ap (closing.formals_from s) (formals_same s.tables (length s.tables.blocks) k b (c.ends s of plain order k other) based no_parameters);
+            parameters = ap (closing.formals_from s) (formals_same s.tables (length s.tables.blocks) k b (c.ends s of order k other) based no_parameters);
           }
 
     pub block_prefix : BlockPrefix s k ⊎ StandardPrefixed s k
@@ -325,7 +324,7 @@ module _ (s : Source) (of : TablesOf s) (plain : Plain s.program) (order : InOrd
   none_first class es ds ss is = go (base s.tables 0) refl
     where
       outermost_row : (row : BlockOf) → slice_get (declared_by s.program).tables.blocks 0 ≡ Some row → row.encloser ≡ None
-      outermost_row row at = sym (ap around at) ∙ sym (t.same_around s of plain order 0) ∙ t.outermost s of plain order
+      outermost_row row at = sym (ap around at) ∙ sym (t.same_around s of order 0) ∙ t.outermost s of order
 
       no_home : (o : Option ℕ) (outer : ℕ) → o ≡ None → HomeFrom (declared_by s.program).tables o outer → ⊥
       no_home None outer e q = elim q [ ]
@@ -334,12 +333,12 @@ module _ (s : Source) (of : TablesOf s) (plain : Plain s.program) (order : InOrd
       from_prefix : (b : ℕ) → PrefixOf (declared_by s.program).tables s.tables 0 b ⊎ (base (declared_by s.program).tables 0 ≡ Some b) → ⊥
       from_prefix b (inl p) = no_home p.row.encloser p.outer (outermost_row p.row p.at) p.around
       from_prefix b (inr was) =
-          let q = standard_base_of (declared_by s.program) (program_texts s.program.prefix s.program.block) [] (t.program_agrees s.program plain).fine 0 b was in
+          let q = standard_base_of (declared_by s.program) (program_texts s.program.prefix s.program.block) [] (t.program_agrees s.program).fine 0 b was in
           let z : Some (PrefixedText class es ds ss) ≡ Some (StandardText q.2.which) = sym is ∙ q.2.text in cc
 
       go : (o : Option ℕ) → base s.tables 0 ≡ o → base s.tables 0 ≡ None
       go None e = e
-      go (Some b) e = absurd (from_prefix b (t.prefix_is s of plain order 0 b (ap is_connection is) e))
+      go (Some b) e = absurd (from_prefix b (t.prefix_is s of order 0 b (ap is_connection is) e))
 
   abbrev BlockFirst : Option Text → Type 0
   BlockFirst o = (i : ℕ) × (ds : Declarations) × (ss : Statements) × (o ≡ Some (BlockText i ds ss))

@@ -25,7 +25,7 @@ use Rattle.sim_sound.specs.Held.{Among}
 use Rattle.sim_agree.proofs.Brought.{behind_get, front_get, parts_get}
 use Rattle.sim_agree.proofs.BroughtKnown.{Added, RowAdded, a_class, added, among_all, an_attribute, an_own, brought_known, brought_named, row_added}
 use Rattle.sim_agree.proofs.BroughtRows.{added_declarations, added_number, added_rows, bringing, with_standard}
-use Rattle.sim_agree.proofs.Fine.{Agree, Fine, Headed, InGroup, KindIs, Rising, RowOf, Rows, StandardGroup, attribute_row, base_by, class_row, deeper_in, first_or_none, standard_first, headed_kept, in_group_kept, own_base, owner_in, row_kept, same_kind, simulation_row, stack_kept}
+use Rattle.sim_agree.proofs.Fine.{Agree, Fine, Headed, InGroup, KindIs, Rising, RowOf, Rows, StandardGroup, attribute_row, base_by, class_row, deeper_in, first_or_none, standard_first, headed_kept, in_group_kept, own_base, owner_in, row_kept, same_kind, simulation_row, stack_kept, TopFixed}
 use Rattle.sim_agree.proofs.Groups.{Declaring, Open, Prefixing, item}
 use Rattle.sim_agree.proofs.StandardPrefixes.{InFront, IsBrought, Spells, brought_text, brought_texts, text_brought}
 use Rattle.sim_agree.proofs.Steps.{Even, fixed}
@@ -372,6 +372,8 @@ module _ (p : StandardPrefix) (front : Identifier) (spelt : Spells p front) (b :
       stack = stack_kept b.tables.blocks (with_standard p b n token (prefixed_by front r)).tables.blocks ts (ts ++ brought_texts p) keeps (item x owed ∷ os) b.current f.stack;
       nested = all_blocks Nested (λ t lt u e. f.nested t u (sym (old_around t lt) ∙ e)) (λ i u e. (let same : u ≡ n = around_new i u e in omega arith));
       levels = all_blocks Level level_old level_new;
+      tops = all_blocks (λ t. TopFixed (fixed (slice_get (with_standard p b n token (prefixed_by front r)).tables.blocks t))) (λ t lt. subst TopFixed (sym (old_same fixed refl t lt)) (f.tops t))
+          (λ i. of_rows (λ o. TopFixed (fixed o)) i tt (λ row k none. absurd (let z : None ≡ Some n = sym none ∙ k.encloser in cc)));
       kinds = all_blocks (λ t. KindIs (slice_get (with_standard p b n token (prefixed_by front r)).tables.blocks t) (slice_get (ts ++ brought_texts p) t))
           (λ t lt. (let s : length b.tables.blocks ≡ length ts = f.size in subst (λ z. KindIs (slice_get (with_standard p b n token (prefixed_by front r)).tables.blocks t) z) (sym (front_get ts (brought_texts p) t (omega arith))) (same_kind (slice_get (with_standard p b n token (prefixed_by front r)).tables.blocks t) (slice_get b.tables.blocks t) (slice_get ts t) (old_same fixed refl t lt) (f.kinds t))))
           (λ i. subst (λ z. KindIs z (slice_get (ts ++ brought_texts p) (n + 1 + i))) (sym (new_get i)) (subst (λ z. KindIs (slice_get (added_rows n (length b.tables.declarations) r.level p) i) z) (sym (text_new i)) (kinds_new p i)));

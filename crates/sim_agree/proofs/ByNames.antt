@@ -1,4 +1,4 @@
--- What is passed by name is a parameter of a procedure, and no array: what each mark does to that.
+-- What is passed by name, or is a procedure, is a parameter of a procedure: what each mark does to that.
 use Rattle.std.proofs.Common.{◌≡◌, ◌⊎◌, inl, inr, ℕ, Bool, true, false, List, [], ◌∷◌, ◌++◌, length, Option, Some, None, refl, sym, ap, ◌∙◌, subst, arith, if◌then◌else◌}
 use Rattle.std.specs.Prelude.{◌&&◌, nat_eq, nat_lt, not, slice_get, slice_set}
 use Rattle.std.specs.List.{list_any}
@@ -24,30 +24,24 @@ use Rattle.sim_scope.specs.Building.{BuildingOf, block_around, broken, broken_if
 use Rattle.sim_scope.specs.Scopes.{declared_in, entry_in, entry_of, lookup}
 use Rattle.sim_scope.specs.Tables.{BlockOf}
 use Rattle.sim_scope.proofs.Kept.{set_here, set_other}
-use Rattle.sim_static.specs.UnbuiltForms.{is_by_name}
 use Rattle.sim_meaning.specs.Texts.{BlockText, ClassText, ConnectionText, PrefixedText, ProcedureText, StandardText, Text}
+use Rattle.sim_agree.proofs.Clean.{if_clean}
 use Rattle.sim_agree.proofs.CleanSteps.{counted_same}
 use Rattle.sim_agree.proofs.Fine.{KindIs}
-use Rattle.sim_agree.proofs.Groups.{KindWritten, ModeWritten, modes_of}
+use Rattle.sim_agree.proofs.Groups.{Taking}
 use Rattle.sim_agree.proofs.Marks.{is_unspecified, last_cases}
 use Rattle.sim_agree.proofs.Steps.{some_same}
 use Rattle.sim_agree.proofs.Unprefixed.{NamesFound}
 
--- a parameter by name, specified or not
+-- a parameter by name, specified or not, or one that is a procedure
 abbrev pub WrittenByName : Option WrittenMode → Type 0
 WrittenByName None = ⊥
 WrittenByName (Some w) = w.mode ≡ mode.ByName
 
 abbrev pub OfName : Entry → Type 0
 OfName (entry.Unspecified w) = WrittenByName w
-OfName (entry.Formal f) = f.mode ≡ mode.ByName
+OfName (entry.Formal f) = (f.mode ≡ mode.ByName) ⊎ (f.kind ≡ shape.Procedure)
 OfName _ = ⊥
-
--- what is not specified yet is passed by name by the heading of its text
-abbrev pub InHeading : Text → (name : List ℕ) → Entry → Type 0
-InHeading x name (entry.Unspecified w) = (y : Identifier) × (y.name ≡ name) × (is_by_name (modes_of x) y ≡ true)
-InHeading x name (entry.Formal f) = f.kind ≡ shape.Array → ⊥
-InHeading x name _ = Unit {0}
 
 abbrev pub OfProcedure : Text → Type 0
 OfProcedure (ProcedureText result h a) = Unit {0}
@@ -57,7 +51,6 @@ pub record Passed (ts : List Text) (row : Declaration) : Type 0 where
   pub text : Text
   pub at : slice_get ts row.block ≡ Some text
   pub procedure : OfProcedure text
-  pub heading : InHeading text row.name row.entry
 
 abbrev pub ByNames : BuildingOf → List Text → Type 0
 ByNames b ts = (d : ℕ) (row : Declaration) → slice_get b.tables.declarations d ≡ Some row → OfName row.entry → Passed ts row
@@ -71,7 +64,7 @@ abbrev pub TextsStay : List Text → List Text → Type 0
 TextsStay ts us = (n : ℕ) (x : Text) → slice_get ts n ≡ Some x → slice_get us n ≡ Some x
 
 pub named_stay : (b c : BuildingOf) (ts us : List Text) → SameNamed b c → TextsStay ts us → ByNames b ts → ByNames c us
-named_stay b c ts us same stay v d row at q = let p = v d row (same d row at q) q in record { text = p.text; at = stay row.block p.text p.at; procedure = p.procedure; heading = p.heading }
+named_stay b c ts us same stay v d row at q = let p = v d row (same d row at q) q in record { text = p.text; at = stay row.block p.text p.at; procedure = p.procedure }
 
 abbrev pub SameRows : BuildingOf → BuildingOf → Type 0
 SameRows b c = c.tables.declarations ≡ b.tables.declarations
@@ -234,21 +227,21 @@ no_default shape.Simple ty e = go (is_simple ty) e
 no_default shape.Array ty e = cc
 no_default shape.Procedure ty e = cc
 
--- in a class nothing is passed by name
-in_procedure : (b : BuildingOf) (x : Text) (y : Identifier) → KindIs (block_around b.tables b.current) (Some x) → is_by_name (modes_of x) y ≡ true → in_class b ≡ false → OfProcedure x
-in_procedure b (ProcedureText result h a) y kind by_name free = tt
-in_procedure b (ClassText prefix h ds ss) y kind by_name free = go (block_around b.tables b.current) kind free
+-- in a class nothing is passed by name, and no parameter is a procedure
+in_procedure : (b : BuildingOf) (x : Text) → KindIs (block_around b.tables b.current) (Some x) → Taking x → in_class b ≡ false → OfProcedure x
+in_procedure b (ProcedureText result h a) kind takes free = tt
+in_procedure b (ClassText prefix h ds ss) kind takes free = go (block_around b.tables b.current) kind free
   where
     go : (o : Option BlockOf) → KindIs o (Some (ClassText prefix h ds ss)) → is_class_block o ≡ false → ⊥
     go None k e = k
     go (Some row) k e = false≢true (sym e ∙ ap is_class_kind k)
-in_procedure b (BlockText i ds ss) y kind by_name free = false≢true by_name
-in_procedure b ConnectionText y kind by_name free = false≢true by_name
-in_procedure b (PrefixedText class es ds ss) y kind by_name free = false≢true by_name
-in_procedure b (StandardText which) y kind by_name free = false≢true by_name
+in_procedure b (BlockText i ds ss) kind takes free = takes
+in_procedure b ConnectionText kind takes free = takes
+in_procedure b (PrefixedText class es ds ss) kind takes free = takes
+in_procedure b (StandardText which) kind takes free = takes
 
 -- a mark of the heading of the innermost block names a declaration of this block
-module _ (b : BuildingOf) (ts : List Text) (x : Text) (n : ℕ) (y : Identifier) (found : NamesFound b.tables) (cur : b.current ≡ Some n) (text : slice_get ts n ≡ Some x) (kind : KindIs (slice_get b.tables.blocks n) (slice_get ts n)) (v : ByNames b ts) where
+module _ (b : BuildingOf) (ts : List Text) (x : Text) (n : ℕ) (y : Identifier) (found : NamesFound b.tables) (cur : b.current ≡ Some n) (text : slice_get ts n ≡ Some x) (kind : KindIs (slice_get b.tables.blocks n) (slice_get ts n)) (takes : Taking x) (v : ByNames b ts) where
   around : KindIs (block_around b.tables b.current) (Some x)
   around = subst (λ o. KindIs (block_around b.tables o) (Some x)) (sym cur) (subst (KindIs (slice_get b.tables.blocks n)) text kind)
 
@@ -259,61 +252,61 @@ module _ (b : BuildingOf) (ts : List Text) (x : Text) (n : ℕ) (y : Identifier)
   unfolding lookup
   here o is d e = found n y.name d (ap (λ z. found_in b.tables z y.name) (sym cur) ∙ is ∙ e)
 
-  moded_here : (token : TokenNo) (m : Mode) (d : DeclNo) → Here d → ModeWritten x y m → (is_name_mode m && in_class b) ≡ false → ByNames (with_entry b d (entry.Unspecified (Some (record { token = token; mode = m })))) ts
-  moded_here token m d h w free = entered_names b ts d (entry.Unspecified (Some (record { token = token; mode = m }))) (slice_get b.tables.declarations d.0) refl new v
+  -- such a parameter of the heading, where no class is around
+  passed_here : (d : DeclNo) (e : Entry) → Here d → in_class b ≡ false → (old : Declaration) → slice_get b.tables.declarations d.0 ≡ Some old → Passed ts (record old { entry = e })
+  passed_here d e h free old at =
+      let one : h.0 ≡ old = some_same h.0 old (sym h.1 ∙ at) in record {
+        text = x;
+        at = ap (slice_get ts) (ap (λ (z : Declaration). z.block) (sym one) ∙ h.3) ∙ text;
+        procedure = in_procedure b x around takes free;
+      }
+
+  moded_here : (token : TokenNo) (m : Mode) (d : DeclNo) → Here d → (is_name_mode m && in_class b) ≡ false → ByNames (with_entry b d (entry.Unspecified (Some (record { token = token; mode = m })))) ts
+  moded_here token m d h free = entered_names b ts d (entry.Unspecified (Some (record { token = token; mode = m }))) (slice_get b.tables.declarations d.0) refl new v
     where
       new : (old : Declaration) → slice_get b.tables.declarations d.0 ≡ Some old → m ≡ mode.ByName → Passed ts (record old { entry = entry.Unspecified (Some (record { token = token; mode = m })) })
-      new old at is =
-          let one : h.0 ≡ old = some_same h.0 old (sym h.1 ∙ at) in record {
-            text = x;
-            at = ap (slice_get ts) (ap (λ (z : Declaration). z.block) (sym one) ∙ h.3) ∙ text;
-            procedure = in_procedure b x y around (subst (ModeWritten x y) is w) (ap (λ z. is_name_mode z && in_class b) (sym is) ∙ free);
-            heading = (y, sym h.2 ∙ ap (λ (z : Declaration). z.name) one, subst (ModeWritten x y) is w);
-          }
+      new old at is = passed_here d (entry.Unspecified (Some (record { token = token; mode = m }))) h (ap (λ z. is_name_mode z && in_class b) (sym is) ∙ free) old at
 
-  moded_row : (token : TokenNo) (m : Mode) (d : DeclNo) → Here d → ModeWritten x y m → (o : Option (Option WrittenMode)) → ByNames (moded_as b token m d o) ts
-  moded_row token m d h w None = v
-  moded_row token m d h w (Some (Some other)) = v
-  moded_row token m d h w (Some None) = go (is_name_mode m && in_class b) refl
+  moded_row : (token : TokenNo) (m : Mode) (d : DeclNo) → Here d → (o : Option (Option WrittenMode)) → ByNames (moded_as b token m d o) ts
+  moded_row token m d h None = v
+  moded_row token m d h (Some (Some other)) = v
+  moded_row token m d h (Some None) = go (is_name_mode m && in_class b) refl
     where
       go : (c : Bool) → (is_name_mode m && in_class b) ≡ c → ByNames (if c then broken b token.0 r.ModeNotAllowed else with_entry b d (entry.Unspecified (Some (record { token = token; mode = m })))) ts
       go true e = v
-      go false e = moded_here token m d h w e
+      go false e = moded_here token m d h e
 
-  moded_by : (token : TokenNo) (m : Mode) → ModeWritten x y m → (o : Option DeclNo) → ((d : DeclNo) → o ≡ Some d → Here d) → ByNames (moded b token m o) ts
-  moded_by token m w None h = v
-  moded_by token m w (Some d) h = moded_row token m d (h d refl) w (unspecified_in (entry_of b.tables d))
+  moded_by : (token : TokenNo) (m : Mode) (o : Option DeclNo) → ((d : DeclNo) → o ≡ Some d → Here d) → ByNames (moded b token m o) ts
+  moded_by token m None h = v
+  moded_by token m (Some d) h = moded_row token m d (h d refl) (unspecified_in (entry_of b.tables d))
 
-  pub moded_names : (m : Mode) → ModeWritten x y m → ByNames (moded b y.token m (found_in b.tables b.current y.name)) ts
-  moded_names m w = moded_by y.token m w (found_in b.tables b.current y.name) (here (found_in b.tables b.current y.name) refl)
+  pub moded_names : (m : Mode) → ByNames (moded b y.token m (found_in b.tables b.current y.name)) ts
+  moded_names m = moded_by y.token m (found_in b.tables b.current y.name) (here (found_in b.tables b.current y.name) refl)
 
-  -- what was written by name is no array
-  by_name_here : (d : DeclNo) (w : WrittenMode) (k : FormalKind) (ty : Option SimType) → Here d → unspecified_in (entry_of b.tables d) ≡ Some (Some w) → KindWritten x y k → (old : Declaration) → slice_get b.tables.declarations d.0 ≡ Some old → w.mode ≡ mode.ByName
-      → Passed ts (record old { entry = formal w.mode k ty })
+  -- what was written by name stays so, and a procedure is specified in no class
+  specified_here : (d : DeclNo) (w : Option WrittenMode) (m : Mode) (k : FormalKind) (ty : Option SimType) → Here d → unspecified_in (entry_of b.tables d) ≡ Some w → (m ≡ mode.ByName → WrittenByName w) → (is_procedure k && in_class b) ≡ false
+      → (old : Declaration) → slice_get b.tables.declarations d.0 ≡ Some old → (m ≡ mode.ByName) ⊎ (k ≡ shape.Procedure) → Passed ts (record old { entry = formal m k ty })
   unfolding entry_of
-  by_name_here d w k ty h is written old at q =
-      let one : h.0 ≡ old = some_same h.0 old (sym h.1 ∙ at) in
-      let e : old.entry ≡ entry.Unspecified (Some w) = some_same old.entry (entry.Unspecified (Some w)) (ap entry_in (sym at) ∙ is_unspecified (entry_in (slice_get b.tables.declarations d.0)) (Some w) is) in
-      let p = v d.0 old at (subst OfName (sym e) q) in
-      let block : old.block ≡ n = ap (λ (z : Declaration). z.block) (sym one) ∙ h.3 in
-      let same : p.text ≡ x = some_same p.text x (sym p.at ∙ ap (slice_get ts) block ∙ text) in
-      let heading = subst (InHeading p.text old.name) e p.heading in
-      let name : heading.0.name ≡ y.name = heading.1 ∙ ap (λ (z : Declaration). z.name) (sym one) ∙ h.2 in
-      let by_name : is_by_name (modes_of x) y ≡ true = ap (λ z. is_by_name (modes_of x) (record { name = z; token = y.token })) (sym name) ∙ ap (λ t. is_by_name (modes_of t) heading.0) (sym same) ∙ heading.2 in
-      record { text = p.text; at = p.at; procedure = p.procedure; heading = λ array. false≢true (sym (subst (KindWritten x y) array written) ∙ by_name) }
+  specified_here d w m k ty h is written free old at (inl by_name) =
+      let e : old.entry ≡ entry.Unspecified w = some_same old.entry (entry.Unspecified w) (ap entry_in (sym at) ∙ is_unspecified (entry_in (slice_get b.tables.declarations d.0)) w is) in
+      let p = v d.0 old at (subst OfName (sym e) (written by_name)) in record { text = p.text; at = p.at; procedure = p.procedure }
+  specified_here d w m k ty h is written free old at (inr procedure) = passed_here d (formal m k ty) h (ap (λ z. is_procedure z && in_class b) (sym procedure) ∙ free) old at
 
-  specified_mode : (d : DeclNo) → Here d → (k : FormalKind) → KindWritten x y k → (ty : Option SimType) (w : Option WrittenMode) → unspecified_in (entry_of b.tables d) ≡ Some w → ByNames (with_mode b d k ty w) ts
-  specified_mode d h k written ty None is = entered_names b ts d (formal (default_mode k ty) k ty) (slice_get b.tables.declarations d.0) refl (λ old at q. absurd (no_default k ty q)) v
-  specified_mode d h k written ty (Some w) is =
-      if_names (not (mode_allowed w.mode k ty)) _ w.token.0 r.ModeNotAllowed ts (entered_names b ts d (formal w.mode k ty) (slice_get b.tables.declarations d.0) refl (by_name_here d w k ty h is written) v)
+  specified_mode : (d : DeclNo) → Here d → (k : FormalKind) → (is_procedure k && in_class b) ≡ false → (ty : Option SimType) (w : Option WrittenMode) → unspecified_in (entry_of b.tables d) ≡ Some w → ByNames (with_mode b d k ty w) ts
+  specified_mode d h k free ty None is = entered_names b ts d (formal (default_mode k ty) k ty) (slice_get b.tables.declarations d.0) refl (λ old at q. specified_here d None (default_mode k ty) k ty h is (no_default k ty) free old at q) v
+  specified_mode d h k free ty (Some w) is =
+      if_names (not (mode_allowed w.mode k ty)) _ w.token.0 r.ModeNotAllowed ts
+      (entered_names b ts d (formal w.mode k ty) (slice_get b.tables.declarations d.0) refl (λ old at q. specified_here d (Some w) w.mode k ty h is (λ by_name. by_name) free old at q) v)
 
-  specified_row : (token : TokenNo) (d : DeclNo) → Here d → (k : FormalKind) → KindWritten x y k → (ty : Option SimType) (o : Option (Option WrittenMode)) → unspecified_in (entry_of b.tables d) ≡ o → ByNames (specified_as b token k ty d o) ts
-  specified_row token d h k written ty None is = v
-  specified_row token d h k written ty (Some w) is = if_names (is_procedure k && in_class b) _ (token_in (slice_get b.tables.declarations d.0)) r.ModeNotAllowed ts (specified_mode d h k written ty w is)
+  specified_row : (token : TokenNo) (d : DeclNo) → Here d → (k : FormalKind) (ty : Option SimType) (o : Option (Option WrittenMode)) → unspecified_in (entry_of b.tables d) ≡ o → (specified_as b token k ty d o).least ≡ None → ByNames (specified_as b token k ty d o) ts
+  specified_row token d h k ty None is clean = v
+  specified_row token d h k ty (Some w) is clean =
+      let free = if_clean (is_procedure k && in_class b) (with_mode b d k ty w) (token_in (slice_get b.tables.declarations d.0)) r.ModeNotAllowed clean in
+      if_names (is_procedure k && in_class b) _ (token_in (slice_get b.tables.declarations d.0)) r.ModeNotAllowed ts (specified_mode d h k free.0 ty w is)
 
-  specified_by : (token : TokenNo) (k : FormalKind) → KindWritten x y k → (ty : Option SimType) (o : Option DeclNo) → ((d : DeclNo) → o ≡ Some d → Here d) → ByNames (specified b token k ty o) ts
-  specified_by token k written ty None h = v
-  specified_by token k written ty (Some d) h = specified_row token d (h d refl) k written ty (unspecified_in (entry_of b.tables d)) refl
+  specified_by : (token : TokenNo) (k : FormalKind) (ty : Option SimType) (o : Option DeclNo) → ((d : DeclNo) → o ≡ Some d → Here d) → (specified b token k ty o).least ≡ None → ByNames (specified b token k ty o) ts
+  specified_by token k ty None h clean = v
+  specified_by token k ty (Some d) h clean = specified_row token d (h d refl) k ty (unspecified_in (entry_of b.tables d)) refl clean
 
-  pub specified_names : (k : FormalKind) → KindWritten x y k → (ty : Option SimType) → ByNames (specified b y.token k ty (found_in b.tables b.current y.name)) ts
-  specified_names k written ty = specified_by y.token k written ty (found_in b.tables b.current y.name) (here (found_in b.tables b.current y.name) refl)
+  pub specified_names : (k : FormalKind) (ty : Option SimType) → (specified b y.token k ty (found_in b.tables b.current y.name)).least ≡ None → ByNames (specified b y.token k ty (found_in b.tables b.current y.name)) ts
+  specified_names k ty clean = specified_by y.token k ty (found_in b.tables b.current y.name) (here (found_in b.tables b.current y.name) refl) clean

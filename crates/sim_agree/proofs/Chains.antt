@@ -1,4 +1,4 @@
--- The prefixes of the classes of an allowed plain program: each chain comes to an end, and what is around a class is, or has for a prefix, what is
+-- The prefixes of the classes of an allowed program: each chain comes to an end, and what is around a class is, or has for a prefix, what is
 -- around its prefix.
 use Rattle.std.proofs.Common.{◌≡◌, ◌<◌, ◌≤◌, ◌+◌, ◌⊎◌, inl, inr, ℕ, zero, suc, Bool, true, false, List, [], ◌∷◌, ◌++◌, length, Option, Some, None, refl, sym, ap, ◌∙◌, subst, arith}
 use Rattle.std.specs.Prelude.{◌||◌, nat_eq, slice_get}
@@ -30,7 +30,6 @@ use Rattle.sim_meaning.specs.Texts.{BlockText, ClassText, ConnectionText, Prefix
 use Rattle.sim_sound.specs.Held.{Among}
 use Rattle.sim_sound.specs.Typed as typed
 use Rattle.sim_sound.specs.Typed.{Ends, PrefixTyped, Prefixes, outermost, prefixed as prefixed_by, Home}
-use Rattle.sim_agree.specs.Plain.{Plain}
 use Rattle.sim_agree.specs.TablesOf.{TablesOf}
 use Rattle.sim_agree.proofs.ClassRows.{no_class_connection}
 use Rattle.sim_agree.proofs.Completing.{bare_row, kind_in, prefixable_base}
@@ -215,41 +214,41 @@ own_free T e k = go (slice_get T.blocks k) refl
 
 -- ---- the tables of a program
 
-module _ (s : Source) (of : TablesOf s) (plain : Plain s.program) (order : InOrder s.program) where
+module _ (s : Source) (of : TablesOf s) (order : InOrder s.program) where
   free : (k : ℕ) → is_in_own_chain (prefixed (declared_by s.program).tables) k ≡ false
   free k = own_free (prefixed (declared_by s.program).tables) (no_least (prefix_faults (prefixed (declared_by s.program).tables)) of.prefixes) k
 
   below : (k b : ℕ) → base (prefixed (declared_by s.program).tables) k ≡ Some b → b < length (prefixed (declared_by s.program).tables).blocks
   unfolding base
-  below k b e = let size : length (prefixed (declared_by s.program).tables).blocks ≡ length (declared_by s.program).tables.blocks = (t.P s of plain order).size in subst (λ m. b < m) (sym size) (go ((t.P s of plain order).bases k b e))
+  below k b e = let size : length (prefixed (declared_by s.program).tables).blocks ≡ length (declared_by s.program).tables.blocks = (t.P s of order).size in subst (λ m. b < m) (sym size) (go ((t.P s of order).bases k b e))
     where
       within : {u : ℕ} (o : Option BlockOf) → slice_get (declared_by s.program).tables.blocks b ≡ o → around o ≡ Some u → b < length (declared_by s.program).tables.blocks
       within None at f = absurd (cc)
       within (Some row) at f = slice_get_within (declared_by s.program).tables.blocks b row at
 
       go : PrefixOf (declared_by s.program).tables (prefixed (declared_by s.program).tables) k b ⊎ (base (declared_by s.program).tables k ≡ Some b) → b < length (declared_by s.program).tables.blocks
-      go (inl p) = let c = t.class_at s.program plain p.class b p.declares in within (slice_get (declared_by s.program).tables.blocks b) refl c.2
+      go (inl p) = let c = t.class_at s.program p.class b p.declares in within (slice_get (declared_by s.program).tables.blocks b) refl c.2
       go (inr was) =
-          let fine = (t.program_agrees s.program plain).fine in
+          let fine = (t.program_agrees s.program).fine in
           let q = standard_base_of (declared_by s.program) (program_texts s.program.prefix s.program.block) [] fine k b was in
           let lt : b < length (program_texts s.program.prefix s.program.block) = slice_get_within (program_texts s.program.prefix s.program.block) b (StandardText q.2.above) q.2.above_text in
           subst (λ n. b < n) (sym fine.size) lt
 
   pub sizes : length s.tables.blocks ≡ length (prefixed (declared_by s.program).tables).blocks
-  sizes = (t.completed_tables s of plain order).size ∙ sym (t.P s of plain order).size
+  sizes = (t.completed_tables s of order).size ∙ sym (t.P s of order).size
 
   some_length : (n : ℕ) × (length (prefixed (declared_by s.program).tables).blocks ≡ suc n)
   some_length = go (length (prefixed (declared_by s.program).tables).blocks) refl
     where
       go : (m : ℕ) → length (prefixed (declared_by s.program).tables).blocks ≡ m → (n : ℕ) × (length (prefixed (declared_by s.program).tables).blocks ≡ suc n)
-      go zero e = absurd (let lt : 0 < length s.tables.blocks = t.some_block s of plain order in omega (arith, lt, sizes, e))
+      go zero e = absurd (let lt : 0 < length s.tables.blocks = t.some_block s of order in omega (arith, lt, sizes, e))
       go (suc n) e = (n, e)
 
   ends_more : (n k : ℕ) → is_connection (text s k) ≡ false → Ends (prefixed (declared_by s.program).tables) n k → Ends s.tables n k
-  ends_more n k other (outermost e) = outermost (t.own_base_of s of plain order k other ∙ e)
+  ends_more n k other (outermost e) = outermost (t.own_base_of s of order k other ∙ e)
   ends_more n k other (prefixed_by {n = m} {b = b} e ends) =
-      let f = t.base_stays s of plain order k b e in
-      prefixed_by f (ends_more m b (no_class_connection (text s b) (t.connects s of plain order k b f)) ends)
+      let f = t.base_stays s of order k b e in
+      prefixed_by f (ends_more m b (no_class_connection (text s b) (t.connects s of order k b f)) ends)
 
   -- the levels of each block that is no connection come to an end
   pub ends : (k : ℕ) → is_connection (text s k) ≡ false → Ends s.tables (length s.tables.blocks) k
@@ -260,20 +259,20 @@ module _ (s : Source) (of : TablesOf s) (plain : Plain s.program) (order : InOrd
   pub same_levels : (n : ℕ) (p : ℕ → Bool) (k : ℕ) → is_connection (text s k) ≡ false → some_level_of s.tables n p k ≡ some_level_of (prefixed (declared_by s.program).tables) n p k
   unfolding some_level_of
   same_levels zero p k other = refl
-  same_levels (suc n) p k other = ap (λ z. p k || z) (go (base s.tables k) refl (λ b f. same_levels n p b f) ∙ ap (holds (λ b. some_level_of (prefixed (declared_by s.program).tables) n p b)) (t.own_base_of s of plain order k other))
+  same_levels (suc n) p k other = ap (λ z. p k || z) (go (base s.tables k) refl (λ b f. same_levels n p b f) ∙ ap (holds (λ b. some_level_of (prefixed (declared_by s.program).tables) n p b)) (t.own_base_of s of order k other))
     where
       go : (o : Option ℕ) → base s.tables k ≡ o → ((b : ℕ) → is_connection (text s b) ≡ false → some_level_of s.tables n p b ≡ some_level_of (prefixed (declared_by s.program).tables) n p b)
           → holds (λ b. some_level_of s.tables n p b) o ≡ holds (λ b. some_level_of (prefixed (declared_by s.program).tables) n p b) o
       go None e h = refl
-      go (Some b) e h = h b (no_class_connection (text s b) (t.connects s of plain order k b e))
+      go (Some b) e h = h b (no_class_connection (text s b) (t.connects s of order k b e))
 
   -- no class is a level of its own prefix
   not_own : (k b : ℕ) → is_connection (text s k) ≡ false → base s.tables k ≡ Some b → has_level s.tables b k ≡ false
   unfolding has_level is_in_own_chain
   not_own k b other e =
-      same_levels (length s.tables.blocks) (λ c. nat_eq c k) b (no_class_connection (text s b) (t.connects s of plain order k b e))
+      same_levels (length s.tables.blocks) (λ c. nat_eq c k) b (no_class_connection (text s b) (t.connects s of order k b e))
       ∙ ap (λ n. some_level_of (prefixed (declared_by s.program).tables) n (λ c. nat_eq c k) b) sizes
-      ∙ ap (holds (λ c. some_level_of (prefixed (declared_by s.program).tables) (length (prefixed (declared_by s.program).tables).blocks) (λ d. nat_eq d k) c)) (sym (sym (t.own_base_of s of plain order k other) ∙ e))
+      ∙ ap (holds (λ c. some_level_of (prefixed (declared_by s.program).tables) (length (prefixed (declared_by s.program).tables).blocks) (λ d. nat_eq d k) c)) (sym (sym (t.own_base_of s of order k other) ∙ e))
       ∙ free k
 
   -- a level of what is no connection is none
@@ -286,7 +285,7 @@ module _ (s : Source) (of : TablesOf s) (plain : Plain s.program) (order : InOrd
           → ((c : ℕ) → is_connection (text s c) ≡ false → some_level_of s.tables n (λ d. nat_eq d k) c ≡ true → is_connection (text s k) ≡ false) → is_connection (text s k) ≡ false
       go true is o up f rest = let same : b ≡ k = grind (arith, nat_tests) in subst (λ z. is_connection (text s z) ≡ false) same other
       go false is None up f rest = absurd (cc)
-      go false is (Some c) up f rest = rest c (no_class_connection (text s c) (t.connects s of plain order b c up)) f
+      go false is (Some c) up f rest = rest c (no_class_connection (text s c) (t.connects s of order b c up)) f
 
   own_apart : (k : ℕ) → is_in_own_chain s.tables k ≡ false
   unfolding has_level is_in_own_chain
@@ -295,7 +294,7 @@ module _ (s : Source) (of : TablesOf s) (plain : Plain s.program) (order : InOrd
       apart_from : (b : ℕ) → base s.tables k ≡ Some b → (c : Bool) → is_connection (text s k) ≡ c → (z : Bool) → some_level_of s.tables (length s.tables.blocks) (λ d. nat_eq d k) b ≡ z → some_level_of s.tables (length s.tables.blocks) (λ d. nat_eq d k) b ≡ false
       apart_from b up c is false e = e
       apart_from b up false is true e = not_own k b is up
-      apart_from b up true is true e = absurd (let f : true ≡ false = sym is ∙ level_solid (length s.tables.blocks) b k (no_class_connection (text s b) (t.connects s of plain order k b up)) e in cc)
+      apart_from b up true is true e = absurd (let f : true ≡ false = sym is ∙ level_solid (length s.tables.blocks) b k (no_class_connection (text s b) (t.connects s of order k b up)) e in cc)
 
       go : (o : Option ℕ) → base s.tables k ≡ o → holds (λ b. some_level_of s.tables (length s.tables.blocks) (λ d. nat_eq d k) b) o ≡ false
       go None up = refl
@@ -303,11 +302,11 @@ module _ (s : Source) (of : TablesOf s) (plain : Plain s.program) (order : InOrd
 
   next_within : (k b : ℕ) → base s.tables k ≡ Some b → b < length s.tables.blocks
   unfolding text
-  next_within k b e = go (slice_get (program_texts s.program.prefix s.program.block) b) refl (t.connects s of plain order k b e)
+  next_within k b e = go (slice_get (program_texts s.program.prefix s.program.block) b) refl (t.connects s of order k b e)
     where
       go : (o : Option Text) → slice_get (program_texts s.program.prefix s.program.block) b ≡ o → is_class o ≡ true → b < length s.tables.blocks
       go None at f = absurd (cc)
-      go (Some x) at f = subst (λ n. b < n) (sym (t.as_many s of plain order)) (slice_get_within (program_texts s.program.prefix s.program.block) b x at)
+      go (Some x) at f = subst (λ n. b < n) (sym (t.as_many s of order)) (slice_get_within (program_texts s.program.prefix s.program.block) b x at)
 
   -- so the levels of all blocks come to an end, also those of connections
   pub all_end : (k : ℕ) → Ends s.tables (length s.tables.blocks) k
@@ -316,7 +315,7 @@ module _ (s : Source) (of : TablesOf s) (plain : Plain s.program) (order : InOrd
   -- the declared tables have a connection where the text is one
   connection_is : (k : ℕ) → is_kind is_connection_kind (declared_by s.program).tables k ≡ is_connection (text s k)
   unfolding is_kind
-  connection_is k = ap (is_so is_connection_kind) (sym (kind_bare (slice_get (declared_by s.program).tables.blocks k)) ∙ ap kind_in (sym ((t.completed_tables s of plain order).blocks k)) ∙ kind_bare (slice_get s.tables.blocks k)) ∙ i.connections s of plain order k
+  connection_is k = ap (is_so is_connection_kind) (sym (kind_bare (slice_get (declared_by s.program).tables.blocks k)) ∙ ap kind_in (sym ((t.completed_tables s of order).blocks k)) ∙ kind_bare (slice_get s.tables.blocks k)) ∙ i.connections s of order k
     where
       kind_bare : (o : Option BlockOf) → kind_in (bare_row o) ≡ kind_in o
       kind_bare None = refl
@@ -330,7 +329,7 @@ module _ (s : Source) (of : TablesOf s) (plain : Plain s.program) (order : InOrd
   home_typed : (k : ℕ) (o : Option ℕ) (h : ℕ) → encloser s.tables k ≡ o → HomeFrom (declared_by s.program).tables o h → Home s k h
   unfolding encloser
   home_typed k (Some u) h e (stands other) = typed.stands e (sym (connection_is h) ∙ other)
-  home_typed k (Some u) h e (connected is q) = typed.connected e (sym (connection_is u) ∙ is) (home_typed u (encloser (declared_by s.program).tables u) h (t.same_around s of plain order u) q)
+  home_typed k (Some u) h e (connected is q) = typed.connected e (sym (connection_is u) ∙ is) (home_typed u (encloser (declared_by s.program).tables u) h (t.same_around s of order u) q)
   home_typed k None h e q = elim q [ ]
 
   some_same : {A : Type 0} (a b : A) → Some a ≡ Some b → a ≡ b
@@ -340,18 +339,18 @@ module _ (s : Source) (of : TablesOf s) (plain : Plain s.program) (order : InOrd
   written_typed : (k b : ℕ) → base s.tables k ≡ Some b → PrefixOf (declared_by s.program).tables s.tables k b → PrefixTyped s k b
   unfolding encloser has_level text
   written_typed k b e p = record {
-    has = t.levels_there s of plain order k p.row p.at (prefixable_base p.row.kind p.kind);
-    prefix = t.connects s of plain order k b e;
+    has = t.levels_there s of order k p.row p.at (prefixable_base p.row.kind p.kind);
+    prefix = t.connects s of order k b e;
     outer = p.outer;
     outer_prefix = p.level;
-    around = home_typed k p.row.encloser p.outer (t.same_around s of plain order k ∙ ap around p.at) p.around;
-    around_prefix = t.same_around s of plain order b ∙ c.2 ∙ ap Some block;
+    around = home_typed k p.row.encloser p.outer (t.same_around s of order k ∙ ap around p.at) p.around;
+    around_prefix = t.same_around s of order b ∙ c.2 ∙ ap Some block;
     solid = solid_outer;
     declared = reaches_level s.tables (length s.tables.blocks) p.outer p.level (ends p.outer solid_outer) p.reaches;
   }
     where
       c : (row : Declaration) × (slice_get (declared_by s.program).tables.declarations p.class.0 ≡ Some row) × (around (slice_get (declared_by s.program).tables.blocks b) ≡ Some row.block)
-      c = t.class_at s.program plain p.class b p.declares
+      c = t.class_at s.program p.class b p.declares
 
       block : (c.0).block ≡ p.level
       block = ap (λ (z : Declaration). z.block) (some_same c.0 p.stands.0 (sym c.1 ∙ p.stands.1)) ∙ p.stands.2
@@ -364,17 +363,17 @@ module _ (s : Source) (of : TablesOf s) (plain : Plain s.program) (order : InOrd
   unfolding base encloser has_level text
   standard_typed k b e was = record {
     has = ap has_levels q.2.text;
-    prefix = t.connects s of plain order k b e;
+    prefix = t.connects s of order k b e;
     outer = g.block;
     outer_prefix = g.block;
-    around = typed.stands (t.same_around s of plain order k ∙ there) solid_host;
-    around_prefix = t.same_around s of plain order b ∙ ap (λ m. around (slice_get (declared_by s.program).tables.blocks m)) a.place ∙ a.group.around q.2.above a.is ∙ ap Some host_above;
+    around = typed.stands (t.same_around s of order k ∙ there) solid_host;
+    around_prefix = t.same_around s of order b ∙ ap (λ m. around (slice_get (declared_by s.program).tables.blocks m)) a.place ∙ a.group.around q.2.above a.is ∙ ap Some host_above;
     solid = solid_host;
     declared = reaches_level s.tables (length s.tables.blocks) g.block g.block (ends g.block solid_host) itself;
   }
     where
       fine : Fine (declared_by s.program) (program_texts s.program.prefix s.program.block) []
-      fine = (t.program_agrees s.program plain).fine
+      fine = (t.program_agrees s.program).fine
 
       q : (row : BlockOf) × (slice_get (declared_by s.program).tables.blocks k ≡ Some row) × StandardBase (program_texts s.program.prefix s.program.block) k b row
       q = standard_base_of (declared_by s.program) (program_texts s.program.prefix s.program.block) [] fine k b was
@@ -409,7 +408,7 @@ module _ (s : Source) (of : TablesOf s) (plain : Plain s.program) (order : InOrd
       solid_host = ap is_connection g.group.host.1 ∙ host g.prefix g.group.host.0 g.group.host.2
 
   prefix_typed : (k b : ℕ) → is_connection (text s k) ≡ false → base s.tables k ≡ Some b → PrefixTyped s k b
-  prefix_typed k b other e = go (t.prefix_is s of plain order k b other e)
+  prefix_typed k b other e = go (t.prefix_is s of order k b other e)
     where
       go : PrefixOf (declared_by s.program).tables s.tables k b ⊎ (base (declared_by s.program).tables k ≡ Some b) → PrefixTyped s k b
       go (inl p) = written_typed k b e p
@@ -418,7 +417,7 @@ module _ (s : Source) (of : TablesOf s) (plain : Plain s.program) (order : InOrd
   -- what a class declares is declared by no level of its prefix
   declares_apart : (k b u : ℕ) (d : DeclNo) → is_connection (text s k) ≡ false → base s.tables k ≡ Some b → has_level s.tables b u ≡ true → Among d (numbers_of s u) → Among d (numbers_of s k) → ⊥
   declares_apart k b u d other e level inside own =
-      let same : u ≡ k = sym (t.owned_block s of plain order u d inside) ∙ t.owned_block s of plain order k d own in
+      let same : u ≡ k = sym (t.owned_block s of order u d inside) ∙ t.owned_block s of order k d own in
       let f : true ≡ false = sym (subst (λ z. has_level s.tables b z ≡ true) same level) ∙ not_own k b other e in cc
 
   pub prefixes : Prefixes s
@@ -431,16 +430,16 @@ module _ (s : Source) (of : TablesOf s) (plain : Plain s.program) (order : InOrd
     where
       of_class : (x : Text) → slice_get (program_texts s.program.prefix s.program.block) k ≡ Some x → OwnerIs (declared_by s.program) (owner_in (slice_get (declared_by s.program).tables.blocks k)) (entry.Class k) → entry_of s.tables d ≡ Some (entry.Class k)
       of_class x is q =
-          let own : owner_of_level s.tables (Some k) ≡ Some q.0 = headings.owner_at s of plain order k q.0 (t.same_owner s of plain order k ∙ q.2) in
-          let new = (t.completed_tables s of plain order).rows.stays q.0.0 q.1 q.3 in
+          let own : owner_of_level s.tables (Some k) ≡ Some q.0 = headings.owner_at s of order k q.0 (t.same_owner s of order k ∙ q.2) in
+          let new = (t.completed_tables s of order).rows.stays q.0.0 q.1 q.3 in
           subst (λ z. entry_of s.tables z ≡ Some (entry.Class k)) (some_same q.0 d (sym own ∙ e))
-          (t.row_entry s of plain order q.0 new.0 new.1 ∙ ap Some (class_new q.1.entry new.0.entry new.2.entry k q.4))
+          (t.row_entry s of order q.0 new.0 new.1 ∙ ap Some (class_new q.1.entry new.0.entry new.2.entry k q.4))
 
       go : (o : Option Text) → slice_get (program_texts s.program.prefix s.program.block) k ≡ o → is_class o ≡ true → entry_of s.tables d ≡ Some (entry.Class k)
       go None is c = absurd (cc)
       go (Some (BlockText i ds ss)) is c = absurd (cc)
       go (Some (ProcedureText result h a)) is c = absurd (cc)
-      go (Some (ClassText prefix h ds ss)) is c = of_class (ClassText prefix h ds ss) is (t.program_owned s.program plain of.unbroken k (ClassText prefix h ds ss) is)
+      go (Some (ClassText prefix h ds ss)) is c = of_class (ClassText prefix h ds ss) is (t.program_owned s.program of.unbroken k (ClassText prefix h ds ss) is)
       go (Some ConnectionText) is c = absurd (cc)
       go (Some (PrefixedText class es ds ss)) is c = absurd (cc)
-      go (Some (StandardText which)) is c = of_class (StandardText which) is (t.program_owned s.program plain of.unbroken k (StandardText which) is)
+      go (Some (StandardText which)) is c = of_class (StandardText which) is (t.program_owned s.program of.unbroken k (StandardText which) is)

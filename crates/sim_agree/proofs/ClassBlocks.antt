@@ -11,16 +11,16 @@ use Rattle.sim_scope.specs.declared.types.Entry.TheVariants as entry
 use Rattle.sim_scope.specs.declared.types.StandardPrefix.{StandardPrefix}
 use Rattle.sim_scope.specs.Access.{block_at}
 use Rattle.sim_scope.specs.Levels.{base, holds_class, holds_class_in, is_standard, standard_in}
-use Rattle.sim_scope.specs.Scopes.{beyond, binding, brought_by, brought_in, declaration_from, declared_in, entry_is, entry_of, is_virtual, level_shows, lookup, numbered, outward, searched, seen, shown, shown_of}
+use Rattle.sim_scope.specs.Scopes.{beyond, binding, brought_by, brought_in, declaration_from, entry_is, entry_of, is_virtual, level_shows, lookup, numbered, outward, searched, seen, shown, shown_of}
 use Rattle.sim_scope.specs.Source.{Source, block_of, block_of_row}
 use Rattle.sim_scope.specs.Tables.{BlockOf, Tables}
-use Rattle.sim_meaning.specs.Entries.{numbers_in, numbers_of}
+use Rattle.sim_meaning.specs.Entries.{numbers_of}
 use Rattle.sim_sound.specs.Held.{Among}
-use Rattle.sim_agree.specs.Plain.{Plain}
 use Rattle.sim_agree.specs.TablesOf.{TablesOf}
 use Rattle.sim_agree.proofs.Holding.{class_in_block}
 use Rattle.sim_agree.proofs.Tables as t
-use Rattle.sim_agree.proofs.Unprefixed.{brought_stands, declared_is, numbered_among, seen_there}
+use Rattle.sim_agree.proofs.Latest.{lookup_among}
+use Rattle.sim_agree.proofs.Unprefixed.{brought_stands, declared_is, seen_there}
 
 -- what is found is shown by some level
 module _ (T : Tables) (from : Option ℕ) (name : List ℕ) (d : DeclNo) where
@@ -52,14 +52,6 @@ module _ (T : Tables) (from : Option ℕ) (name : List ℕ) (d : DeclNo) where
   from_level None e = absurd (cc)
   from_level (Some k) e = searched_level (length T.blocks) k e
 
-pub lookup_among : (T : Tables) (k : ℕ) (name : List ℕ) (d : DeclNo) → lookup T k name ≡ Some d → Among d (numbers_in (slice_get T.blocks k))
-unfolding lookup
-lookup_among T k name d e = go (slice_get T.blocks k) e
-  where
-    go : (o : Option BlockOf) → declared_in o name ≡ Some d → Among d (numbers_in o)
-    go None f = absurd (cc)
-    go (Some row) f = numbered_among row.numbers (position (bytes_eq name) row.names) d f
-
 pub brought_standard : (T : Tables) (k : ℕ) (name : List ℕ) (d : DeclNo) → brought_by T k name ≡ Some d → (which : StandardPrefix) × (standard_in (slice_get T.blocks k) ≡ Some which)
 unfolding brought_by
 brought_standard T k name d e = go (slice_get T.blocks k) e
@@ -76,7 +68,7 @@ or_right : (a b : Bool) → b ≡ true → (a || b) ≡ true
 or_right true b e = refl
 or_right false b e = e
 
-module _ (s : Source) (of : TablesOf s) (plain : Plain s.program) (order : InOrder s.program) where
+module _ (s : Source) (of : TablesOf s) (order : InOrder s.program) where
   standard_holds : (k : ℕ) (which : StandardPrefix) → standard_in (slice_get s.tables.blocks k) ≡ Some which → holds_class s.tables k ≡ true
   unfolding holds_class
   standard_holds k which e = go (slice_get s.tables.blocks k) e
@@ -88,8 +80,8 @@ module _ (s : Source) (of : TablesOf s) (plain : Plain s.program) (order : InOrd
   -- what a block lists is listed
   pub listed_there : (k : ℕ) (d : DeclNo) → Among d (numbers_of s k) → (row : Declaration) × (slice_get s.tables.declarations d.0 ≡ Some row) × (row.listed ≡ true)
   listed_there k d a =
-      let q = (t.program_agrees s.program plain).fine.own k d (subst (λ ns. Among d ns) (t.same_numbers s of plain order k) a) in
-      let n = (t.completed_tables s of plain order).rows.stays d.0 q.0 q.1 in (n.0, n.1, n.2.listed ∙ q.3)
+      let q = (t.program_agrees s.program).fine.own k d (subst (λ ns. Among d ns) (t.same_numbers s of order k) a) in
+      let n = (t.completed_tables s of order).rows.stays d.0 q.0 q.1 in (n.0, n.1, n.2.listed ∙ q.3)
 
   level_holds : (from : Option ℕ) (l : ℕ) (name : List ℕ) (d : DeclNo) (k : ℕ) → level_shows s.tables from l name ≡ Some d → entry_of s.tables d ≡ Some (entry.Class k) → holds_class s.tables (block_of s d) ≡ true
   unfolding level_shows block_of
@@ -98,9 +90,9 @@ module _ (s : Source) (of : TablesOf s) (plain : Plain s.program) (order : InOrd
       listed : lookup s.tables l name ≡ Some d → holds_class s.tables (block_of s d) ≡ true
       listed at =
           let q = listed_there l d (lookup_among s.tables l name d at) in
-          let r = t.entry_row s of plain order d (entry.Class k) is in
+          let r = t.entry_row s of order d (entry.Class k) is in
           let same : r.0 ≡ q.0 = some_same r.0 q.0 (sym r.1 ∙ q.1) in
-          class_in_block s of plain order d k q.0 q.1 (sym (ap (λ (z : Declaration). z.entry) same) ∙ r.2) q.2
+          class_in_block s of order d k q.0 q.1 (sym (ap (λ (z : Declaration). z.entry) same) ∙ r.2) q.2
         where
           some_same : (a b : Declaration) → Some a ≡ Some b → a ≡ b
           some_same a b f = cc
@@ -108,11 +100,11 @@ module _ (s : Source) (of : TablesOf s) (plain : Plain s.program) (order : InOrd
       brought : brought_by s.tables l name ≡ Some d → holds_class s.tables (block_of s d) ≡ true
       brought at =
           let w = brought_standard s.tables l name d at in
-          let r = (brought_stands s.tables (t.shows s of plain order) l name d at).0 in
+          let r = (brought_stands s.tables (t.shows s of order) l name d at).0 in
           subst (λ z. holds_class s.tables z ≡ true) (sym (ap block_of_row r.1 ∙ r.2)) (standard_holds l w.0 w.1)
 
       go : (o : Option DeclNo) → seen s.tables from (lookup s.tables l name) ≡ o → option_or o (brought_by s.tables l name) ≡ Some d → holds_class s.tables (block_of s d) ≡ true
-      go (Some f) at h = listed (seen_there s.tables (t.shows s of plain order) from (lookup s.tables l name) d (at ∙ h))
+      go (Some f) at h = listed (seen_there s.tables (t.shows s of order) from (lookup s.tables l name) d (at ∙ h))
       go None at h = brought h
 
   pub found_class_held : (token : ℕ) (name : List ℕ) (d : DeclNo) (k : ℕ) → binding s.tables token name ≡ Some (denotation.Declared d) → entry_of s.tables d ≡ Some (entry.Class k) → holds_class s.tables (block_of s d) ≡ true

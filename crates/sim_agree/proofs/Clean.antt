@@ -1,4 +1,4 @@
--- Where no rule on declarations is broken, all that a plain program declares is in its tables, each parameter is specified and stands in front, and
+-- Where no rule on declarations is broken, all that a program declares is in its tables, each parameter is specified and stands in front, and
 -- the classes that are written are those of references.
 use Rattle.std.proofs.Common.{◌≡◌, ◌<◌, ◌≤◌, ◌+◌, ◌⊎◌, inl, inr, ℕ, Bool, true, false, List, [], ◌∷◌, ◌++◌, length, Option, Some, None, refl, sym, ap, ◌∙◌, subst, arith, if◌then◌else◌}
 use Rattle.std.specs.Prelude.{◌&&◌, nat_eq, not, slice_get, slice_set}

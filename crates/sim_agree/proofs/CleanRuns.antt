@@ -1,4 +1,4 @@
--- Mark by mark, where no rule on declarations is broken: what a plain program declares comes into its tables.
+-- Mark by mark, where no rule on declarations is broken: what a program declares comes into its tables.
 use Rattle.std.proofs.Common.{◌≡◌, ◌<◌, ◌≤◌, ◌⊎◌, inl, inr, ℕ, Bool, true, false, List, [], ◌∷◌, ◌++◌, length, Option, Some, None, refl, sym, ap, ◌∙◌, subst, arith, append-nil, append_assoc}
 use Rattle.std.specs.Prelude.{nat_lt, slice_get, slice_set}
 use Rattle.std.proofs.lemmas.Option.{slice_get_within}
@@ -544,12 +544,12 @@ run_clean b ts (parameter {os = os} x owed y d has g) w a clean =
       (λ v. later.4 (owned_step b (parameter_of b y) (Declared (length b.tables.declarations) y (entry.Unspecified None) a.fine.stack.0) ts (parameter_step b y a.fine.stack.0 a.fine.stack.1) v)),
       λ v. later.5 (parameter_names b y ts v),
     )
-run_clean b ts (moded {os = tail} x owed y m written g) w a clean =
+run_clean b ts (moded {os = tail} x owed y m takes g) w a clean =
     let os : List Open = item x owed ∷ tail in
     let s = moded_step b y.token m (found_in b.tables b.current y.name) in
     let later = run_clean _ ts g w (quiet_agrees b _ ts os s a) clean in
-    let q = moded_quiet b y.token m (found_in b.tables b.current y.name) in (q.1 later.0, (λ f. later.1 (quiet_clean b _ ts os s (moded_calm b y.token m (found_in b.tables b.current y.name)) q.0 a.fine f)), later.2, (λ v. later.3 (moded_covers b y.token m (found_in b.tables b.current y.name) v)), (λ v. later.4 (owned_step b _ Nothing ts s v)), λ v. later.5 (moded_names b ts x a.fine.stack.0 y (names_found b ts os a.fine) a.fine.stack.1 a.fine.stack.2 (a.fine.kinds a.fine.stack.0) v m written))
-run_clean b ts (specified {os = tail} {ms = ms} {xs = xs} x owed quals y k ty written p q g) w a clean =
+    let q = moded_quiet b y.token m (found_in b.tables b.current y.name) in (q.1 later.0, (λ f. later.1 (quiet_clean b _ ts os s (moded_calm b y.token m (found_in b.tables b.current y.name)) q.0 a.fine f)), later.2, (λ v. later.3 (moded_covers b y.token m (found_in b.tables b.current y.name) v)), (λ v. later.4 (owned_step b _ Nothing ts s v)), λ v. later.5 (moded_names b ts x a.fine.stack.0 y (names_found b ts os a.fine) a.fine.stack.1 a.fine.stack.2 (a.fine.kinds a.fine.stack.0) takes v m))
+run_clean b ts (specified {os = tail} {ms = ms} {xs = xs} x owed quals y k ty takes p q g) w a clean =
     let os : List Open = item x owed ∷ tail in
     let m : BuildingOf = met b (found_in b.tables b.current y.name) in
     let c0 : BuildingOf = specified_of m y.token k ty (found_in b.tables b.current y.name) in
@@ -568,7 +568,7 @@ run_clean b ts (specified {os = tail} {ms = ms} {xs = xs} x owed quals y k ty wr
       quals_unbroken (AreReferences ty) quals ms q later.2,
       (λ v. subst Covered (sym parts) (later.3 (specified_covered m y.token k ty (found_in b.tables b.current y.name) there_.0 there_.1 (specified_latest m y.token k ty (found_in b.tables b.current y.name) ∙ there_.1) there_.2 quals q v))),
       (λ v. subst (λ k. Owned k (ts ++ xs)) (sym parts) (later.4 (owned_step b c Nothing ts (quals_step b c0 Nothing (AreReferences ty) quals q s) v))),
-      λ v. subst (λ k. ByNames k (ts ++ xs)) (sym parts) (later.5 (rows_stay c0 c ts (quals_rows c0 (AreReferences ty) quals q) (specified_names m ts x a.fine.stack.0 y (names_found b ts os a.fine) a.fine.stack.1 a.fine.stack.2 (a.fine.kinds a.fine.stack.0) v k written ty))),
+      λ v. subst (λ k. ByNames k (ts ++ xs)) (sym parts) (later.5 (rows_stay c0 c ts (quals_rows c0 (AreReferences ty) quals q) (specified_names m ts x a.fine.stack.0 y (names_found b ts os a.fine) a.fine.stack.1 a.fine.stack.2 (a.fine.kinds a.fine.stack.0) takes v k ty c0_clean))),
     )
 run_clean b ts (headed {os = os} x owed y g) w a clean =
     let s = headed_step b y.token (unspecified_at b.tables (found_in b.tables b.current y.name)) in

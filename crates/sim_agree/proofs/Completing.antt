@@ -1,4 +1,4 @@
--- What the static rules add to the tables of a plain program: the class of each reference and of each connection. All else stays.
+-- What the static rules add to the tables of a program: the class of each reference and of each connection. All else stays.
 use Rattle.std.proofs.Common.{◌≡◌, ◌⊎◌, inl, inr, ℕ, Bool, true, false, List, [], ◌∷◌, length, Option, Some, None, refl, sym, ap, ◌∙◌, subst, arith}
 use Rattle.std.specs.Prelude.{nat_eq, slice_get, slice_set}
 use Rattle.std.proofs.lemmas.List.{length-set}

@@ -36,7 +36,6 @@ use Rattle.sim_static.specs.Check.{completed}
 use Rattle.sim_meaning.specs.Attributes.{is_connection}
 use Rattle.sim_meaning.specs.Texts.{text}
 use Rattle.sim_agree.specs.Places.{PlacedExpression}
-use Rattle.sim_agree.specs.Plain.{Plain}
 use Rattle.sim_agree.specs.TablesOf.{TablesOf}
 use Rattle.sim_agree.proofs.Completing.{Completes, bare_row}
 use Rattle.sim_agree.proofs.Prefixing.{references_prefixed}
@@ -146,21 +145,21 @@ around_bare (Some row) = refl
 around_same : (o q : Option BlockOf) → bare_row o ≡ bare_row q → around o ≡ around q
 around_same o q e = sym (around_bare o) ∙ ap around e ∙ around_bare q
 
-module _ (s : Source) (of : TablesOf s) (plain : Plain s.program) (order : InOrder s.program) where
+module _ (s : Source) (of : TablesOf s) (order : InOrder s.program) where
   done : Completes (declared_by s.program).tables s.tables (t.IsClassText s.program)
-  done = t.completes s of plain order
+  done = t.completes s of order
 
   -- the block that begins where a connection is opened
   number_there : (o n : ℕ) → (q : Opened (declared_by s.program).tables.blocks o) → joined (slice_get s.tables.places o) ≡ Some n → q.number ≡ n
   number_there o n q e =
-      let first = t.first_place s.program plain order q.number q.row q.at (ap is_standard_class q.is) in
+      let first = t.first_place s.program order q.number q.row q.at (ap is_standard_class q.is) in
       let here : slice_get (declared_by s.program).tables.places o ≡ Some (Some q.number) = subst (λ z. slice_get (declared_by s.program).tables.places z ≡ Some (Some q.number)) q.begins first in
       some_same q.number n (sym (ap joined here) ∙ ap (λ (z : List (Option ℕ)). joined (slice_get z o)) (sym done.places) ∙ e)
 
   connection_text : (m : ℕ) (row : BlockOf) → slice_get (declared_by s.program).tables.blocks m ≡ Some row → row.kind ≡ kind.Connection → is_connection (text s m) ≡ true
   unfolding is_kind
   connection_text m row at c =
-      sym (i.connections s of plain order m) ∙ ap (λ z. is_so is_connection_kind z) (kind_same (slice_get s.tables.blocks m) (slice_get (declared_by s.program).tables.blocks m) (done.blocks m) ∙ ap kind_in at) ∙ ap is_connection_kind c
+      sym (i.connections s of order m) ∙ ap (λ z. is_so is_connection_kind z) (kind_same (slice_get s.tables.blocks m) (slice_get (declared_by s.program).tables.blocks m) (done.blocks m) ∙ ap kind_in at) ∙ ap is_connection_kind c
 
   -- so a block that is no connection is none that is opened
   no_connection : (k : ℕ) → is_connection (text s k) ≡ false → (n : ℕ) → Opened (declared_by s.program).tables.blocks n → joined (slice_get s.tables.places n) ≡ Some k → ⊥
@@ -171,8 +170,8 @@ module _ (s : Source) (of : TablesOf s) (plain : Plain s.program) (order : InOrd
   body_text d k e = go (entry_of s.tables d) refl e
     where
       go : (o : Option Entry) → entry_of s.tables d ≡ o → block_in o ≡ Some k → is_connection (text s k) ≡ false
-      go (Some (entry.Procedure result n)) at f = let same : n ≡ k = some_same n k f in ap is_connection (h.procedures s of plain order d result k (at ∙ ap (λ z. Some (entry.Procedure result z)) same)).is
-      go (Some (entry.Class n)) at f = let same : n ≡ k = some_same n k f in no_class_connection (text s k) (h.classes s of plain order d k (at ∙ ap (λ z. Some (entry.Class z)) same)).0.is
+      go (Some (entry.Procedure result n)) at f = let same : n ≡ k = some_same n k f in ap is_connection (h.procedures s of order d result k (at ∙ ap (λ z. Some (entry.Procedure result z)) same)).is
+      go (Some (entry.Class n)) at f = let same : n ≡ k = some_same n k f in no_class_connection (text s k) (h.classes s of order d k (at ∙ ap (λ z. Some (entry.Class z)) same)).0.is
       go (Some (entry.Variable ty)) at f = absurd (cc)
       go (Some (entry.Constant ty)) at f = absurd (cc)
       go (Some (entry.Array ty n)) at f = absurd (cc)
@@ -189,14 +188,14 @@ module _ (s : Source) (of : TablesOf s) (plain : Plain s.program) (order : InOrd
   body_apart k is (Names x ∷ es) a = body_apart k is es a
 
   -- and none that has a lesser number
-  low_apart : (k l m : ℕ) (es : List Connecting) → k < l → LooksTo s l es m → Apart s.tables.places k es
+  low_apart : (k l m : ℕ) (last : Option ℕ) (es : List Connecting) → k < l → LooksTo s last l es m → Apart s.tables.places k es
   unfolding block_at
-  low_apart k l m [] lt looks = tt
-  low_apart k l m (Looks e ∷ es) lt looks = let le = looks.2 in low_apart k looks.1 m es (omega (arith, lt, le)) looks.5
-  low_apart k l m (Names x ∷ es) lt looks = let le = looks.2 in low_apart k looks.1 m es (omega (arith, lt, le)) looks.5
-  low_apart k l m (Connects o ∷ es) lt looks =
+  low_apart k l m last [] lt looks = tt
+  low_apart k l m last (Looks e ∷ es) lt looks = let le = looks.2 in low_apart k looks.1 m (Some looks.0) es (omega (arith, lt, le)) looks.5
+  low_apart k l m last (Names x ∷ es) lt looks = let le = looks.2 in low_apart k looks.1 m (Some looks.0) es (omega (arith, lt, le)) looks.5
+  low_apart k l m last (Connects o ∷ es) lt looks =
       let le = looks.1 in
-      (λ e. (let equal : looks.0 ≡ k = some_same looks.0 k (sym looks.2 ∙ e) in omega (arith, lt, le, equal)), low_apart k (suc looks.0) m es (omega (arith, lt, le)) looks.3)
+      (λ e. (let equal : looks.0 ≡ k = some_same looks.0 k (sym looks.2 ∙ e) in omega (arith, lt, le, equal)), low_apart k (suc looks.0) m None es (omega (arith, lt, le)) looks.3)
 
   -- ---- the tables so far, and the complete ones
 
@@ -214,63 +213,63 @@ module _ (s : Source) (of : TablesOf s) (plain : Plain s.program) (order : InOrd
       where
         go : (z : Bool) → is_connection (text s row.block) ≡ z → is_connection (text s row.block) ≡ false
         go false e = e
-        go true e = absurd (t.nothing_stands_in_connections s of plain order row.block e d (row, ap (λ (ds : List Declaration). slice_get ds d.0) grown.declarations ∙ at, refl))
+        go true e = absurd (t.nothing_stands_in_connections s of order row.block e d (row, ap (λ (ds : List Declaration). slice_get ds d.0) grown.declarations ∙ at, refl))
 
     -- what is numbered below the later connections is as it will be
-    alike : (l m : ℕ) → AllOpened es (declared_by s.program).tables.blocks → LooksTo s l es m → Alike c.tables s.tables (λ k. k < l)
+    alike : (l m : ℕ) (last : Option ℕ) → AllOpened es (declared_by s.program).tables.blocks → LooksTo s last l es m → Alike c.tables s.tables (λ k. k < l)
     unfolding encloser base entry_of
-    alike l m opened looks = record {
+    alike l m last opened looks = record {
       size = sym grown.size;
       places = sym grown.places;
       declarations = sym grown.declarations;
       kinds = λ k. kind_same (slice_get c.tables.blocks k) (slice_get s.tables.blocks k) (sym (grown.rows k));
       rows = λ k. sym (grown.rows k);
-      solid = λ k other. settled k (body_apart k (sym (i.connections s of plain order k) ∙ other) es opened);
-      here = λ k lt. settled k (low_apart k l m es lt looks);
-      outward = λ k n lt e. (let inner = t.nesting s of plain order k n (around_same (slice_get s.tables.blocks k) (slice_get c.tables.blocks k) (grown.rows k) ∙ e) in let z : n < l = omega (arith, lt, inner) in z);
-      levels = λ k n e f. (let q = t.connects s of plain order k n (sym (ap base_in e) ∙ f) in settled n (body_apart n (no_class_connection (text s n) q) es opened));
+      solid = λ k other. settled k (body_apart k (sym (i.connections s of order k) ∙ other) es opened);
+      here = λ k lt. settled k (low_apart k l m last es lt looks);
+      outward = λ k n lt e. (let inner = t.nesting s of order k n (around_same (slice_get s.tables.blocks k) (slice_get c.tables.blocks k) (grown.rows k) ∙ e) in let z : n < l = omega (arith, lt, inner) in z);
+      levels = λ k n e f. (let q = t.connects s of order k n (sym (ap base_in e) ∙ f) in settled n (body_apart n (no_class_connection (text s n) q) es opened));
       bodies = λ d k e. settled k (body_apart k (body_text d k (ap (λ (ds : List Declaration). block_in (entry_in (slice_get ds d.0))) grown.declarations ∙ e)) es opened);
       standards = λ k. sym (grown.standards k);
       stand = λ d row at. settled row.block (body_apart row.block (stands_solid d row at) es opened);
     }
 
-    class_type_same : (l m : ℕ) → AllOpened es (declared_by s.program).tables.blocks → LooksTo s l es m → (x : Option SimType) → class_of_type c.tables x ≡ class_of_type s.tables x
-    class_type_same l m opened looks None = refl
-    class_type_same l m opened looks (Some (ty.Ref class)) = b.class_same c.tables s.tables (λ k. k < l) (alike l m opened looks) class
-    class_type_same l m opened looks (Some ty.Integer) = refl
-    class_type_same l m opened looks (Some ty.Boolean) = refl
-    class_type_same l m opened looks (Some ty.Character) = refl
-    class_type_same l m opened looks (Some ty.Text) = refl
-    class_type_same l m opened looks (Some ty.NoneType) = refl
+    class_type_same : (l m : ℕ) (last : Option ℕ) → AllOpened es (declared_by s.program).tables.blocks → LooksTo s last l es m → (x : Option SimType) → class_of_type c.tables x ≡ class_of_type s.tables x
+    class_type_same l m last opened looks None = refl
+    class_type_same l m last opened looks (Some (ty.Ref class)) = b.class_same c.tables s.tables (λ k. k < l) (alike l m last opened looks) class
+    class_type_same l m last opened looks (Some ty.Integer) = refl
+    class_type_same l m last opened looks (Some ty.Boolean) = refl
+    class_type_same l m last opened looks (Some ty.Character) = refl
+    class_type_same l m last opened looks (Some ty.Text) = refl
+    class_type_same l m last opened looks (Some ty.NoneType) = refl
 
-    class_name_same : (l m : ℕ) → AllOpened es (declared_by s.program).tables.blocks → LooksTo s l es m → (x : Option Denotation) → class_of_name c.tables x ≡ class_of_name s.tables x
-    class_name_same l m opened looks None = refl
-    class_name_same l m opened looks (Some (denotation.Declared d)) = b.class_same c.tables s.tables (λ k. k < l) (alike l m opened looks) d
-    class_name_same l m opened looks (Some (denotation.Standard name)) = refl
+    class_name_same : (l m : ℕ) (last : Option ℕ) → AllOpened es (declared_by s.program).tables.blocks → LooksTo s last l es m → (x : Option Denotation) → class_of_name c.tables x ≡ class_of_name s.tables x
+    class_name_same l m last opened looks None = refl
+    class_name_same l m last opened looks (Some (denotation.Declared d)) = b.class_same c.tables s.tables (λ k. k < l) (alike l m last opened looks) d
+    class_name_same l m last opened looks (Some (denotation.Standard name)) = refl
 
     -- the class of an object that is inspected in front of them
-    looked : (e : Expression) (k l m : ℕ) → k < l → PlacedExpression s.tables k e → AllOpened es (declared_by s.program).tables.blocks → LooksTo s l es m
+    looked : (e : Expression) (k l m : ℕ) (last : Option ℕ) → k < l → PlacedExpression s.tables k e → AllOpened es (declared_by s.program).tables.blocks → LooksTo s last l es m
         → class_of_type c.tables (judge_side c.tables Statement e).value.ty ≡ class_of_type s.tables (judge_side s.tables Statement e).value.ty
-    looked e k l m lt placed opened looks =
-        ap (λ (z : Judged Side). class_of_type c.tables z.value.ty) (j.judged_same c.tables s.tables (λ k. k < l) (alike l m opened looks) k lt e placed)
-        ∙ class_type_same l m opened looks (judge_side s.tables Statement e).value.ty
+    looked e k l m last lt placed opened looks =
+        ap (λ (z : Judged Side). class_of_type c.tables z.value.ty) (j.judged_same c.tables s.tables (λ k. k < l) (alike l m last opened looks) k lt e placed)
+        ∙ class_type_same l m last opened looks (judge_side s.tables Statement e).value.ty
 
     -- and the class that is named there
-    met : (x : Identifier) (k l m : ℕ) → k < l → block_at s.tables x.token.0 ≡ Some k → AllOpened es (declared_by s.program).tables.blocks → LooksTo s l es m
+    met : (x : Identifier) (k l m : ℕ) (last : Option ℕ) → k < l → block_at s.tables x.token.0 ≡ Some k → AllOpened es (declared_by s.program).tables.blocks → LooksTo s last l es m
         → class_of_name c.tables (binding c.tables x.token.0 x.name) ≡ class_of_name s.tables (binding s.tables x.token.0 x.name)
-    met x k l m lt placed opened looks =
-        ap (λ z. class_of_name c.tables z) (b.binding_same c.tables s.tables (λ k. k < l) (alike l m opened looks) x.token.0 x.name stands)
-        ∙ class_name_same l m opened looks (binding s.tables x.token.0 x.name)
+    met x k l m last lt placed opened looks =
+        ap (λ z. class_of_name c.tables z) (b.binding_same c.tables s.tables (λ k. k < l) (alike l m last opened looks) x.token.0 x.name stands)
+        ∙ class_name_same l m last opened looks (binding s.tables x.token.0 x.name)
       where
-        stands : b.Stands c.tables s.tables (λ k. k < l) (alike l m opened looks) x.token.0
-        stands = record { block = k; at = b.place_same c.tables s.tables (λ k. k < l) (alike l m opened looks) x.token.0 ∙ placed; there = lt }
+        stands : b.Stands c.tables s.tables (λ k. k < l) (alike l m last opened looks) x.token.0
+        stands = record { block = k; at = b.place_same c.tables s.tables (λ k. k < l) (alike l m last opened looks) x.token.0 ∙ placed; there = lt }
 
   -- a connection connects what was met last
   connects_last : (c : ConnectingOf) (es : List Connecting) (o : ℕ) → s.tables ≡ (run connecting (connecting c (Connects o)) es).tables → Grown c.tables s.tables → Opened (declared_by s.program).tables.blocks o → (n m : ℕ) → joined (slice_get s.tables.places o) ≡ Some n
-      → LooksTo s (suc n) es m → base s.tables n ≡ c.next
+      → LooksTo s None (suc n) es m → base s.tables n ≡ c.next
   unfolding base connecting block_at
   connects_last c es o is g q n m at looks =
-      ap base_in (sym (settled (connecting c (Connects o)) es is n (low_apart n (suc n) m es (let z : n < suc n = omega arith in z) looks)))
+      ap base_in (sym (settled (connecting c (Connects o)) es is n (low_apart n (suc n) m None es (let z : n < suc n = omega arith in z) looks)))
       ∙ ap (λ z. base_in (slice_get (connected_at c.tables z c.next).blocks n)) (ap (λ (z : List (Option ℕ)). joined (slice_get z o)) (sym g.places) ∙ at)
       ∙ step_base c.tables c.next n row.0 row.1
     where
@@ -284,25 +283,25 @@ module _ (s : Source) (of : TablesOf s) (plain : Plain s.program) (order : InOrd
           let here : length s.tables.blocks ≡ length c.tables.blocks = g.size in
           row_within c.tables.blocks n (let z : n < length c.tables.blocks = omega (arith, lt, size, here) in z)
 
-  all_connect : (es : List Connecting) (c : ConnectingOf) (next : Option ℕ) (n m : ℕ) → s.tables ≡ (run connecting c es).tables → AllOpened es (declared_by s.program).tables.blocks → c.next ≡ next → LooksTo s n es m → AllConnect s next es
+  all_connect : (es : List Connecting) (c : ConnectingOf) (next : Option ℕ) (n m : ℕ) (last : Option ℕ) → s.tables ≡ (run connecting c es).tables → AllOpened es (declared_by s.program).tables.blocks → c.next ≡ next → LooksTo s last n es m → AllConnect s next es
   unfolding run connecting block_at
-  all_connect [] c next n m is opened same looks = tt
-  all_connect (Looks e ∷ es) c next n m is opened same looks =
-      all_connect es (connecting c (Looks e)) (class_of_type s.tables (judge_side s.tables Statement e).value.ty) looks.1 m is opened (looked (connecting c (Looks e)) es is e looks.0 looks.1 m looks.3 looks.4 opened looks.5) looks.5
-  all_connect (Names x ∷ es) c next n m is opened same looks =
-      all_connect es (connecting c (Names x)) (class_of_name s.tables (binding s.tables x.token.0 x.name)) looks.1 m is opened (met (connecting c (Names x)) es is x looks.0 looks.1 m looks.3 looks.4 opened looks.5) looks.5
-  all_connect (Connects o ∷ es) c next n m is opened same looks = (
+  all_connect [] c next n m last is opened same looks = tt
+  all_connect (Looks e ∷ es) c next n m last is opened same looks =
+      all_connect es (connecting c (Looks e)) (class_of_type s.tables (judge_side s.tables Statement e).value.ty) looks.1 m (Some looks.0) is opened (looked (connecting c (Looks e)) es is e looks.0 looks.1 m (Some looks.0) looks.3 looks.4 opened looks.5) looks.5
+  all_connect (Names x ∷ es) c next n m last is opened same looks =
+      all_connect es (connecting c (Names x)) (class_of_name s.tables (binding s.tables x.token.0 x.name)) looks.1 m (Some looks.0) is opened (met (connecting c (Names x)) es is x looks.0 looks.1 m (Some looks.0) looks.3 looks.4 opened looks.5) looks.5
+  all_connect (Connects o ∷ es) c next n m last is opened same looks = (
     λ k at. (let equal : looks.0 ≡ k = some_same looks.0 k (sym looks.2 ∙ at) in
         subst (λ z. base s.tables z ≡ next) equal (connects_last c es o is (grown c (Connects o ∷ es) is) opened.0 looks.0 m looks.2 looks.3 ∙ same)),
-    all_connect es (connecting c (Connects o)) next (suc looks.0) m is opened.1 same looks.3,
+    all_connect es (connecting c (Connects o)) next (suc looks.0) m None is opened.1 same looks.3,
   )
 
--- each connection of an allowed plain program connects what is met last in front of it
-pub connections_connect : (s : Source) → TablesOf s → Plain s.program → InOrder s.program → AllConnect s None (program_events connections s.program)
+-- each connection of an allowed program connects what is met last in front of it
+pub connections_connect : (s : Source) → TablesOf s → InOrder s.program → AllConnect s None (program_events connections s.program)
 unfolding completed connected
-connections_connect s of plain order =
-    let l = walk.looks s of plain order in
-    all_connect s of plain order (program_events connections s.program) (record { tables = qualified (prefixed (declared_by s.program).tables); next = None }) None 0 l.0 of.tables (program_opened s.program plain) refl l.1
+connections_connect s of order =
+    let l = walk.looks s of order in
+    all_connect s of order (program_events connections s.program) (record { tables = qualified (prefixed (declared_by s.program).tables); next = None }) None 0 l.0 None of.tables (program_opened s.program) refl l.1
 
 -- ---- what holds of all that is met holds of what is connected
 
@@ -336,22 +335,68 @@ met_or_apart s P k c e (Connects i ∷ es) n p connect met = go (joined (slice_g
     go (Some m) at rest = at_number m (nat_eq m k) refl at rest
 
 -- nothing is connected at first
-none_first : (s : Source) (of : TablesOf s) (plain : Plain s.program) (order : InOrder s.program) → (k : ℕ) → is_connection (text s k) ≡ true → base_in (slice_get (qualified (prefixed (declared_by s.program).tables)).blocks k) ≡ None
+none_first : (s : Source) (of : TablesOf s) (order : InOrder s.program) → (k : ℕ) → is_connection (text s k) ≡ true → base_in (slice_get (qualified (prefixed (declared_by s.program).tables)).blocks k) ≡ None
 unfolding base
-none_first s of plain order k is =
-    ap (λ (z : List BlockOf). base_in (slice_get z k)) (references_prefixed (declared_by s.program).tables (t.P s of plain order) (t.all_references (declared_by s.program).tables (declared_by s.program).tables.qualifications (t.program_clean s.program plain of.unbroken).refs)).blocks
+none_first s of order k is =
+    ap (λ (z : List BlockOf). base_in (slice_get z k)) (references_prefixed (declared_by s.program).tables (t.P s of order) (t.all_references (declared_by s.program).tables (declared_by s.program).tables.qualifications (t.program_clean s.program of.unbroken).refs)).blocks
     ∙ go (base (prefixed (declared_by s.program).tables) k) refl
   where
     go : (o : Option ℕ) → base (prefixed (declared_by s.program).tables) k ≡ o → o ≡ None
     go None e = refl
-    go (Some b) e = absurd (let q : true ≡ false = sym is ∙ t.next_there s of plain order k b ((t.P s of plain order).bases k b e) in cc)
+    go (Some b) e = absurd (let q : true ≡ false = sym is ∙ t.next_there s of order k b ((t.P s of order).bases k b e) in cc)
 
-pub connects_met : (s : Source) (of : TablesOf s) (plain : Plain s.program) (order : InOrder s.program) (P : Option ℕ → Type 0) → P None → AllMet s P (program_events connections s.program) → (k c : ℕ) → is_connection (text s k) ≡ true → base s.tables k ≡ Some c → P (Some c)
+pub connects_met : (s : Source) (of : TablesOf s) (order : InOrder s.program) (P : Option ℕ → Type 0) → P None → AllMet s P (program_events connections s.program) → (k c : ℕ) → is_connection (text s k) ≡ true → base s.tables k ≡ Some c → P (Some c)
 unfolding completed connected base
-connects_met s of plain order P p met k c is e = go (met_or_apart s P k c e (program_events connections s.program) None p (connections_connect s of plain order) met)
+connects_met s of order P p met k c is e = go (met_or_apart s P k c e (program_events connections s.program) None p (connections_connect s of order) met)
   where
     go : Apart s.tables.places k (program_events connections s.program) ⊎ P (Some c) → P (Some c)
     go (inr q) = q
     go (inl apart) =
-        absurd (let same = settled s of plain order (record { tables = qualified (prefixed (declared_by s.program).tables); next = None }) (program_events connections s.program) of.tables k apart in
-        let f : None ≡ Some c = sym (none_first s of plain order k is) ∙ ap base_in same ∙ e in cc)
+        absurd (let same = settled s of order (record { tables = qualified (prefixed (declared_by s.program).tables); next = None }) (program_events connections s.program) of.tables k apart in
+        let f : None ≡ Some c = sym (none_first s of order k is) ∙ ap base_in same ∙ e in cc)
+
+-- ---- where a connection stands
+
+-- A connection stands in the block in which the object stands that is inspected, or the class behind `when`, and connects that class.
+pub data MetAt (s : Source) (k : ℕ) : Type 0 where
+  looked_at : (u : ℕ) (e : Expression) → encloser s.tables k ≡ Some u → PlacedExpression s.tables u e → base s.tables k ≡ class_of_type s.tables (judge_side s.tables Statement e).value.ty → MetAt s k
+  named_at : (u : ℕ) (x : Identifier) → encloser s.tables k ≡ Some u → block_at s.tables x.token.0 ≡ Some u → base s.tables k ≡ class_of_name s.tables (binding s.tables x.token.0 x.name) → MetAt s k
+
+-- what was met last stands in a block, and is of this class
+abbrev LastMet : Source → (last : Option ℕ) → (next : Option ℕ) → Type 0
+LastMet s None next = Unit {0}
+LastMet s (Some u) next = (k : ℕ) → encloser s.tables k ≡ Some u → base s.tables k ≡ next → MetAt s k
+
+met_at : (s : Source) (k : ℕ) (es : List Connecting) (last next : Option ℕ) (n m : ℕ) → LastMet s last next → AllConnect s next es → LooksTo s last n es m → Apart s.tables.places k es ⊎ MetAt s k
+unfolding block_at
+met_at s k [] last next n m was connect looks = inl tt
+met_at s k (Looks e ∷ es) last next n m was connect looks =
+    met_at s k es (Some looks.0) (class_of_type s.tables (judge_side s.tables Statement e).value.ty) looks.1 m (λ j out is. looked_at looks.0 e out looks.4 is) connect looks.5
+met_at s k (Names x ∷ es) last next n m was connect looks =
+    met_at s k es (Some looks.0) (class_of_name s.tables (binding s.tables x.token.0 x.name)) looks.1 m (λ j out is. named_at looks.0 x out looks.4 is) connect looks.5
+met_at s k (Connects i ∷ es) last next n m was connect looks = go (nat_eq looks.0 k) refl (met_at s k es None next (suc looks.0) m tt connect.1 looks.3)
+  where
+    here : looks.0 ≡ k → MetAt s k
+    here same =
+        let out : encloser s.tables k ≡ Some looks.4.0 = subst (λ z. encloser s.tables z ≡ Some looks.4.0) same looks.4.2 in
+        subst (λ o. LastMet s o next) looks.4.1 was k out (connect.0 k (looks.2 ∙ ap Some same))
+
+    behind : (joined (slice_get s.tables.places i) ≡ Some k → ⊥) → Apart s.tables.places k es ⊎ MetAt s k → ((joined (slice_get s.tables.places i) ≡ Some k → ⊥) × Apart s.tables.places k es) ⊎ MetAt s k
+    behind other (inl a) = inl (other, a)
+    behind other (inr q) = inr q
+
+    go : (z : Bool) → nat_eq looks.0 k ≡ z → Apart s.tables.places k es ⊎ MetAt s k → ((joined (slice_get s.tables.places i) ≡ Some k → ⊥) × Apart s.tables.places k es) ⊎ MetAt s k
+    go true z rest = inr (here (let same : looks.0 ≡ k = grind (arith, nat_tests, z) in same))
+    go false z rest = behind (λ f. (let same : looks.0 ≡ k = some_same looks.0 k (sym looks.2 ∙ f) in absurd (grind (arith, nat_tests, z, same)))) rest
+
+pub connection_met : (s : Source) (of : TablesOf s) (order : InOrder s.program) → (k c : ℕ) → is_connection (text s k) ≡ true → base s.tables k ≡ Some c → MetAt s k
+unfolding completed connected base
+connection_met s of order k c is e =
+    let l = walk.looks s of order in
+    go (met_at s k (program_events connections s.program) None None 0 l.0 tt (connections_connect s of order) l.1)
+  where
+    go : Apart s.tables.places k (program_events connections s.program) ⊎ MetAt s k → MetAt s k
+    go (inr q) = q
+    go (inl apart) =
+        absurd (let same = settled s of order (record { tables = qualified (prefixed (declared_by s.program).tables); next = None }) (program_events connections s.program) of.tables k apart in
+        let f : None ≡ Some c = sym (none_first s of order k is) ∙ ap base_in same ∙ e in cc)

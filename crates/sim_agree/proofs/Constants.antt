@@ -23,7 +23,6 @@ use Rattle.sim_scope.specs.Source.{Source}
 use Rattle.sim_values.specs.Plain.{Plain as Value}
 use Rattle.sim_meaning.specs.Texts.{BlockText, ClassText, ConnectionText, PrefixedText, ProcedureText, StandardText, Text, among_declarations, among_variables, constant_in, constant_of, constant_value, kind_of_type, row_constant, text, value_in}
 use Rattle.sim_agree.specs.ConstantAt.{ConstantAt, InBlock, InClass, Lists, OneOf, at_first, further, head, tail, InPrefixed}
-use Rattle.sim_agree.specs.Plain.{Plain}
 use Rattle.sim_agree.specs.TablesOf.{TablesOf}
 use Rattle.sim_agree.proofs.Groups.{Has, OwnEntry, here, own_array, own_marks, own_segment, own_variable, there}
 use Rattle.sim_agree.proofs.Steps.{Parametric}
@@ -193,11 +192,11 @@ constant_like (entry.Formal f) ty o l = absurd o
 constant_like (entry.Unspecified w) ty o l = absurd o
 constant_like (entry.Attribute name given result) ty o l = absurd o
 
-pub constant_at : (s : Source) → TablesOf s → Plain s.program → InOrder s.program → (d : DeclNo) (ty : SimType) → entry_of s.tables d ≡ Some (entry.Constant ty) → ConstantAt s d ty
+pub constant_at : (s : Source) → TablesOf s → InOrder s.program → (d : DeclNo) (ty : SimType) → entry_of s.tables d ≡ Some (entry.Constant ty) → ConstantAt s d ty
 unfolding text constant_of
-constant_at s of plain order d ty e =
-    let r = t.entry_row s of plain order d (entry.Constant ty) e in
-    let w = t.text_of_row s of plain order d.0 r.0 r.1 in go r.0 r.1 r.2 w.0 w.1 w.2
+constant_at s of order d ty e =
+    let r = t.entry_row s of order d (entry.Constant ty) e in
+    let w = t.text_of_row s of order d.0 r.0 r.1 in go r.0 r.1 r.2 w.0 w.1 w.2
   where
     -- among the declarations of a block or a class
     found : (row : Declaration) → slice_get s.tables.declarations d.0 ≡ Some row → row.entry ≡ entry.Constant ty → (ds : Declarations) (i j : ℕ) → Between i (own_tokens ds) j → Own ds row
@@ -219,17 +218,17 @@ constant_at s of plain order d ty e =
           value = ap (row_constant s) at ∙ value row.token.0 ∙ ap (λ (z : TokenNo). among_declarations s z.0 ds) (sym p.token) ∙ q.value;
         }
 
-    go : (row : Declaration) → slice_get s.tables.declarations d.0 ≡ Some row → row.entry ≡ entry.Constant ty → (x : Text) → slice_get (Ts s of plain order) row.block ≡ Some x → RowIn (Bs s of plain order) (Ts s of plain order) x d.0 row → ConstantAt s d ty
+    go : (row : Declaration) → slice_get s.tables.declarations d.0 ≡ Some row → row.entry ≡ entry.Constant ty → (x : Text) → slice_get (Ts s of order) row.block ≡ Some x → RowIn (Bs s of order) (Ts s of order) x d.0 row → ConstantAt s d ty
     go row at same (BlockText i ds ss) there_ (own_row y p) =
-        let o = text_in_order s plain order row.block (BlockText i ds ss) there_ in
+        let o = text_in_order s order row.block (BlockText i ds ss) there_ in
         found row at same ds o.0 o.1 o.2 p (inl (record { begin = i; statements = ss; is = there_ })) (λ token. ap (λ z. constant_in s z token) there_)
     go row at same (ClassText prefix h ds ss) there_ (own_row y p) =
-        let o = text_in_order s plain order row.block (ClassText prefix h ds ss) there_ in
+        let o = text_in_order s order row.block (ClassText prefix h ds ss) there_ in
         found row at same ds o.0 o.1 o.2 p (inr (inl (record { prefix = prefix; heading = h; statements = ss; is = there_ }))) (λ token. ap (λ z. constant_in s z token) there_)
     go row at same (ProcedureText result h a) there_ (own_row y p) = absurd y
     go row at same ConnectionText there_ (own_row y p) = absurd y
     go row at same (PrefixedText class es ds ss) there_ (own_row y p) =
-        let o = text_in_order s plain order row.block (PrefixedText class es ds ss) there_ in
+        let o = text_in_order s order row.block (PrefixedText class es ds ss) there_ in
         found row at same ds o.0 o.1 o.2 p (inr (inr (record { class = class; arguments = es; statements = ss; is = there_ }))) (λ token. ap (λ z. constant_in s z token) there_)
     go row at same (StandardText which) there_ (own_row y p) = absurd y
     go row at same x there_ (procedure_row y p) = absurd (subst (Alike (entry.Procedure (result_named p.result) p.number)) same p.entry)

@@ -1,4 +1,4 @@
--- Where the tokens of a plain program are in order, a block whose text has a token is around the innermost block of that token.
+-- Where the tokens of a program are in order, a block whose text has a token is around the innermost block of that token.
 use Rattle.std.proofs.Common.{◌≡◌, ◌<◌, ◌≤◌, ◌+◌, ◌-◌, ◌⊎◌, inl, inr, ℕ, zero, suc, Bool, true, false, List, [], ◌∷◌, ◌++◌, length, Option, Some, None, refl, sym, ap, ◌∙◌, subst, arith}
 use Rattle.std.specs.Prelude.{nat_eq, nat_lt, replicate, slice_get, slice_set}
 use Rattle.std.proofs.lemmas.List.{length-append, length-set}
@@ -19,7 +19,6 @@ use Rattle.sim_scope.specs.Runs.{run}
 use Rattle.sim_scope.specs.Access.{around}
 use Rattle.sim_scope.specs.Tables.{BlockOf}
 use Rattle.sim_scope.proofs.Kept.{kept_set, more_here, more_other, set_here, set_other}
-use Rattle.sim_agree.specs.Plain.{Plain}
 use Rattle.sim_agree.proofs.Calm.{Calm, Span, class_calm, declared_calm, headed_calm, inner_calm, moded_calm, quals_calm, rule_calm, span, specified_calm, nothing_calm, prefix_calm, guards_calm}
 use Rattle.sim_agree.proofs.FineRuns.{run_both}
 use Rattle.sim_agree.proofs.Groups.{AreReferences, OfReferences, whole_prefix}
@@ -29,7 +28,7 @@ use Rattle.sim_agree.proofs.BroughtRows.{added_rows, bringing, with_standard}
 use Rattle.sim_agree.proofs.BroughtRuns.{FreshTop, brought_is, opened_top}
 use Rattle.sim_agree.proofs.StandardPrefixes.{Spells}
 use Rattle.sim_scope.specs.declared.types.StandardPrefix.{StandardPrefix}
-use Rattle.sim_agree.proofs.Laid.{Frame, Held, Laid, block, breaks_rule, closes, connects, declares, declares_class, headed, inner_mark, leaves, moded, nothing, parameter, passes, procedure, program, program_laid, specified, uses, Prefs, prefixed, unprefixed, guarded, prefixed_block, standard_block, standard_class}
+use Rattle.sim_agree.proofs.Laid.{Frame, Held, Laid, block, breaks_rule, classes, closes, connects, declares, declares_class, headed, inner_mark, leaves, moded, nothing, parameter, passes, procedure, program, program_laid, specified, uses, Prefs, prefixed, unprefixed, guarded, prefixed_block, standard_block, standard_class}
 use Rattle.sim_agree.proofs.Spots.{reached}
 use Rattle.sim_agree.proofs.Marks.{met}
 
@@ -560,13 +559,14 @@ standard_deep which front spelt b n token r cur last at from d = record {
 standard_run : (p : StandardPrefix) (c : BuildingOf) (top : FreshTop c) (token : ℕ) (y : Identifier) → Spells p y → (from : ℕ) → Deep c from → Deep (run marked c (whole_prefix p token y)) from
 standard_run p c top token y spelt from d = subst (λ z. Deep z from) (sym (brought_is p c top token y)) (standard_deep p y spelt c top.number token top.row top.current top.last top.at from d)
 
-pub run_deep : {os : List Frame} {ms : List Mark} {l : List Spot} {hs : List Held} (b : BuildingOf) (from : ℕ) → Laid os ms l hs → Ascends from l → Deep b from → (to : ℕ) × Deep (run marked b ms) to
+pub run_deep : {r : List ℕ} {os : List Frame} {ms : List Mark} {l : List Spot} {hs : List Held} (b : BuildingOf) (from : ℕ) → Laid r os ms l hs → Ascends from l → Deep b from → (to : ℕ) × Deep (run marked b ms) to
 unfolding run marked
 run_deep b from (nothing e) a d = (from, d)
 run_deep b from (uses x u i g) a d = run_deep b (i + 1) g a.1 (later_deep b from (i + 1) (let le : from ≤ i = a.0 in omega arith) d)
 run_deep b from (passes i g) a d = run_deep b (i + 1) g a.1 (later_deep b from (i + 1) (let le : from ≤ i = a.0 in omega arith) d)
+run_deep b from (classes i g) a d = run_deep b (i + 1) g a.1 (later_deep b from (i + 1) (let le : from ≤ i = a.0 in omega arith) d)
 run_deep b from (leaves i g) a d = run_deep b i g a.1 (later_deep b from i a.0 d)
-run_deep b from (declares {ms = ms} quals x e may q g) a d =
+run_deep b from (declares {ms = ms} quals x e may q now g) a d =
     let c : BuildingOf = run marked (declared b x e) quals in
     subst (λ z. (to : ℕ) × Deep z to) (sym (run_both (declared b x e) quals ms))
     (run_deep c (x.token.0 + 1) g a.1 (later_deep c from (x.token.0 + 1) (let le : from ≤ x.token.0 = a.0 in omega arith)
@@ -574,7 +574,7 @@ run_deep b from (declares {ms = ms} quals x e may q g) a d =
 run_deep b from (parameter x g) a d =
     run_deep (parameter_of b x) (x.token.0 + 1) g a.1 (later_deep (parameter_of b x) from (x.token.0 + 1) (let le : from ≤ x.token.0 = a.0 in omega arith) (still_deep b (parameter_of b x) from (parameter_still b x) d))
 run_deep b from (moded x m g) a d = run_deep _ from g a (calm_deep b _ from (moded_calm b x.token m (found_in b.tables b.current x.name)) d)
-run_deep b from (specified {ms = ms} quals x k ty p q g) a d =
+run_deep b from (specified {ms = ms} quals x k ty p q now g) a d =
     let c : BuildingOf = specified_of (met b (found_in b.tables b.current x.name)) x.token k ty (found_in b.tables b.current x.name) in
     subst (λ z. (to : ℕ) × Deep z to) (sym (run_both c quals ms))
     (run_deep (run marked c quals) from g a (calm_deep c (run marked c quals) from (quals_calm c (AreReferences ty) quals q) (calm_deep b c from (specified_calm b x.token k ty (found_in b.tables b.current x.name)) d)))
@@ -594,7 +594,7 @@ run_deep b from (standard_block {ms = ms} p text i class es ds ss e stands g) a 
     subst (λ z. (to : ℕ) × Deep z to) (sym (run_both o (whole_prefix p i class) ms))
     (run_deep k (i + 1) g a.1 (standard_run p o (opened_top b kind.Prefixed text i) i class e (i + 1) (opened_deep b kind.Prefixed text i from a.0 d)))
 run_deep b from (connects text i v y u g) a d = run_deep (opened b kind.Connection text i) (i + 1) g a.1 (opened_deep b kind.Connection text i from a.0 d)
-run_deep b from (procedure {ms = ms} text quals result h body q g) a d =
+run_deep b from (procedure {ms = ms} text quals result h body q now g) a d =
     let c0 : BuildingOf = declared b h.name (entry.Procedure (result_named result) (length b.tables.blocks)) in
     let c : BuildingOf = run marked c0 quals in
     let i : ℕ = h.name.token.0 in
@@ -628,6 +628,6 @@ nothing_deep = record {
   holds = λ i k j row e at c. absurd (cc);
 }
 
-pub program_deep : (p : Program) → Plain p → InOrder p → (to : ℕ) × Deep (declared_by p) to
+pub program_deep : (p : Program) → InOrder p → (to : ℕ) × Deep (declared_by p) to
 unfolding declared_by
-program_deep p q order = run_deep empty 0 (program_laid p q) order nothing_deep
+program_deep p order = run_deep empty 0 (program_laid p) order nothing_deep

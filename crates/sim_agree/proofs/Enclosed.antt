@@ -11,7 +11,6 @@ use Rattle.sim_scope.specs.Standard.{standard_prefix}
 use Rattle.sim_scope.specs.Source.{Source}
 use Rattle.sim_meaning.specs.Texts.{ConnectionText, text, StandardText, prefix_texts, standard_texts}
 use Rattle.sim_meaning.specs.Attributes.{is_connection}
-use Rattle.sim_agree.specs.Plain.{Plain}
 use Rattle.sim_agree.specs.TablesOf.{TablesOf}
 use Rattle.sim_agree.proofs.Laid.{Held, Joined, Whole, arms_held, block_held, declaration_held, declarations_held, held_program, program_held, statement_held, statements_held, text_held, prefixed_held, all_held}
 use Rattle.sim_agree.proofs.Placing as p
@@ -99,12 +98,12 @@ joined_at (Whole x ∷ hs) (suc n) h w at e = joined_at hs n h w.1 at e
 joined_at (Joined i a ∷ hs) zero h w at e = (i, a, refl)
 joined_at (Joined i a ∷ hs) (suc n) h w at e = joined_at hs n h w at e
 
-module _ (s : Source) (of : TablesOf s) (plain : Plain s.program) (order : InOrder s.program) where
+module _ (s : Source) (of : TablesOf s) (order : InOrder s.program) where
   pub connection_enclosed : (k : ℕ) → text s k ≡ Some ConnectionText → (u : ℕ) × (encloser s.tables k ≡ Some u)
   unfolding text encloser
   connection_enclosed k at =
-      let texts = held_program s.program.prefix s.program.block plain.block in
+      let texts = held_program s.program.prefix s.program.block in
       let h = p.what_is_held (program_held s.program.prefix s.program.block) k ConnectionText (ap (λ z. slice_get z k) texts ∙ at) in
       let j = joined_at (program_held s.program.prefix s.program.block) k h.0 (program_whole s.program.prefix s.program.block) h.1 h.2 in
-      let q = (program_final s.program plain order).laid.joins k j.0 j.1 j.2 in
-      (q.1.0, t.same_around s of plain order k ∙ q.1.1)
+      let q = (program_final s.program order).laid.joins k j.0 j.1 j.2 in
+      (q.1.0, t.same_around s of order k ∙ q.1.1)

@@ -1,4 +1,4 @@
--- What an identifier denotes in an allowed plain program, and in which block it is found.
+-- What an identifier denotes in an allowed program, and in which block it is found.
 use Rattle.std.proofs.Common.{◌≡◌, ◌<◌, ℕ, zero, suc, Bool, true, false, List, length, Option, Some, None, refl, sym, ap, ◌∙◌, subst, if◌then◌else◌}
 use Rattle.std.specs.Prelude.{◌||◌, nat_eq, slice_get}
 use Rattle.std.specs.Option.{option_or}
@@ -20,7 +20,6 @@ use Rattle.sim_meaning.specs.Texts.{text}
 use Rattle.sim_sound.specs.Held as held
 use Rattle.sim_sound.specs.Held.{Around, further}
 use Rattle.sim_agree.specs.Facts.{Found, FoundThrough}
-use Rattle.sim_agree.specs.Plain.{Plain}
 use Rattle.sim_agree.specs.TablesOf.{TablesOf}
 use Rattle.sim_agree.proofs.Tables as t
 use Rattle.sim_agree.proofs.Chains as chains
@@ -34,13 +33,13 @@ some_same a b e = cc
 in_range : {A : Type 0} (xs : List A) (n : ℕ) (o : Option A) → slice_get xs n ≡ o → (x : A) → o ≡ Some x → n < length xs
 in_range xs n o at x e = slice_get_within xs n x (at ∙ e)
 
-module _ (s : Source) (of : TablesOf s) (plain : Plain s.program) (order : InOrder s.program) where
+module _ (s : Source) (of : TablesOf s) (order : InOrder s.program) where
   bare : Showing s.tables
-  bare = t.shows s of plain order
+  bare = t.shows s of order
 
   -- what stands in a block
   block_stands : (k : ℕ) (d : DeclNo) → StandsIn s.tables k d → block_of s d ≡ k
-  block_stands k d q = t.block_is s of plain order d q.0 q.1 ∙ q.2
+  block_stands k d q = t.block_is s of order d q.0 q.1 ∙ q.2
 
   reaches_both : {k l b : ℕ} → Reaches s.tables k l → Reaches s.tables l b → Reaches s.tables k b
   reaches_both reach.itself r = r
@@ -62,11 +61,11 @@ module _ (s : Source) (of : TablesOf s) (plain : Plain s.program) (order : InOrd
 
   level_reached : (k b : ℕ) (d : DeclNo) → Reaches s.tables k b → StandsIn s.tables b d → has_level s.tables k (block_of s d) ≡ true
   unfolding has_level
-  level_reached k b d r at = subst (λ z. some_level_of s.tables (length s.tables.blocks) (λ c. nat_eq c z) k ≡ true) (sym (block_stands b d at)) (chains.reaches_level s.tables (length s.tables.blocks) k b (chains.all_end s of plain order k) r)
+  level_reached k b d r at = subst (λ z. some_level_of s.tables (length s.tables.blocks) (λ c. nat_eq c z) k ≡ true) (sym (block_stands b d at)) (chains.reaches_level s.tables (length s.tables.blocks) k b (chains.all_end s of order k) r)
 
   -- a class that is connected shows what it shows alone
   through_class : (k b : ℕ) (d : DeclNo) → is_connection (text s k) ≡ true → Reaches s.tables k b → StandsIn s.tables b d → FoundThrough s true k (block_of s d)
-  through_class k b d is reach.itself at = absurd (t.nothing_stands_in_connections s of plain order k is d at)
+  through_class k b d is reach.itself at = absurd (t.nothing_stands_in_connections s of order k is d at)
   through_class k b d is (through {b = c} up r) at = (c, up, level_reached c b d r at)
 
   record Shows (k : ℕ) (d : DeclNo) : Type 0 where
@@ -89,7 +88,7 @@ module _ (s : Source) (of : TablesOf s) (plain : Plain s.program) (order : InOrd
       q = shown_stands from k name f d e rep
 
       r : (e : Entry) × (entry_of s.tables d ≡ Some e)
-      r = (q.2.0.entry, t.row_entry s of plain order d q.2.0 q.2.1)
+      r = (q.2.0.entry, t.row_entry s of order d q.2.0 q.2.1)
 
       go : (c : Bool) → is_connection (text s k) ≡ c → Shows k d
       go false at = record { through = subst (λ z. FoundThrough s z k (block_of s d)) (sym at) (level_reached k q.0 d q.1 q.2); entry = r.0; is = r.1 }
@@ -143,6 +142,6 @@ module _ (s : Source) (of : TablesOf s) (plain : Plain s.program) (order : InOrd
       go (Some f) k at g =
           let rep : represented s.tables f ≡ d = cc in
           let q = shown_stands (Some token) block name f d at rep in
-          (q.2.0.entry, t.row_entry s of plain order d q.2.0 q.2.1, level_reached block q.0 d q.1 q.2)
+          (q.2.0.entry, t.row_entry s of order d q.2.0 q.2.1, level_reached block q.0 d q.1 q.2)
       go None (Some k) at g = absurd (cc)
       go None None at g = absurd (cc)

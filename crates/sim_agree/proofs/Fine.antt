@@ -1,4 +1,4 @@
--- The tables of a plain program agree with one another and with its texts, whatever rules its declarations break.
+-- The tables of a program agree with one another and with its texts, whatever rules its declarations break.
 use Rattle.std.proofs.Common.{◌≡◌, ◌<◌, ◌+◌, ◌⊎◌, inl, inr, ℕ, zero, suc, Bool, true, false, List, [], ◌∷◌, ◌++◌, length, Option, Some, None, refl, sym, ap, ◌∙◌, subst, arith}
 use Rattle.std.specs.Prelude.{nat_eq, nat_lt, slice_get}
 use Rattle.std.specs.List.{position_or_len}
@@ -203,11 +203,17 @@ Brought b = (k : ℕ) (d : DeclNo) → Among d (brought_of (slice_get b.tables.b
 abbrev pub NamedBrought : BuildingOf → Type 0
 NamedBrought b = (k : ℕ) → Named b.tables.declarations (brings_of (slice_get b.tables.blocks k))
 
+-- a block that none is around is on the first level
+abbrev pub TopFixed : Fixed → Type 0
+TopFixed None = Unit {0}
+TopFixed (Some x) = x.encloser ≡ None → x.level ≡ 1
+
 pub record Fine (b : BuildingOf) (ts : List Text) (os : List Open) : Type 0 where
   pub size : length b.tables.blocks ≡ length ts
   pub stack : Stack b.tables.blocks ts b.current os
   pub nested : (t u : ℕ) → around (slice_get b.tables.blocks t) ≡ Some u → u < t
   pub levels : (t u : ℕ) → around (slice_get b.tables.blocks t) ≡ Some u → level_of_row (slice_get b.tables.blocks t) ≡ deeper_in (slice_get b.tables.blocks t) (level_of_row (slice_get b.tables.blocks u))
+  pub tops : (t : ℕ) → TopFixed (fixed (slice_get b.tables.blocks t))
   pub kinds : (t : ℕ) → KindIs (slice_get b.tables.blocks t) (slice_get ts t)
   pub listed : (d : ℕ) (row : Declaration) → slice_get b.tables.declarations d ≡ Some row → row.listed ≡ true → Among (record { 0 = d }) (numbers_in (slice_get b.tables.blocks row.block))
   pub evens : AllEven b.tables.blocks
@@ -566,6 +572,7 @@ module _ (b c : BuildingOf) (New : ℕ → Declaration → Type 0) (s : Step b c
     levels = λ t u is.
         level t ∙ f.levels t u (sym (out t) ∙ is) ∙ ap (deeper_in (slice_get b.tables.blocks t)) (sym (level u))
         ∙ sym (same_deeper (slice_get c.tables.blocks t) (slice_get b.tables.blocks t) (level_of_row (slice_get c.tables.blocks u)) (s.fixes t));
+    tops = λ t. subst TopFixed (sym (s.fixes t)) (f.tops t);
     kinds = λ t. same_kind (slice_get c.tables.blocks t) (slice_get b.tables.blocks t) (slice_get ts t) (s.fixes t) (f.kinds t);
     listed = λ d row is l. listed d row l (s.rows d row is);
     evens = s.evens f.evens;
@@ -687,13 +694,14 @@ module _ (b : BuildingOf) (new : BlockOf) (places : List (Option ℕ)) (ts : Lis
       let same : length b.tables.blocks ≡ length ts = f.size in
       (ap fixed (more_other b.tables.blocks new n (let P : nat_eq n (length b.tables.blocks) ≡ false = grind (arith, nat_tests) in P)), more_text ts (x ∷ []) n y is)
 
-  pub begun_fine : (owed : List Mark) (os : List Open) → new.encloser ≡ b.current → new.numbers ≡ [] → new.names ≡ [] → ((u : ℕ) → b.current ≡ Some u → new.level ≡ deeper new.kind (level_of_row (slice_get b.tables.blocks u))) → KindIs (Some new) (Some x) → extras_in (Some new) ≡ no_extras → new.base ≡ None → brings_of (Some new) ≡ brings_of None → new.prefix ≡ None → Ordinary x
+  pub begun_fine : (owed : List Mark) (os : List Open) → new.encloser ≡ b.current → new.numbers ≡ [] → new.names ≡ [] → ((u : ℕ) → b.current ≡ Some u → new.level ≡ deeper new.kind (level_of_row (slice_get b.tables.blocks u))) → (b.current ≡ None → new.level ≡ 1) → KindIs (Some new) (Some x) → extras_in (Some new) ≡ no_extras → new.base ≡ None → brings_of (Some new) ≡ brings_of None → new.prefix ≡ None → Ordinary x
       → Fine b ts os → Fine With (ts ++ x ∷ []) (item x owed ∷ os)
-  begun_fine owed os out none nameless level fits without bottom unbrought unheaded ordinary f = record {
+  begun_fine owed os out none nameless level top fits without bottom unbrought unheaded ordinary f = record {
     size = length-append bs (new ∷ []) ∙ (let e : length bs ≡ length ts = f.size in ap (λ z. z + 1) e) ∙ sym (length-append ts (x ∷ []));
     stack = (length bs, refl, at, subst (λ z. Stack (bs ++ new ∷ []) (ts ++ x ∷ []) z os) (sym (here ∙ out)) (stack_kept bs (bs ++ new ∷ []) ts (ts ++ x ∷ []) (begun_keeps os f) os b.current f.stack));
     nested = λ t u is. nested t u (nat_eq t (length bs)) refl is;
     levels = λ t u is. levels t u (nat_eq t (length bs)) refl is;
+    tops = λ t. tops t (nat_eq t (length bs)) refl;
     kinds = λ t. kinds t (nat_eq t (length bs)) refl;
     listed = λ d row is l. listed d row (nat_eq row.block (length bs)) refl (f.listed d row is l);
     evens = λ j. evens j (nat_eq j (length bs)) refl;
@@ -756,6 +764,10 @@ module _ (b : BuildingOf) (new : BlockOf) (places : List (Option ℕ)) (ts : Lis
           let was : around (slice_get bs t) ≡ Some u = sym (ap around (more_other bs new t e)) ∙ is in
           ap level_of_row (more_other bs new t e) ∙ f.levels t u was ∙ ap (deeper_in (slice_get bs t)) (sym (level_old u (bounded t u was)))
           ∙ sym (ap (λ o. deeper_in o (level_of_row (slice_get (bs ++ new ∷ []) u))) (more_other bs new t e))
+
+      tops : (t : ℕ) (c : Bool) → nat_eq t (length bs) ≡ c → TopFixed (fixed (slice_get (bs ++ new ∷ []) t))
+      tops t true e = subst (λ o. TopFixed (fixed o)) (sym (is_new t e)) (λ none. top (sym out ∙ none))
+      tops t false e = subst (λ o. TopFixed (fixed o)) (sym (more_other bs new t e)) (f.tops t)
 
       kinds : (t : ℕ) (c : Bool) → nat_eq t (length bs) ≡ c → KindIs (slice_get (bs ++ new ∷ []) t) (slice_get (ts ++ x ∷ []) t)
       kinds t true e =

@@ -27,7 +27,7 @@ closed_row b end n (Some row) ts x os cur at is under a =
     let s : Step b c Nothing = row_step b b Nothing n row new cur at refl refl refl refl refl refl (same_step b b Nothing refl refl) in
     let f : Fine c ts (item x [] ∷ os) = step_fine b c Nothing s ts (item x [] ∷ os) a.fine in
     let g : Rows c ts = step_rows b c Nothing s ts (λ d r q. absurd q) a.rows in record {
-      fine = record { size = f.size; stack = subst (λ z. Stack c.tables.blocks ts z os) (ap around at) (stack_kept b.tables.blocks c.tables.blocks ts ts (step_keeps b c Nothing s ts) os (around (slice_get b.tables.blocks n)) under); nested = f.nested; levels = f.levels; kinds = f.kinds; listed = f.listed; evens = f.evens; finds = f.finds; own = f.own; rising = f.rising; based = f.based; bare = record { blocks = f.bare.blocks }; known = f.known; standards = f.standards; headed = f.headed; textless = f.textless; brought = f.brought; named = f.named };
+      fine = record { size = f.size; stack = subst (λ z. Stack c.tables.blocks ts z os) (ap around at) (stack_kept b.tables.blocks c.tables.blocks ts ts (step_keeps b c Nothing s ts) os (around (slice_get b.tables.blocks n)) under); nested = f.nested; levels = f.levels; tops = f.tops; kinds = f.kinds; listed = f.listed; evens = f.evens; finds = f.finds; own = f.own; rising = f.rising; based = f.based; bare = record { blocks = f.bare.blocks }; known = f.known; standards = f.standards; headed = f.headed; textless = f.textless; brought = f.brought; named = f.named };
       rows = g;
     }
 
@@ -39,7 +39,7 @@ closed_agrees b end ts x os a =
 -- ---- a block begins
 
 if_agrees : (c : Bool) (b : BuildingOf) (token : ℕ) (rule : Rule) (ts : List Text) (os : List Open) → Agree b ts os → Agree (broken_if c b token rule) ts os
-if_agrees true b token rule ts os a = record { fine = record { size = a.fine.size; stack = a.fine.stack; nested = a.fine.nested; levels = a.fine.levels; kinds = a.fine.kinds; listed = a.fine.listed; evens = a.fine.evens; finds = a.fine.finds; own = a.fine.own; rising = a.fine.rising; based = a.fine.based; bare = a.fine.bare; known = a.fine.known; standards = a.fine.standards; headed = a.fine.headed; textless = a.fine.textless; brought = a.fine.brought; named = a.fine.named }; rows = a.rows }
+if_agrees true b token rule ts os a = record { fine = record { size = a.fine.size; stack = a.fine.stack; nested = a.fine.nested; levels = a.fine.levels; tops = a.fine.tops; kinds = a.fine.kinds; listed = a.fine.listed; evens = a.fine.evens; finds = a.fine.finds; own = a.fine.own; rising = a.fine.rising; based = a.fine.based; bare = a.fine.bare; known = a.fine.known; standards = a.fine.standards; headed = a.fine.headed; textless = a.fine.textless; brought = a.fine.brought; named = a.fine.named }; rows = a.rows }
 if_agrees false b token rule ts os a = a
 
 abbrev pub fresh : BuildingOf → BlockKind → ℕ → BlockOf
@@ -67,6 +67,6 @@ pub opened_agrees : (b : BuildingOf) (k : BlockKind) (text first : ℕ) (ts : Li
 opened_agrees b k text first ts x owed os fits ordinary f g =
     if_agrees (nat_lt most_levels (level_in k (block_around b.tables b.current))) (With b (fresh b k first) (placed b.tables b.current first).places ts x) text r.TooManyLevels (ts ++ x ∷ []) (item x owed ∷ os) (record {
       fine = begun_fine b (fresh b k first) (placed b.tables b.current first).places ts x owed os refl refl refl
-          (λ u cur. subst (λ z. level_in k (block_around b.tables z) ≡ deeper k (level_of_row (slice_get b.tables.blocks u))) (sym cur) (level_new k b.tables.blocks u (current_within b ts os f u cur))) fits refl refl refl refl ordinary f;
+          (λ u cur. subst (λ z. level_in k (block_around b.tables z) ≡ deeper k (level_of_row (slice_get b.tables.blocks u))) (sym cur) (level_new k b.tables.blocks u (current_within b ts os f u cur))) (λ none. ap (λ z. level_in k (block_around b.tables z)) none) fits refl refl refl refl ordinary f;
       rows = g;
     })

@@ -1,4 +1,4 @@
--- The marks of a plain program, one after the other: behind each of them the tables agree with the texts.
+-- The marks of a program, one after the other: behind each of them the tables agree with the texts.
 use Rattle.std.proofs.Common.{◌≡◌, ◌⊎◌, inl, inr, ℕ, List, [], ◌∷◌, ◌++◌, length, Option, Some, None, refl, sym, ap, ◌∙◌, subst, append-nil, append_assoc, false, true}
 use Rattle.std.specs.Prelude.{slice_get}
 use Rattle.sim_base.specs.declared.numbering.DeclNo.{DeclNo}
@@ -200,7 +200,7 @@ pub step_agrees : (b c : BuildingOf) (New : ℕ → Declaration → Type 0) (x :
     → ((d : ℕ) (row : Declaration) → New d row → RowOf c.tables.blocks ts (slice_get ts row.block) d row)
     → Agree b ts (item x owed ∷ os) → Agree c ts (item x later ∷ os)
 step_agrees b c New x owed later ts os s new g = record {
-  fine = step_fine b c New s ts (item x later ∷ os) (record { size = g.fine.size; stack = g.fine.stack; nested = g.fine.nested; levels = g.fine.levels; kinds = g.fine.kinds; listed = g.fine.listed; evens = g.fine.evens; finds = g.fine.finds; own = g.fine.own; rising = g.fine.rising; based = g.fine.based; bare = g.fine.bare; known = g.fine.known; standards = g.fine.standards; headed = g.fine.headed; textless = g.fine.textless; brought = g.fine.brought; named = g.fine.named });
+  fine = step_fine b c New s ts (item x later ∷ os) (record { size = g.fine.size; stack = g.fine.stack; nested = g.fine.nested; levels = g.fine.levels; tops = g.fine.tops; kinds = g.fine.kinds; listed = g.fine.listed; evens = g.fine.evens; finds = g.fine.finds; own = g.fine.own; rising = g.fine.rising; based = g.fine.based; bare = g.fine.bare; known = g.fine.known; standards = g.fine.standards; headed = g.fine.headed; textless = g.fine.textless; brought = g.fine.brought; named = g.fine.named });
   rows = step_rows b c New s ts new g.rows;
 }
 
@@ -365,8 +365,8 @@ run_agrees b ts (specifies_virtual {os = os} {ms = ms} {xs = xs} x owed quals y 
     subst (λ c. Agree c (ts ++ xs) []) (sym (run_both (declared b y e) quals ms))
     (run_agrees (run marked (declared b y e) quals) ts g w (virtual_agrees b x owed quals y (result_named result) ts os d q a))
 run_agrees b ts (parameter_mark {os = os} x owed y d has g) w a = run_agrees (parameter b y) ts g w (parameter_agrees b x owed y ts os d a)
-run_agrees b ts (moded {os = os} x owed y m written g) w a = run_agrees _ ts g w (quiet_agrees b _ ts (item x owed ∷ os) (moded_step b y.token m (found_in b.tables b.current y.name)) a)
-run_agrees b ts (specified {os = os} {ms = ms} {xs = xs} x owed quals y k ty written p q g) w a =
+run_agrees b ts (moded {os = os} x owed y m takes g) w a = run_agrees _ ts g w (quiet_agrees b _ ts (item x owed ∷ os) (moded_step b y.token m (found_in b.tables b.current y.name)) a)
+run_agrees b ts (specified {os = os} {ms = ms} {xs = xs} x owed quals y k ty takes p q g) w a =
     let c : BuildingOf = specified_of (met b (found_in b.tables b.current y.name)) y.token k ty (found_in b.tables b.current y.name) in
     subst (λ c. Agree c (ts ++ xs) []) (sym (run_both c quals ms))
     (run_agrees (run marked c quals) ts g w (quiet_agrees b (run marked c quals) ts (item x owed ∷ os) (quals_step b c Nothing (AreReferences ty) quals q (specified_met b y.token k ty (found_in b.tables b.current y.name) p)) a))

@@ -1,4 +1,4 @@
--- What is known of each text of a plain program beside where its parts stand: a dot is another token than the attribute behind it, `inner` stands
+-- What is known of each text of a program beside where its parts stand: a dot is another token than the attribute behind it, `inner` stands
 -- in the body of a class alone, and a connection connects the class that is looked up in front of it.
 use Rattle.std.proofs.Common.{◌≡◌, ◌≤◌, ◌+◌, ℕ, zero, suc, Bool, true, false, List, [], ◌∷◌, ◌++◌, Option, Some, None, refl, subst, arith}
 use Rattle.std.specs.Prelude.{nat_eq, slice_get}
@@ -9,8 +9,8 @@ use Rattle.sim_tree.specs.declared.stmt.TypeName.TheVariants as type_name
 use Rattle.sim_tree.specs.declared.stmt.Variable.{Variable}
 use Rattle.sim_tree.specs.Named.{all_named, named}
 use Rattle.sim_tree.specs.Order.{Ascends, Behind, Spot, Token, in_bounds, in_each, in_element, in_expression, in_name, in_result, in_schedule, in_segment, in_side, in_type, in_variable, tokens, in_prefix}
-use Rattle.sim_agree.specs.Order.{InOrder, in_arms, in_block, in_declaration, in_declarations, in_statement, in_statements, in_virtual}
-use Rattle.sim_tree.specs.Syntax.{Also, Arms, Arrayed, Arrays, Begin, Block, BoundPair, Declaration, Declarations, DeclareClass, DeclareProcedure, Element, Expression, Expressions, Heading, Interface, NoArm, NoDeclaration, NoStatement, RightSide, Schedule, Statement, Statements, Variables, Virtual, When, With, Prefix}
+use Rattle.sim_agree.specs.Order.{InOrder, in_arms, in_block, in_declaration, in_declarations, in_heading, in_specification, in_specified, in_statement, in_statements, in_virtual}
+use Rattle.sim_tree.specs.Syntax.{Also, Arms, Arrayed, Arrays, Begin, Block, BoundPair, Declaration, Declarations, DeclareClass, DeclareProcedure, Element, Expression, Expressions, Heading, Interface, NoArm, NoDeclaration, NoStatement, RightSide, Schedule, Specification, Specified as Specifier, Statement, Statements, Variables, Virtual, When, With, Prefix}
 use Rattle.sim_tree.specs.Syntax as syntax
 use Rattle.sim_scope.specs.declared.types.StandardPrefix.{StandardPrefix}
 use Rattle.sim_scope.specs.declared.types.StandardPrefix.TheVariants as prefixes
@@ -31,9 +31,8 @@ use Rattle.sim_scope.specs.Source.{Source}
 use Rattle.sim_scope.specs.Walk.{arms_events, begin_of, block_events, class_events, declaration_events, declarations_events, program_events, statement_events, statements_events, whole_events}
 use Rattle.inspect_types.specs.Connecting.{Connecting, Connects, Looks, Names, class_of_name as connected_name, class_of_type as connected_type, connections}
 use Rattle.sim_meaning.specs.Texts.{BlockText, ClassText, ProcedureText, Text, arms_texts, block_texts, declaration_texts, declarations_texts, program_texts, statement_texts, statements_texts, text, prefix_texts, PrefixedText, prefixed_texts}
-use Rattle.sim_agree.specs.Places.{class_of_name, class_of_type}
+use Rattle.sim_agree.specs.Places.{Each, class_of_name, class_of_type}
 use Rattle.sim_agree.proofs.Groups.{NoBreaks}
-use Rattle.sim_agree.specs.Plain.{Each, Plain, PlainArms, PlainBlock, PlainDeclaration, PlainDeclarations, PlainStatement, PlainStatements, PlainStart}
 use Rattle.sim_agree.proofs.StandardPrefixes.{behind_prefix, brought_texts}
 
 -- ---- what is known
@@ -306,6 +305,22 @@ virtual_passes v l from h =
     let r = result_passes v.result (in_each in_name v.names l) from h in
     let x = each_dots in_name Any name_passes v.names l r.0 r.1 in (tt, x.1)
 
+abbrev AnySpecification : Specification → Type 0
+AnySpecification x = Unit {0}
+
+specification_passes : (x : Specification) (l : List Spot) (from : ℕ) → Ascends from (in_specification x l) → AnySpecification x × Rest l
+specification_passes x l from h = go x.kind h
+  where
+    go : (k : Specifier) → Ascends from (in_specified k l) → Unit {0} × Rest l
+    go (syntax.Simple type) h = (tt, type_passes type l from h)
+    go (syntax.Array type i) h = (tt, type_passes type l from h)
+    go (syntax.Procedure result i) h = (tt, result_passes result l from h)
+
+heading_passes : (g : Heading) (l : List Spot) (from : ℕ) → Ascends from (in_heading g l) → Rest l
+heading_passes g l from h =
+    let f = each_dots in_name Any name_passes g.formals (in_each in_specification g.specifications l) from h in
+    (each_dots in_specification AnySpecification specification_passes g.specifications l f.1.0 f.1.1).1
+
 -- ---- the walk over a program
 
 -- the body of a class is read as its own text, where it is a block
@@ -339,180 +354,179 @@ module _ (s : Source) (C : Meets) where
   mutual
     unfolding declaring inner_marks connections
 
-    statement_fitted : (q : Position) (w : Bool) → (Allows q → Given w) → (a : Statement) → InClass q a → PlainStatement a → NoBreaks (statement_events declaring q a) → Connected s C (statement_events connections q a) → (l : List Spot) (from : ℕ) → Ascends from (in_statement a l)
+    statement_fitted : (q : Position) (w : Bool) → (Allows q → Given w) → (a : Statement) → InClass q a → NoBreaks (statement_events declaring q a) → Connected s C (statement_events connections q a) → (l : List Spot) (from : ℕ) → Ascends from (in_statement a l)
         → FittedStatement s C w a × AllFitted s C (statement_texts a) × Rest l
-    statement_fitted q w f (syntax.Empty i) c p b k l from h = (tt, tt, (from, h))
-    statement_fitted ClassBody w f (syntax.Compound x) c p b k l from h = absurd c
-    statement_fitted ClassStatement w f (syntax.Compound x) c p b k l from h = block_fitted w x p b k l from h
-    statement_fitted Inside w f (syntax.Compound x) c p b k l from h = block_fitted w x p b k l from h
-    statement_fitted ClassBody w f (syntax.Inner i) c p b k l from h = absurd b
-    statement_fitted ClassStatement w f (syntax.Inner i) c p b k l from h = (f tt, tt, (i + 1, h.1))
-    statement_fitted Inside w f (syntax.Inner i) c p b k l from h = absurd b
-    statement_fitted q w f (syntax.Call e) c p b k l from h = let d = one_dots e l from h in (d.0, tt, d.1)
-    statement_fitted q w f (syntax.Assign e sides) c p b k l from h =
+    statement_fitted q w f (syntax.Empty i) c b k l from h = (tt, tt, (from, h))
+    statement_fitted ClassBody w f (syntax.Compound x) c b k l from h = absurd c
+    statement_fitted ClassStatement w f (syntax.Compound x) c b k l from h = block_fitted w x b k l from h
+    statement_fitted Inside w f (syntax.Compound x) c b k l from h = block_fitted w x b k l from h
+    statement_fitted ClassBody w f (syntax.Inner i) c b k l from h = absurd b
+    statement_fitted ClassStatement w f (syntax.Inner i) c b k l from h = (f tt, tt, (i + 1, h.1))
+    statement_fitted Inside w f (syntax.Inner i) c b k l from h = absurd b
+    statement_fitted q w f (syntax.Call e) c b k l from h = let d = one_dots e l from h in (d.0, tt, d.1)
+    statement_fitted q w f (syntax.Assign e sides) c b k l from h =
         let d = one_dots e (in_each in_side sides l) from h in
         let g = each_dots in_side DotsSide side_dots sides l d.1.0 d.1.1 in ((d.0, g.0), tt, g.1)
-    statement_fitted q w f (syntax.Choose i e a other) c p b k l from h =
+    statement_fitted q w f (syntax.Choose i e a other) c b k l from h =
         let n = both_unbroken (statement_events declaring Inside a) (statements_events declaring Inside other) b in
         let j = parts_connect s C (statement_events connections Inside a) (statements_events connections Inside other) k in
         let d = one_dots e (in_statement a (in_statements other l)) from h in
-        let x = statement_fitted Inside w (λ z. absurd z) a tt p.1 n.0 j.0 (in_statements other l) d.1.0 d.1.1 in
-        let y = statements_fitted Inside w (λ z. absurd z) other tt p.2 n.1 j.1 l x.2.0 x.2.1 in
+        let x = statement_fitted Inside w (λ z. absurd z) a tt n.0 j.0 (in_statements other l) d.1.0 d.1.1 in
+        let y = statements_fitted Inside w (λ z. absurd z) other tt n.1 j.1 l x.2.0 x.2.1 in
         ((d.0, x.0, y.0), both_fitted s C (statement_texts a) (statements_texts other) x.1 y.1, y.2)
-    statement_fitted q w f (syntax.Repeat i e a) c p b k l from h =
+    statement_fitted q w f (syntax.Repeat i e a) c b k l from h =
         let d = one_dots e (in_statement a l) from h in
-        let x = statement_fitted Inside w (λ z. absurd z) a tt p.1 b k l d.1.0 d.1.1 in ((d.0, x.0), x.1, x.2)
-    statement_fitted q w f (syntax.For i name sign j es a) c p b k l from h =
+        let x = statement_fitted Inside w (λ z. absurd z) a tt b k l d.1.0 d.1.1 in ((d.0, x.0), x.1, x.2)
+    statement_fitted q w f (syntax.For i name sign j es a) c b k l from h =
         let d = each_dots in_element DotsElement element_dots es (in_statement a l) (name.token.0 + 1) h.1 in
-        let x = statement_fitted Inside w (λ z. absurd z) a tt p.1 b k l d.1.0 d.1.1 in ((d.0, x.0), x.1, x.2)
-    statement_fitted q w f (syntax.Inspect i e opening a end other) c p b k l from h =
+        let x = statement_fitted Inside w (λ z. absurd z) a tt b k l d.1.0 d.1.1 in ((d.0, x.0), x.1, x.2)
+    statement_fitted q w f (syntax.Inspect i e opening a end other) c b k l from h =
         let n = both_unbroken (statement_events declaring Inside a) (Closes end ∷ statements_events declaring Inside other) b in
         let ty : Option SimType = (judge_side s.tables extent.Statement e).value.ty in
         let j = parts_connect s C (statement_events connections Inside a) (statements_events connections Inside other) (connected_type s.tables ty, k.1.1) in
         let d = one_dots e (Token opening ∷ in_statement a (Behind end ∷ in_statements other l)) from h in
-        let x = statement_fitted Inside false (λ z. z) a tt p.1 n.0 j.0 (Behind end ∷ in_statements other l) (opening + 1) d.1.1.1 in
-        let y = statements_fitted Inside w (λ z. absurd z) other tt p.2 n.1 j.1 l end x.2.1.1 in
+        let x = statement_fitted Inside false (λ z. z) a tt n.0 j.0 (Behind end ∷ in_statements other l) (opening + 1) d.1.1.1 in
+        let y = statements_fitted Inside w (λ z. absurd z) other tt n.1 j.1 l end x.2.1.1 in
         ((d.0, subst (C opening) (same_type s ty) k.1.0, x.0, y.0), (tt, both_fitted s C (statement_texts a) (statements_texts other) x.1 y.1), y.2)
-    statement_fitted q w f (syntax.InspectWhen i e arms other) c p b k l from h =
+    statement_fitted q w f (syntax.InspectWhen i e arms other) c b k l from h =
         let n = both_unbroken (arms_events declaring arms) (statements_events declaring Inside other) b in
         let j = parts_connect s C (arms_events connections arms) (statements_events connections Inside other) k in
         let d = one_dots e (in_arms arms (in_statements other l)) from h in
-        let x = arms_fitted arms p.1 n.0 j.0 (in_statements other l) d.1.0 d.1.1 in
-        let y = statements_fitted Inside w (λ z. absurd z) other tt p.2 n.1 j.1 l x.2.0 x.2.1 in
+        let x = arms_fitted arms n.0 j.0 (in_statements other l) d.1.0 d.1.1 in
+        let y = statements_fitted Inside w (λ z. absurd z) other tt n.1 j.1 l x.2.0 x.2.1 in
         ((d.0, x.0, y.0), both_fitted s C (arms_texts arms) (statements_texts other) x.1 y.1, y.2)
-    statement_fitted q w f (syntax.Prefixed class es x) c p b k l from h = prefixed_fitted class es x p.1 b k l from h
-    statement_fitted q w f (syntax.Activate i word e schedule) c p b k l from h =
+    statement_fitted q w f (syntax.Prefixed class es x) c b k l from h = prefixed_fitted class es x b k l from h
+    statement_fitted q w f (syntax.Activate i word e schedule) c b k l from h =
         let d = one_dots e (in_schedule schedule l) (i + 1) h.1 in
         let g = schedule_dots schedule l d.1.0 d.1.1 in ((d.0, g.0), tt, g.1)
 
-    arms_fitted : (arms : Arms) → PlainArms arms → NoBreaks (arms_events declaring arms) → Connected s C (arms_events connections arms) → (l : List Spot) (from : ℕ) → Ascends from (in_arms arms l) → FittedArms s C arms × AllFitted s C (arms_texts arms) × Rest l
-    arms_fitted NoArm p b k l from h = (tt, tt, (from, h))
-    arms_fitted (When i class opening a end more) p b k l from h =
+    arms_fitted : (arms : Arms) → NoBreaks (arms_events declaring arms) → Connected s C (arms_events connections arms) → (l : List Spot) (from : ℕ) → Ascends from (in_arms arms l) → FittedArms s C arms × AllFitted s C (arms_texts arms) × Rest l
+    arms_fitted NoArm b k l from h = (tt, tt, (from, h))
+    arms_fitted (When i class opening a end more) b k l from h =
         let n = both_unbroken (statement_events declaring Inside a ++ Closes end ∷ []) (arms_events declaring more) b in
         let m = both_unbroken (statement_events declaring Inside a) (Closes end ∷ []) n.0 in
         let o : Option Denotation = binding s.tables class.token.0 class.name in
         let j = parts_connect s C (statement_events connections Inside a ++ []) (arms_events connections more) (connected_name s.tables o, k.1.1) in
         let g = parts_connect s C (statement_events connections Inside a) [] j.0 in
-        let x = statement_fitted Inside false (λ z. z) a tt p.0 m.0 g.0 (Behind end ∷ in_arms more l) (opening + 1) h.1.1 in
-        let y = arms_fitted more p.1 n.1 j.1 l end x.2.1.1 in
+        let x = statement_fitted Inside false (λ z. z) a tt m.0 g.0 (Behind end ∷ in_arms more l) (opening + 1) h.1.1 in
+        let y = arms_fitted more n.1 j.1 l end x.2.1.1 in
         ((subst (C opening) (same_name s o) k.1.0, x.0, y.0), (tt, both_fitted s C (statement_texts a) (arms_texts more) x.1 y.1), y.2)
 
-    statements_fitted : (q : Position) (w : Bool) → (Allows q → Given w) → (ss : Statements) → NoBody q → PlainStatements ss → NoBreaks (statements_events declaring q ss) → Connected s C (statements_events connections q ss) → (l : List Spot) (from : ℕ) → Ascends from (in_statements ss l)
+    statements_fitted : (q : Position) (w : Bool) → (Allows q → Given w) → (ss : Statements) → NoBody q → NoBreaks (statements_events declaring q ss) → Connected s C (statements_events connections q ss) → (l : List Spot) (from : ℕ) → Ascends from (in_statements ss l)
         → FittedStatements s C w ss × AllFitted s C (statements_texts ss) × Rest l
-    statements_fitted q w f NoStatement c p b k l from h = (tt, tt, (from, h))
-    statements_fitted q w f (Also a more) c p b k l from h =
+    statements_fitted q w f NoStatement c b k l from h = (tt, tt, (from, h))
+    statements_fitted q w f (Also a more) c b k l from h =
         let n = both_unbroken (statement_events declaring q a) (statements_events declaring q more) b in
         let j = parts_connect s C (statement_events connections q a) (statements_events connections q more) k in
-        let x = statement_fitted q w f a (in_class q a c) p.0 n.0 j.0 (in_statements more l) from h in
-        let y = statements_fitted q w f more c p.1 n.1 j.1 l x.2.0 x.2.1 in
+        let x = statement_fitted q w f a (in_class q a c) n.0 j.0 (in_statements more l) from h in
+        let y = statements_fitted q w f more c n.1 j.1 l x.2.0 x.2.1 in
         ((x.0, y.0), both_fitted s C (statement_texts a) (statements_texts more) x.1 y.1, y.2)
 
-    prefixed_fitted : (class : Identifier) (es : Expressions) (x : Block) → PlainBlock x → NoBreaks (prefixed_marks class (begin_of x) ++ whole_events declaring x) → Connected s C (whole_events connections x) → (l : List Spot) (from : ℕ)
-        → Ascends from (in_expression (syntax.Named class es) (in_block x l)) → DotsExpressions es × AllFitted s C (prefixed_texts class es x) × Rest l
-    prefixed_fitted class es (Begin i ds ss end) p b k l from h =
+    prefixed_fitted : (class : Identifier) (es : Expressions) (x : Block) → NoBreaks (prefixed_marks class (begin_of x) ++ whole_events declaring x) → Connected s C (whole_events connections x) → (l : List Spot) (from : ℕ) → Ascends from (in_expression (syntax.Named class es) (in_block x l)) → DotsExpressions es × AllFitted s C (prefixed_texts class es x) × Rest l
+    prefixed_fitted class es (Begin i ds ss end) b k l from h =
         let d = one_dots (syntax.Named class es) (in_block (Begin i ds ss end) l) from h in
         let o = both_unbroken (prefixed_marks class i) (declarations_events declaring ds ++ (statements_events declaring Inside ss ++ Closes end ∷ [])) b in
         let n = both_unbroken (declarations_events declaring ds) (statements_events declaring Inside ss ++ Closes end ∷ []) o.1 in
         let m = both_unbroken (statements_events declaring Inside ss) (Closes end ∷ []) n.1 in
         let j = parts_connect s C (declarations_events connections ds) (statements_events connections Inside ss ++ []) k in
         let g = parts_connect s C (statements_events connections Inside ss) [] j.1 in
-        let x = declarations_fitted ds p.0 n.0 j.0 (in_statements ss (Behind end ∷ l)) (i + 1) d.1.1.1 in
-        let y = statements_fitted Inside false (λ z. z) ss tt p.1 m.0 g.0 (Behind end ∷ l) x.2.0 x.2.1 in
+        let x = declarations_fitted ds n.0 j.0 (in_statements ss (Behind end ∷ l)) (i + 1) d.1.1.1 in
+        let y = statements_fitted Inside false (λ z. z) ss tt m.0 g.0 (Behind end ∷ l) x.2.0 x.2.1 in
         (d.0, ((x.0, y.0), fitted_prefix s C (Some class) (declarations_texts ds ++ statements_texts ss) (both_fitted s C (declarations_texts ds) (statements_texts ss) x.1 y.1)), (end, y.2.1.1))
 
-    block_fitted : (w : Bool) (x : Block) → PlainBlock x → NoBreaks (block_events declaring x) → Connected s C (block_events connections x) → (l : List Spot) (from : ℕ) → Ascends from (in_block x l) → FittedBlock s C w x × AllFitted s C (block_texts x) × Rest l
-    block_fitted w (Begin i NoDeclaration ss end) p b k l from h =
-        let x = statements_fitted Inside w (λ z. absurd z) ss tt p.1 b k (Behind end ∷ l) (i + 1) h.1 in (x.0, x.1, (end, x.2.1.1))
-    block_fitted w (Begin i (With d ds) ss end) p b k l from h =
+    block_fitted : (w : Bool) (x : Block) → NoBreaks (block_events declaring x) → Connected s C (block_events connections x) → (l : List Spot) (from : ℕ) → Ascends from (in_block x l) → FittedBlock s C w x × AllFitted s C (block_texts x) × Rest l
+    block_fitted w (Begin i NoDeclaration ss end) b k l from h =
+        let x = statements_fitted Inside w (λ z. absurd z) ss tt b k (Behind end ∷ l) (i + 1) h.1 in (x.0, x.1, (end, x.2.1.1))
+    block_fitted w (Begin i (With d ds) ss end) b k l from h =
         let n = both_unbroken (declarations_events declaring (With d ds) ++ statements_events declaring Inside ss) (Closes end ∷ []) b in
         let m = both_unbroken (declarations_events declaring (With d ds)) (statements_events declaring Inside ss) n.0 in
         let o = both_unbroken (declaration_events declaring d) (declarations_events declaring ds) m.0 in
         let g = parts_connect s C (declarations_events connections (With d ds) ++ statements_events connections Inside ss) [] k in
         let j = parts_connect s C (declarations_events connections (With d ds)) (statements_events connections Inside ss) g.0 in
         let w = parts_connect s C (declaration_events connections d) (declarations_events connections ds) j.0 in
-        let x = declaration_fitted d p.0.0 o.0 w.0 (in_declarations ds (in_statements ss (Behind end ∷ l))) (i + 1) h.1 in
-        let y = declarations_fitted ds p.0.1 o.1 w.1 (in_statements ss (Behind end ∷ l)) x.2.0 x.2.1 in
-        let z = statements_fitted Inside false (λ z. z) ss tt p.1 m.1 j.1 (Behind end ∷ l) y.2.0 y.2.1 in
+        let x = declaration_fitted d o.0 w.0 (in_declarations ds (in_statements ss (Behind end ∷ l))) (i + 1) h.1 in
+        let y = declarations_fitted ds o.1 w.1 (in_statements ss (Behind end ∷ l)) x.2.0 x.2.1 in
+        let z = statements_fitted Inside false (λ z. z) ss tt m.1 j.1 (Behind end ∷ l) y.2.0 y.2.1 in
         (tt, (((x.0, y.0), z.0), both_fitted s C (declaration_texts d) (declarations_texts ds ++ statements_texts ss) x.1 (both_fitted s C (declarations_texts ds) (statements_texts ss) y.1 z.1)), (end, z.2.1.1))
 
-    declarations_fitted : (ds : Declarations) → PlainDeclarations ds → NoBreaks (declarations_events declaring ds) → Connected s C (declarations_events connections ds) → (l : List Spot) (from : ℕ) → Ascends from (in_declarations ds l)
+    declarations_fitted : (ds : Declarations) → NoBreaks (declarations_events declaring ds) → Connected s C (declarations_events connections ds) → (l : List Spot) (from : ℕ) → Ascends from (in_declarations ds l)
         → DotsDeclarations ds × AllFitted s C (declarations_texts ds) × Rest l
-    declarations_fitted NoDeclaration p b k l from h = (tt, tt, (from, h))
-    declarations_fitted (With d ds) p b k l from h =
+    declarations_fitted NoDeclaration b k l from h = (tt, tt, (from, h))
+    declarations_fitted (With d ds) b k l from h =
         let n = both_unbroken (declaration_events declaring d) (declarations_events declaring ds) b in
         let j = parts_connect s C (declaration_events connections d) (declarations_events connections ds) k in
-        let x = declaration_fitted d p.0 n.0 j.0 (in_declarations ds l) from h in
-        let y = declarations_fitted ds p.1 n.1 j.1 l x.2.0 x.2.1 in
+        let x = declaration_fitted d n.0 j.0 (in_declarations ds l) from h in
+        let y = declarations_fitted ds n.1 j.1 l x.2.0 x.2.1 in
         ((x.0, y.0), both_fitted s C (declaration_texts d) (declarations_texts ds) x.1 y.1, y.2)
 
-    declaration_fitted : (d : Declaration) → PlainDeclaration d → NoBreaks (declaration_events declaring d) → Connected s C (declaration_events connections d) → (l : List Spot) (from : ℕ) → Ascends from (in_declaration d l)
+    declaration_fitted : (d : Declaration) → NoBreaks (declaration_events declaring d) → Connected s C (declaration_events connections d) → (l : List Spot) (from : ℕ) → Ascends from (in_declaration d l)
         → DotsDeclaration d × AllFitted s C (declaration_texts d) × Rest l
-    declaration_fitted (Variables type vs) p b k l from h =
+    declaration_fitted (Variables type vs) b k l from h =
         let r = type_passes type (in_each in_variable vs l) from h in
         let x = each_dots in_variable Any variable_passes vs l r.0 r.1 in (tt, tt, x.1)
-    declaration_fitted (Arrays type i segments) p b k l from h =
+    declaration_fitted (Arrays type i segments) b k l from h =
         let r = type_passes type (in_each in_segment segments l) from h in
         let x = each_dots in_segment DotsSegment segment_dots segments l r.0 r.1 in (x.0, tt, x.1)
-    declaration_fitted (DeclareProcedure result i g a end) p b k l from h =
+    declaration_fitted (DeclareProcedure result i g a end) b k l from h =
         let n = both_unbroken (declaring.procedure result i g) (statement_events declaring Inside a ++ Closes end ∷ []) b in
         let m = both_unbroken (statement_events declaring Inside a) (Closes end ∷ []) n.1 in
         let j = parts_connect s C (statement_events connections Inside a) [] k in
-        let r = result_passes result (in_name g.name (in_each in_name g.formals (in_statement a (Behind end ∷ l)))) from h in
-        let f = each_dots in_name Any name_passes g.formals (in_statement a (Behind end ∷ l)) (g.name.token.0 + 1) r.1.1 in
-        let x = statement_fitted Inside false (λ z. z) a tt p.1 m.0 j.0 (Behind end ∷ l) f.1.0 f.1.1 in
+        let r = result_passes result (in_name g.name (in_heading g (in_statement a (Behind end ∷ l)))) from h in
+        let f = heading_passes g (in_statement a (Behind end ∷ l)) (g.name.token.0 + 1) r.1.1 in
+        let x = statement_fitted Inside false (λ z. z) a tt m.0 j.0 (Behind end ∷ l) f.0 f.1 in
         (tt, (x.0, x.1), (end, x.2.1.1))
-    declaration_fitted (DeclareClass prefix i g interface (syntax.Compound x) end) p b k l from h =
+    declaration_fitted (DeclareClass prefix i g interface (syntax.Compound x) end) b k l from h =
         let n = both_unbroken (declaring.class prefix i g interface) (class_events declaring x ++ Closes end ∷ []) b in
         let m = both_unbroken (class_events declaring x) (Closes end ∷ []) n.1 in
         let j = parts_connect s C (class_events connections x) [] k in
-        let v = prefix_passes prefix (in_name g.name (in_each in_name g.formals (in_each in_virtual interface.virtuals (in_block x (Behind end ∷ l))))) from h in
-        let f = each_dots in_name Any name_passes g.formals (in_each in_virtual interface.virtuals (in_block x (Behind end ∷ l))) (g.name.token.0 + 1) v.1.1 in
-        let u = each_dots in_virtual AnyVirtual virtual_passes interface.virtuals (in_block x (Behind end ∷ l)) f.1.0 f.1.1 in
-        let r = class_fitted prefix i g interface x end p.1 m.0 j.0 l u.1.0 u.1.1 in
+        let v = prefix_passes prefix (in_name g.name (in_heading g (in_each in_virtual interface.virtuals (in_block x (Behind end ∷ l))))) from h in
+        let f = heading_passes g (in_each in_virtual interface.virtuals (in_block x (Behind end ∷ l))) (g.name.token.0 + 1) v.1.1 in
+        let u = each_dots in_virtual AnyVirtual virtual_passes interface.virtuals (in_block x (Behind end ∷ l)) f.0 f.1 in
+        let r = class_fitted prefix i g interface x end m.0 j.0 l u.1.0 u.1.1 in
         r
-    declaration_fitted (DeclareClass prefix i g interface a end) p b k l from h =
+    declaration_fitted (DeclareClass prefix i g interface a end) b k l from h =
         let n = both_unbroken (declaring.class prefix i g interface) (statement_events declaring ClassBody a ++ Closes end ∷ []) b in
         let m = both_unbroken (statement_events declaring ClassBody a) (Closes end ∷ []) n.1 in
         let j = parts_connect s C (statement_events connections ClassBody a) [] k in
-        let v = prefix_passes prefix (in_name g.name (in_each in_name g.formals (in_each in_virtual interface.virtuals (in_statement a (Behind end ∷ l))))) from h in
-        let f = each_dots in_name Any name_passes g.formals (in_each in_virtual interface.virtuals (in_statement a (Behind end ∷ l))) (g.name.token.0 + 1) v.1.1 in
-        let u = each_dots in_virtual AnyVirtual virtual_passes interface.virtuals (in_statement a (Behind end ∷ l)) f.1.0 f.1.1 in
-        let x = statement_fitted ClassBody true (λ z. tt) a tt p.1 m.0 j.0 (Behind end ∷ l) u.1.0 u.1.1 in
+        let v = prefix_passes prefix (in_name g.name (in_heading g (in_each in_virtual interface.virtuals (in_statement a (Behind end ∷ l))))) from h in
+        let f = heading_passes g (in_each in_virtual interface.virtuals (in_statement a (Behind end ∷ l))) (g.name.token.0 + 1) v.1.1 in
+        let u = each_dots in_virtual AnyVirtual virtual_passes interface.virtuals (in_statement a (Behind end ∷ l)) f.0 f.1 in
+        let x = statement_fitted ClassBody true (λ z. tt) a tt m.0 j.0 (Behind end ∷ l) u.1.0 u.1.1 in
         (tt, ((tt, (x.0, tt)), fitted_prefix s C prefix (statement_texts a) x.1), (end, x.2.1.1))
 
     -- a class whose body is a block
-    class_fitted : (prefix : Option Identifier) (i : ℕ) (g : Heading) (interface : Interface) (x : Block) (end : ℕ) → PlainBlock x → NoBreaks (class_events declaring x) → Connected s C (class_events connections x) → (l : List Spot) (from : ℕ) → Ascends from (in_block x (Behind end ∷ l))
+    class_fitted : (prefix : Option Identifier) (i : ℕ) (g : Heading) (interface : Interface) (x : Block) (end : ℕ) → NoBreaks (class_events declaring x) → Connected s C (class_events connections x) → (l : List Spot) (from : ℕ) → Ascends from (in_block x (Behind end ∷ l))
         → Unit {0} × AllFitted s C (declaration_texts (DeclareClass prefix i g interface (syntax.Compound x) end)) × Rest l
-    class_fitted prefix i g interface (Begin j ds ss e) end p b k l from h =
+    class_fitted prefix i g interface (Begin j ds ss e) end b k l from h =
         let n = both_unbroken (declarations_events declaring ds) (statements_events declaring ClassStatement ss) b in
         let m = parts_connect s C (declarations_events connections ds) (statements_events connections ClassStatement ss) k in
-        let x = declarations_fitted ds p.0 n.0 m.0 (in_statements ss (Behind e ∷ Behind end ∷ l)) (j + 1) h.1 in
-        let y = statements_fitted ClassStatement true (λ z. z) ss tt p.1 n.1 m.1 (Behind e ∷ Behind end ∷ l) x.2.0 x.2.1 in
+        let x = declarations_fitted ds n.0 m.0 (in_statements ss (Behind e ∷ Behind end ∷ l)) (j + 1) h.1 in
+        let y = statements_fitted ClassStatement true (λ z. z) ss tt n.1 m.1 (Behind e ∷ Behind end ∷ l) x.2.0 x.2.1 in
         (tt, ((x.0, y.0), fitted_prefix s C prefix (declarations_texts ds ++ statements_texts ss) (both_fitted s C (declarations_texts ds) (statements_texts ss) x.1 y.1)), (end, y.2.1.1.1))
 
-  block_fits : (prefix : Option Prefix) → PlainStart prefix → (b : Block) → PlainBlock b → NoBreaks (whole_events declaring b) → Connected s C (whole_events connections b) → Ascends 0 (in_block b []) → AllFitted s C (program_texts prefix b)
+  block_fits : (prefix : Option Prefix) → (b : Block) → NoBreaks (whole_events declaring b) → Connected s C (whole_events connections b) → Ascends 0 (in_block b []) → AllFitted s C (program_texts prefix b)
   unfolding declaring connections
-  block_fits prefix start (Begin i ds ss end) p b k h =
+  block_fits prefix (Begin i ds ss end) b k h =
       let n = both_unbroken (declarations_events declaring ds) (statements_events declaring Inside ss ++ Closes end ∷ []) b in
       let m = both_unbroken (statements_events declaring Inside ss) (Closes end ∷ []) n.1 in
       let j = parts_connect s C (declarations_events connections ds) (statements_events connections Inside ss ++ []) k in
       let g = parts_connect s C (statements_events connections Inside ss) [] j.1 in
-      let x = declarations_fitted ds p.0 n.0 j.0 (in_statements ss (Behind end ∷ [])) (i + 1) h.1 in
-      let y = statements_fitted Inside false (λ z. z) ss tt p.1 m.0 g.0 (Behind end ∷ []) x.2.0 x.2.1 in
-      whole prefix start (x.0, y.0) (both_fitted s C (declarations_texts ds) (statements_texts ss) x.1 y.1)
+      let x = declarations_fitted ds n.0 j.0 (in_statements ss (Behind end ∷ [])) (i + 1) h.1 in
+      let y = statements_fitted Inside false (λ z. z) ss tt m.0 g.0 (Behind end ∷ []) x.2.0 x.2.1 in
+      whole prefix (x.0, y.0) (both_fitted s C (declarations_texts ds) (statements_texts ss) x.1 y.1)
     where
-      whole : (prefix : Option Prefix) → PlainStart prefix → DotsDeclarations ds × FittedStatements s C false ss → AllFitted s C (declarations_texts ds ++ statements_texts ss) → AllFitted s C (program_texts prefix (Begin i ds ss end))
-      whole None start own inner = (own, inner)
-      whole (Some x) start own inner = (own, fitted_prefix s C (Some x.class) (declarations_texts ds ++ statements_texts ss) inner)
+      whole : (prefix : Option Prefix) → DotsDeclarations ds × FittedStatements s C false ss → AllFitted s C (declarations_texts ds ++ statements_texts ss) → AllFitted s C (program_texts prefix (Begin i ds ss end))
+      whole None own inner = (own, inner)
+      whole (Some x) own inner = (own, fitted_prefix s C (Some x.class) (declarations_texts ds ++ statements_texts ss) inner)
 
   fitted_at : (xs : List Text) (k : ℕ) (x : Text) → AllFitted s C xs → slice_get xs k ≡ Some x → TextFitted s C x
   fitted_at [] k x a e = absurd (cc)
   fitted_at (y ∷ ys) zero x a e = let same : y ≡ x = cc in subst (TextFitted s C) same a.0
   fitted_at (y ∷ ys) (suc k) x a e = fitted_at ys k x a.1 e
 
-  pub text_fitted : Plain s.program → InOrder s.program → NoBreaks (program_events declaring s.program) → AllMeet s C None (program_events connections s.program) → (k : ℕ) (x : Text) → text s k ≡ Some x → TextFitted s C x
+  pub text_fitted : InOrder s.program → NoBreaks (program_events declaring s.program) → AllMeet s C None (program_events connections s.program) → (k : ℕ) (x : Text) → text s k ≡ Some x → TextFitted s C x
   unfolding text program_events declaring connections
-  text_fitted p order b c k x e =
+  text_fitted order b c k x e =
       let body = s.program.block in
       let n = both_unbroken (declaring.program s.program.prefix (begin_of body)) (whole_events declaring body) b in
-      fitted_at (program_texts s.program.prefix body) k x (block_fits s.program.prefix p.start body p.block n.1 (None, c) order) e
+      fitted_at (program_texts s.program.prefix body) k x (block_fits s.program.prefix body n.1 (None, c) order) e

@@ -1,12 +1,7 @@
--- The marks of a plain program, with the texts that they open: the walk over the syntax, once for all that is said of its tables.
+-- The marks of a program, with the texts that they open: the walk over the syntax, once for all that is said of its tables.
 use Rattle.std.proofs.Common.{◌≡◌, ◌⊎◌, inl, inr, ℕ, Bool, true, false, List, [], ◌∷◌, ◌++◌, length, Option, Some, None, refl, sym, ap, ◌∙◌, subst, append-nil, append_assoc}
-use Rattle.std.specs.Prelude.{◌&&◌, ◌||◌}
-use Rattle.std.specs.List.{list_any}
-use Rattle.std.proofs.lemmas.Bool.{false≢true}
-use Rattle.std.proofs.lemmas.Slice.Eq.{bytes_eq-Decides}
 use Rattle.sim_tree.specs.declared.expr.Identifier.{Identifier}
 use Rattle.sim_tree.specs.declared.stmt.Mode.{Mode as Word}
-use Rattle.sim_tree.specs.declared.stmt.Mode.TheVariants as word
 use Rattle.sim_tree.specs.declared.stmt.TypeName.{TypeName}
 use Rattle.sim_tree.specs.declared.stmt.TypeName.TheVariants as type_name
 use Rattle.sim_tree.specs.declared.stmt.Variable.{Variable}
@@ -21,7 +16,6 @@ use Rattle.sim_scope.specs.declared.types.Entry.TheVariants as entry
 use Rattle.sim_scope.specs.declared.types.FormalKind.{FormalKind}
 use Rattle.sim_scope.specs.declared.types.FormalKind.TheVariants as shape
 use Rattle.sim_scope.specs.declared.types.Mode.{Mode}
-use Rattle.sim_scope.specs.declared.types.Mode.TheVariants as mode
 use Rattle.sim_scope.specs.declared.types.Position.{Position}
 use Rattle.sim_scope.specs.declared.types.Position.TheVariants.{ClassBody, ClassStatement, Inside}
 use Rattle.sim_scope.specs.declared.types.SimType.{SimType}
@@ -35,8 +29,6 @@ use Rattle.sim_scope.specs.declared.types.StandardPrefix.TheVariants as standard
 use Rattle.sim_scope.specs.Standard.{standard_prefix}
 use Rattle.sim_scope.specs.Walk.{arms_events, begin_of, block_events, declaration_events, declarations_events, program_events, statement_events, statements_events, whole_events}
 use Rattle.sim_meaning.specs.Texts.{BlockText, ClassText, ConnectionText, ProcedureText, Text, arms_texts, block_texts, declaration_texts, declarations_texts, prefix_texts, program_texts, statement_texts, statements_texts, PrefixedText, prefixed_texts, standard_texts}
-use Rattle.sim_static.specs.UnbuiltForms.{is_by_name, is_name, is_same, names_by_name}
-use Rattle.sim_agree.specs.Plain.{Each, Plain, PlainArms, PlainBlock, PlainDeclarations, PlainHeading, PlainSpecification, PlainStatement, PlainStatements, PlainStart}
 use Rattle.sim_agree.proofs.StandardPrefixes.{Spells, brought_texts, classes_of, no_texts, texts_of_standard}
 
 -- what a block or a class declares itself, but for its parameters, procedures and classes
@@ -107,25 +99,11 @@ abbrev pub Declarable : Entry → Type 0
 Declarable (entry.Virtual result (Some d)) = ⊥
 Declarable _ = Unit {0}
 
-abbrev pub PlainFormal : FormalKind → Option SimType → Type 0
-PlainFormal shape.Simple (Some ty) = Unit {0}
-PlainFormal shape.Array (Some ty) = Unit {0}
-PlainFormal _ _ = ⊥
-
--- what the heading of a text says of modes
-abbrev pub modes_of : Text → List ModePart
-modes_of (ProcedureText result h a) = h.modes
-modes_of (ClassText prefix h ds ss) = h.modes
-modes_of _ = []
-
--- What is passed by name is so by the text's heading; what is specified as an array is not.
-abbrev pub ModeWritten : Text → Identifier → Mode → Type 0
-ModeWritten x y mode.ByName = is_by_name (modes_of x) y ≡ true
-ModeWritten x y _ = Unit {0}
-
-abbrev pub KindWritten : Text → Identifier → FormalKind → Type 0
-KindWritten x y shape.Array = is_by_name (modes_of x) y ≡ false
-KindWritten x y _ = Unit {0}
+-- a parameter that is no procedure has a type
+abbrev pub TypedFormal : FormalKind → Option SimType → Type 0
+TypedFormal shape.Simple None = ⊥
+TypedFormal shape.Array None = ⊥
+TypedFormal k ty = Unit {0}
 
 abbrev pub PlainKind : BlockKind → Type 0
 PlainKind kind.Program = Unit {0}
@@ -222,9 +200,9 @@ pub data Grouped : List Open → List Mark → List Text → Type 0 where
       → Grouped (item x owed ∷ os) ms xs → Grouped (item x owed ∷ os) (Declares y (entry.Virtual (result_named result) None) ∷ (quals ++ ms)) xs
   parameter : {os : List Open} {ms : List Mark} {xs : List Text} (x : Text) (owed : List Mark) (y : Identifier) → Taking x → Has (Headed y) owed
       → Grouped (item x owed ∷ os) ms xs → Grouped (item x owed ∷ os) (Parameter y ∷ ms) xs
-  moded : {os : List Open} {ms : List Mark} {xs : List Text} (x : Text) (owed : List Mark) (y : Identifier) (m : Mode) → ModeWritten x y m
+  moded : {os : List Open} {ms : List Mark} {xs : List Text} (x : Text) (owed : List Mark) (y : Identifier) (m : Mode) → Taking x
       → Grouped (item x owed ∷ os) ms xs → Grouped (item x owed ∷ os) (Moded y m ∷ ms) xs
-  specified : {os : List Open} {ms : List Mark} {xs : List Text} (x : Text) (owed quals : List Mark) (y : Identifier) (k : FormalKind) (ty : Option SimType) → KindWritten x y k → PlainFormal k ty → Quals (AreReferences ty) quals
+  specified : {os : List Open} {ms : List Mark} {xs : List Text} (x : Text) (owed quals : List Mark) (y : Identifier) (k : FormalKind) (ty : Option SimType) → Taking x → TypedFormal k ty → Quals (AreReferences ty) quals
       → Grouped (item x owed ∷ os) ms xs → Grouped (item x owed ∷ os) (Specified y k ty ∷ (quals ++ ms)) xs
   headed : {os : List Open} {ms : List Mark} {xs : List Text} (x : Text) (owed : List Mark) (y : Identifier)
       → Grouped (item x owed ∷ os) ms xs → Grouped (item x (Headed y ∷ owed) ∷ os) (Headed y ∷ ms) xs
@@ -356,25 +334,6 @@ module _ (x : Text) (declares_some : Declaring x) (os : List Open) where
 
 -- ---- headings
 
-or_true : (c : Bool) → (c || true) ≡ true
-or_true true = refl
-or_true false = refl
-
-or_false : (a b : Bool) → (a || b) ≡ false → (a ≡ false) × (b ≡ false)
-or_false false b e = (refl, e)
-or_false true b e = absurd (false≢true (sym e))
-
-same_itself : (y : Identifier) → is_same y y ≡ true
-same_itself y = (bytes_eq-Decides y.name y.name).1 refl
-
--- the first of the names of a mode part, and the others
-name_first : (m : Word) (y : Identifier) (ys : List Identifier) → is_name m ≡ true → names_by_name y m (y ∷ ys) ≡ true
-name_first m y ys is = ap (λ c. c && (is_same y y || list_any (is_same y) ys)) is ∙ ap (λ c. c || list_any (is_same y) ys) (same_itself y)
-
-name_later : (m : Word) (z y : Identifier) (ys : List Identifier) → names_by_name z m ys ≡ true → names_by_name z m (y ∷ ys) ≡ true
-name_later word.Name z y ys e = ap (λ c. is_same z y || c) e ∙ or_true (is_same z y)
-name_later word.Value z y ys e = e
-
 module _ (x : Text) (takes : Taking x) (rest : List Mark) (os : List Open) where
   abbrev Of : List Mark → List Open
   Of owed = item x owed ∷ os
@@ -395,8 +354,8 @@ module _ (x : Text) (takes : Taking x) (rest : List Mark) (os : List Open) where
   parameter_one : (owed : List Mark) (y : Identifier) → Has (Headed y) owed → Adds (Of owed) (Parameter y ∷ []) [] (Of owed)
   parameter_one owed y q = record { before = λ ms ts g. parameter x owed y takes q g }
 
-  moded_one : (owed : List Mark) (y : Identifier) (m : Mode) → ModeWritten x y m → Adds (Of owed) (Moded y m ∷ []) [] (Of owed)
-  moded_one owed y m written = record { before = λ ms ts g. moded x owed y m written g }
+  moded_one : (owed : List Mark) (y : Identifier) (m : Mode) → Adds (Of owed) (Moded y m ∷ []) [] (Of owed)
+  moded_one owed y m = record { before = λ ms ts g. moded x owed y m takes g }
 
   headed_one : (owed : List Mark) (y : Identifier) → Adds (Of (Headed y ∷ owed)) (Headed y ∷ []) [] (Of owed)
   headed_one owed y = record { before = λ ms ts g. headed x owed y g }
@@ -406,57 +365,43 @@ module _ (x : Text) (takes : Taking x) (rest : List Mark) (os : List Open) where
   parameters_add [] owed q = none
   parameters_add (y ∷ ys) owed q = both (parameter_one owed y q.0) (parameters_add ys owed q.1)
 
-  written : (m : Word) (y : Identifier) → (is_name m ≡ true → is_by_name (modes_of x) y ≡ true) → ModeWritten x y (mode_named m)
-  unfolding mode_named
-  written word.Name y by_name = by_name refl
-  written word.Value y by_name = tt
-
-  moded_add : (m : Word) (ys : List Identifier) (owed : List Mark) → ((y : Identifier) → names_by_name y m ys ≡ true → is_by_name (modes_of x) y ≡ true) → Adds (Of owed) (each (moded_marks m) ys) [] (Of owed)
+  moded_add : (m : Word) (ys : List Identifier) (owed : List Mark) → Adds (Of owed) (each (moded_marks m) ys) [] (Of owed)
   unfolding moded_marks
-  moded_add m [] owed by_name = none
-  moded_add m (y ∷ ys) owed by_name = both (moded_one owed y (mode_named m) (written m y (λ is. by_name y (name_first m y ys is)))) (moded_add m ys owed (λ z e. by_name z (name_later m z y ys e)))
+  moded_add m [] owed = none
+  moded_add m (y ∷ ys) owed = both (moded_one owed y (mode_named m)) (moded_add m ys owed)
 
-  modes_add : (parts : List ModePart) (owed : List Mark) → ((y : Identifier) → is_by_name parts y ≡ true → is_by_name (modes_of x) y ≡ true) → Adds (Of owed) (each mode_part_marks parts) [] (Of owed)
-  modes_add [] owed by_name = none
-  modes_add (m ∷ parts) owed by_name =
-      both (moded_add m.mode m.names owed (λ y e. by_name y (ap (λ c. c || is_by_name parts y) e)))
-      (modes_add parts owed (λ y e. by_name y (ap (λ c. names_by_name y m.mode m.names || c) e ∙ or_true (names_by_name y m.mode m.names))))
+  modes_add : (parts : List ModePart) (owed : List Mark) → Adds (Of owed) (each mode_part_marks parts) [] (Of owed)
+  modes_add [] owed = none
+  modes_add (m ∷ parts) owed = both (moded_add m.mode m.names owed) (modes_add parts owed)
 
-  specified_typed : (type : TypeName) (owed : List Mark) (y : Identifier) (k : FormalKind) → KindWritten x y k → PlainFormal k (Some (type_named type)) → Adds (Of owed) (Specified y k (Some (type_named type)) ∷ qualified_marks type) [] (Of owed)
-  specified_typed type owed y k w p = record { before = λ ms ts g. specified x owed (qualified_marks type) y k (Some (type_named type)) w p (quals_of_type type) g }
+  specified_typed : (type : TypeName) (owed : List Mark) (y : Identifier) (k : FormalKind) → TypedFormal k (Some (type_named type)) → Adds (Of owed) (Specified y k (Some (type_named type)) ∷ qualified_marks type) [] (Of owed)
+  specified_typed type owed y k p = record { before = λ ms ts g. specified x owed (qualified_marks type) y k (Some (type_named type)) takes p (quals_of_type type) g }
 
-  simple_add : (type : TypeName) (ys : List Identifier) (owed : List Mark) → Adds (Of owed) (each (specified_marks (syntax.Simple type)) ys) [] (Of owed)
+  specified_procedure : (result : Option TypeName) (owed : List Mark) (y : Identifier) → Adds (Of owed) (Specified y shape.Procedure (result_named result) ∷ qualified_result result) [] (Of owed)
+  specified_procedure result owed y = record { before = λ ms ts g. specified x owed (qualified_result result) y shape.Procedure (result_named result) takes tt (quals_of_result result) g }
+
+  specified_add : (k : Specifier) (ys : List Identifier) (owed : List Mark) → Adds (Of owed) (each (specified_marks k) ys) [] (Of owed)
   unfolding specified_marks
-  simple_add type [] owed = none
-  simple_add type (y ∷ ys) owed = both (specified_typed type owed y shape.Simple tt tt) (simple_add type ys owed)
+  specified_add k [] owed = none
+  specified_add (syntax.Simple type) (y ∷ ys) owed = both (specified_typed type owed y shape.Simple tt) (specified_add (syntax.Simple type) ys owed)
+  specified_add (syntax.Array type i) (y ∷ ys) owed = both (specified_typed type owed y shape.Array tt) (specified_add (syntax.Array type i) ys owed)
+  specified_add (syntax.Procedure result i) (y ∷ ys) owed = both (specified_procedure result owed y) (specified_add (syntax.Procedure result i) ys owed)
 
-  arrays_add : (type : TypeName) (i : ℕ) (ys : List Identifier) (owed : List Mark) → list_any (is_by_name (modes_of x)) ys ≡ false → Adds (Of owed) (each (specified_marks (syntax.Array type i)) ys) [] (Of owed)
-  unfolding specified_marks
-  arrays_add type i [] owed free = none
-  arrays_add type i (y ∷ ys) owed free =
-      let q = or_false (is_by_name (modes_of x) y) (list_any (is_by_name (modes_of x)) ys) free in
-      both (specified_typed type owed y shape.Array q.0 tt) (arrays_add type i ys owed q.1)
-
-  specified_add : (k : Specifier) (ys : List Identifier) (owed : List Mark) → PlainSpecification (modes_of x) (record { kind = k; names = ys }) → Adds (Of owed) (each (specified_marks k) ys) [] (Of owed)
-  specified_add (syntax.Simple type) ys owed p = simple_add type ys owed
-  specified_add (syntax.Array type i) ys owed p = arrays_add type i ys owed p
-  specified_add (syntax.Procedure type i) ys owed p = absurd (false≢true (sym p))
-
-  specifications_add : (ys : List Specification) → Each (PlainSpecification (modes_of x)) ys → (owed : List Mark) → Adds (Of owed) (each specification_marks ys) [] (Of owed)
-  specifications_add [] p owed = none
-  specifications_add (y ∷ ys) p owed = both (specified_add y.kind y.names owed p.0) (specifications_add ys p.1 owed)
+  specifications_add : (ys : List Specification) → (owed : List Mark) → Adds (Of owed) (each specification_marks ys) [] (Of owed)
+  specifications_add [] owed = none
+  specifications_add (y ∷ ys) owed = both (specified_add y.kind y.names owed) (specifications_add ys owed)
 
   headed_add : (ys : List Identifier) → Adds (Of (each headed_marks ys ++ rest)) (each headed_marks ys) [] (Of rest)
   unfolding headed_marks
   headed_add [] = none
   headed_add (y ∷ ys) = both (headed_one (each headed_marks ys ++ rest) y) (headed_add ys)
 
-  heading_adds : (h : Heading) → h.modes ≡ modes_of x → PlainHeading h → Adds (Of (each headed_marks h.formals ++ rest)) (heading_marks h) [] (Of rest)
-  heading_adds h same p =
+  heading_adds : (h : Heading) → Adds (Of (each headed_marks h.formals ++ rest)) (heading_marks h) [] (Of rest)
+  heading_adds h =
       let owed : List Mark = each headed_marks h.formals ++ rest in
       both (parameters_add h.formals owed (all_headed h.formals))
-      (both (modes_add h.modes owed (λ y e. ap (λ ms. is_by_name ms y) (sym same) ∙ e))
-      (both (specifications_add h.specifications (subst (λ ms. Each (PlainSpecification ms) h.specifications) same p) owed) (headed_add h.formals)))
+      (both (modes_add h.modes owed)
+      (both (specifications_add h.specifications owed) (headed_add h.formals)))
 
 -- ---- statements and declarations
 
@@ -594,22 +539,20 @@ class_texts prefix j h i (syntax.Inspect n object d x m rest) e = one_text prefi
 class_texts prefix j h i (syntax.InspectWhen n object arms rest) e = one_text prefix h (syntax.InspectWhen n object arms rest)
 class_texts prefix j h i (syntax.Activate n w process schedule) e = one_text prefix h (syntax.Activate n w process schedule)
 
-procedure_adds : (x : Text) → Declaring x → (os : List Open) (owed : List Mark) → NoHeaded owed → (result : Option TypeName) (j : ℕ) (h : Heading) (a : Statement) (e : ℕ) → PlainHeading h
-    → Adds (item (ProcedureText result h a) [] ∷ item x owed ∷ os) (statement_events declaring Inside a) (statement_texts a) (item (ProcedureText result h a) [] ∷ item x owed ∷ os)
+procedure_adds : (x : Text) → Declaring x → (os : List Open) (owed : List Mark) → NoHeaded owed → (result : Option TypeName) (j : ℕ) (h : Heading) (a : Statement) (e : ℕ) → Adds (item (ProcedureText result h a) [] ∷ item x owed ∷ os) (statement_events declaring Inside a) (statement_texts a) (item (ProcedureText result h a) [] ∷ item x owed ∷ os)
     → Adds (item x owed ∷ os) (declaration_events declaring (DeclareProcedure result j h a e)) (declaration_texts (DeclareProcedure result j h a e)) (item x owed ∷ os)
 unfolding declaring
-procedure_adds x d os owed n result j h a e p body =
+procedure_adds x d os owed n result j h a e body =
     let y : Text = ProcedureText result h a in
     let ps : List Open = item x owed ∷ os in
     as_texts (y ∷ (statement_texts a ++ [])) (y ∷ statement_texts a) (ap (λ z. y ∷ z) (append-nil (statement_texts a)))
-    (both (both (begins_procedure x d owed n os result j h a) (heading_adds y tt [] ps h refl p)) (both body (ends y e ps)))
+    (both (both (begins_procedure x d owed n os result j h a) (heading_adds y tt [] ps h)) (both body (ends y e ps)))
 
-class_adds : (x : Text) → Declaring x → (os : List Open) (owed : List Mark) → NoHeaded owed → (prefix : Option Identifier) (j : ℕ) (h : Heading) (i : Interface) (a : Statement) (e : ℕ) → PlainHeading h
-    → Adds (item (ClassText prefix h (body_declarations a) (body_statements a)) (own_marks (body_declarations a)) ∷ item x owed ∷ os) (statement_events declaring ClassBody a) (declarations_texts (body_declarations a) ++ statements_texts (body_statements a))
+class_adds : (x : Text) → Declaring x → (os : List Open) (owed : List Mark) → NoHeaded owed → (prefix : Option Identifier) (j : ℕ) (h : Heading) (i : Interface) (a : Statement) (e : ℕ) → Adds (item (ClassText prefix h (body_declarations a) (body_statements a)) (own_marks (body_declarations a)) ∷ item x owed ∷ os) (statement_events declaring ClassBody a) (declarations_texts (body_declarations a) ++ statements_texts (body_statements a))
     (item (ClassText prefix h (body_declarations a) (body_statements a)) [] ∷ item x owed ∷ os)
     → Adds (item x owed ∷ os) (declaration_events declaring (DeclareClass prefix j h i a e)) (declaration_texts (DeclareClass prefix j h i a e)) (item x owed ∷ os)
 unfolding declaring
-class_adds x d os owed n prefix j h i a e p body =
+class_adds x d os owed n prefix j h i a e body =
     let y : Text = ClassText prefix h (body_declarations a) (body_statements a) in
     let ps : List Open = item x owed ∷ os in
     let inside : List Text = declarations_texts (body_declarations a) ++ statements_texts (body_statements a) in
@@ -617,7 +560,7 @@ class_adds x d os owed n prefix j h i a e p body =
     as_texts (y ∷ ((prefix_texts prefix ++ []) ++ (inside ++ []))) (declaration_texts (DeclareClass prefix j h i a e))
     (ap (λ z. y ∷ (z ++ (inside ++ []))) (append-nil (prefix_texts prefix)) ∙ ap (λ z. y ∷ (prefix_texts prefix ++ z)) (append-nil inside) ∙ sym (class_texts prefix j h i a e))
     (both (both (begins_class x d owed n os prefix j h (body_declarations a) (body_statements a))
-    (both (heading_adds y tt own ps h refl p) (interface_adds y tt own (no_headed_own (body_declarations a)) ps i))) (both body (ends y e ps)))
+    (both (heading_adds y tt own ps h) (interface_adds y tt own (no_headed_own (body_declarations a)) ps i))) (both body (ends y e ps)))
 
 -- a statement stands in the body of a class, or elsewhere
 abbrev place : (in_class : Bool) → Position
@@ -627,98 +570,98 @@ place false = Inside
 mutual
   unfolding declaring inner_marks
 
-  statement_adds : (c : Bool) (st : Statement) (os : List Open) → PlainStatement st → Adds os (statement_events declaring (place c) st) (statement_texts st) os
-  statement_adds c (syntax.Empty i) os p = none
-  statement_adds true (syntax.Compound b) os p = block_adds b os p
-  statement_adds false (syntax.Compound b) os p = block_adds b os p
-  statement_adds c (syntax.Prefixed x args b) os p = prefixed_adds x args b os p.1
-  statement_adds true (syntax.Inner i) os p = record { before = λ ms xs g. inner_mark i g }
-  statement_adds false (syntax.Inner i) os p = record { before = λ ms xs g. breaks_rule i r.InnerOutOfPlace g }
-  statement_adds c (syntax.Call e) os p = none
-  statement_adds c (syntax.Assign left rest) os p = none
-  statement_adds c (syntax.Choose i e a rest) os p = both (statement_adds false a os p.1) (statements_add false rest os p.2)
-  statement_adds c (syntax.Repeat i e a) os p = statement_adds false a os p.1
-  statement_adds c (syntax.For i x sign j es a) os p = statement_adds false a os p.1
-  statement_adds c (syntax.Inspect i object d a e rest) os p =
+  statement_adds : (c : Bool) (st : Statement) (os : List Open) → Adds os (statement_events declaring (place c) st) (statement_texts st) os
+  statement_adds c (syntax.Empty i) os = none
+  statement_adds true (syntax.Compound b) os = block_adds b os
+  statement_adds false (syntax.Compound b) os = block_adds b os
+  statement_adds c (syntax.Prefixed x args b) os = prefixed_adds x args b os
+  statement_adds true (syntax.Inner i) os = record { before = λ ms xs g. inner_mark i g }
+  statement_adds false (syntax.Inner i) os = record { before = λ ms xs g. breaks_rule i r.InnerOutOfPlace g }
+  statement_adds c (syntax.Call e) os = none
+  statement_adds c (syntax.Assign left rest) os = none
+  statement_adds c (syntax.Choose i e a rest) os = both (statement_adds false a os) (statements_add false rest os)
+  statement_adds c (syntax.Repeat i e a) os = statement_adds false a os
+  statement_adds c (syntax.For i x sign j es a) os = statement_adds false a os
+  statement_adds c (syntax.Inspect i object d a e rest) os =
       as_texts ((ConnectionText ∷ []) ++ (statement_texts a ++ ([] ++ statements_texts rest))) (ConnectionText ∷ (statement_texts a ++ statements_texts rest)) refl
-      (both (begins_connection d d os) (both (statement_adds false a (item ConnectionText [] ∷ os) p.1) (both (ends ConnectionText e os) (statements_add false rest os p.2))))
-  statement_adds c (syntax.InspectWhen i object whens rest) os p = both (arms_add whens os p.1) (statements_add false rest os p.2)
-  statement_adds c (syntax.Activate i word process schedule) os p = none
+      (both (begins_connection d d os) (both (statement_adds false a (item ConnectionText [] ∷ os)) (both (ends ConnectionText e os) (statements_add false rest os))))
+  statement_adds c (syntax.InspectWhen i object whens rest) os = both (arms_add whens os) (statements_add false rest os)
+  statement_adds c (syntax.Activate i word process schedule) os = none
 
-  statements_add : (c : Bool) (ss : Statements) (os : List Open) → PlainStatements ss → Adds os (statements_events declaring (place c) ss) (statements_texts ss) os
-  statements_add c NoStatement os p = none
-  statements_add c (Also a more) os p = both (statement_adds c a os p.0) (statements_add c more os p.1)
+  statements_add : (c : Bool) (ss : Statements) (os : List Open) → Adds os (statements_events declaring (place c) ss) (statements_texts ss) os
+  statements_add c NoStatement os = none
+  statements_add c (Also a more) os = both (statement_adds c a os) (statements_add c more os)
 
-  arms_add : (arms : Arms) (os : List Open) → PlainArms arms → Adds os (arms_events declaring arms) (arms_texts arms) os
-  arms_add NoArm os p = none
-  arms_add (When i x d a e more) os p =
+  arms_add : (arms : Arms) (os : List Open) → Adds os (arms_events declaring arms) (arms_texts arms) os
+  arms_add NoArm os = none
+  arms_add (When i x d a e more) os =
       as_texts (((ConnectionText ∷ []) ++ (statement_texts a ++ [])) ++ arms_texts more) (ConnectionText ∷ (statement_texts a ++ arms_texts more)) (ap (λ z. ConnectionText ∷ (z ++ arms_texts more)) (append-nil (statement_texts a)))
-      (both (both (begins_connection d d os) (both (statement_adds false a (item ConnectionText [] ∷ os) p.0) (ends ConnectionText e os))) (arms_add more os p.1))
+      (both (both (begins_connection d d os) (both (statement_adds false a (item ConnectionText [] ∷ os)) (ends ConnectionText e os))) (arms_add more os))
 
   -- the body of a class, which is its `begin .. end` or one statement
-  class_body_adds : (prefix : Option Identifier) (a : Statement) (h : Heading) (os : List Open) → PlainStatement a → ((ps : List Open) → Adds ps (statement_events declaring Inside a) (statement_texts a) ps)
+  class_body_adds : (prefix : Option Identifier) (a : Statement) (h : Heading) (os : List Open) → ((ps : List Open) → Adds ps (statement_events declaring Inside a) (statement_texts a) ps)
       → Adds (item (ClassText prefix h (body_declarations a) (body_statements a)) (own_marks (body_declarations a)) ∷ os) (statement_events declaring ClassBody a) (declarations_texts (body_declarations a) ++ statements_texts (body_statements a))
       (item (ClassText prefix h (body_declarations a) (body_statements a)) [] ∷ os)
-  class_body_adds prefix (syntax.Compound (Begin i ds ss e)) h os p one =
-      both (declarations_add (ClassText prefix h ds ss) tt os ds (λ y quals w. w) p.0) (statements_add true ss (item (ClassText prefix h ds ss) [] ∷ os) p.1)
-  class_body_adds prefix (syntax.Empty i) h os p one = none
-  class_body_adds prefix (syntax.Prefixed x args b) h os p one = as_texts (statement_texts (syntax.Prefixed x args b)) (statement_texts (syntax.Prefixed x args b) ++ []) (sym (append-nil (statement_texts (syntax.Prefixed x args b)))) (one (item (ClassText prefix h NoDeclaration (Also (syntax.Prefixed x args b) NoStatement)) [] ∷ os))
-  class_body_adds prefix (syntax.Inner i) h os p one = as_texts (statement_texts (syntax.Inner i)) (statement_texts (syntax.Inner i) ++ []) (sym (append-nil (statement_texts (syntax.Inner i)))) (one (item (ClassText prefix h NoDeclaration (Also (syntax.Inner i) NoStatement)) [] ∷ os))
-  class_body_adds prefix (syntax.Call e) h os p one = as_texts (statement_texts (syntax.Call e)) (statement_texts (syntax.Call e) ++ []) (sym (append-nil (statement_texts (syntax.Call e)))) (one (item (ClassText prefix h NoDeclaration (Also (syntax.Call e) NoStatement)) [] ∷ os))
-  class_body_adds prefix (syntax.Assign left rest) h os p one = as_texts (statement_texts (syntax.Assign left rest)) (statement_texts (syntax.Assign left rest) ++ []) (sym (append-nil (statement_texts (syntax.Assign left rest)))) (one (item (ClassText prefix h NoDeclaration (Also (syntax.Assign left rest) NoStatement)) [] ∷ os))
-  class_body_adds prefix (syntax.Choose i c a rest) h os p one = as_texts (statement_texts (syntax.Choose i c a rest)) (statement_texts (syntax.Choose i c a rest) ++ []) (sym (append-nil (statement_texts (syntax.Choose i c a rest)))) (one (item (ClassText prefix h NoDeclaration (Also (syntax.Choose i c a rest) NoStatement)) [] ∷ os))
-  class_body_adds prefix (syntax.Repeat i c a) h os p one = as_texts (statement_texts (syntax.Repeat i c a)) (statement_texts (syntax.Repeat i c a) ++ []) (sym (append-nil (statement_texts (syntax.Repeat i c a)))) (one (item (ClassText prefix h NoDeclaration (Also (syntax.Repeat i c a) NoStatement)) [] ∷ os))
-  class_body_adds prefix (syntax.For i x sign j es a) h os p one = as_texts (statement_texts (syntax.For i x sign j es a)) (statement_texts (syntax.For i x sign j es a) ++ []) (sym (append-nil (statement_texts (syntax.For i x sign j es a)))) (one (item (ClassText prefix h NoDeclaration (Also (syntax.For i x sign j es a) NoStatement)) [] ∷ os))
-  class_body_adds prefix (syntax.Inspect i object d a e rest) h os p one = as_texts (statement_texts (syntax.Inspect i object d a e rest)) (statement_texts (syntax.Inspect i object d a e rest) ++ []) (sym (append-nil (statement_texts (syntax.Inspect i object d a e rest)))) (one (item (ClassText prefix h NoDeclaration (Also (syntax.Inspect i object d a e rest) NoStatement)) [] ∷ os))
-  class_body_adds prefix (syntax.InspectWhen i object whens rest) h os p one = as_texts (statement_texts (syntax.InspectWhen i object whens rest)) (statement_texts (syntax.InspectWhen i object whens rest) ++ []) (sym (append-nil (statement_texts (syntax.InspectWhen i object whens rest)))) (one (item (ClassText prefix h NoDeclaration (Also (syntax.InspectWhen i object whens rest) NoStatement)) [] ∷ os))
-  class_body_adds prefix (syntax.Activate i word process schedule) h os p one = as_texts (statement_texts (syntax.Activate i word process schedule)) (statement_texts (syntax.Activate i word process schedule) ++ []) (sym (append-nil (statement_texts (syntax.Activate i word process schedule)))) (one (item (ClassText prefix h NoDeclaration (Also (syntax.Activate i word process schedule) NoStatement)) [] ∷ os))
+  class_body_adds prefix (syntax.Compound (Begin i ds ss e)) h os one =
+      both (declarations_add (ClassText prefix h ds ss) tt os ds (λ y quals w. w)) (statements_add true ss (item (ClassText prefix h ds ss) [] ∷ os))
+  class_body_adds prefix (syntax.Empty i) h os one = none
+  class_body_adds prefix (syntax.Prefixed x args b) h os one = as_texts (statement_texts (syntax.Prefixed x args b)) (statement_texts (syntax.Prefixed x args b) ++ []) (sym (append-nil (statement_texts (syntax.Prefixed x args b)))) (one (item (ClassText prefix h NoDeclaration (Also (syntax.Prefixed x args b) NoStatement)) [] ∷ os))
+  class_body_adds prefix (syntax.Inner i) h os one = as_texts (statement_texts (syntax.Inner i)) (statement_texts (syntax.Inner i) ++ []) (sym (append-nil (statement_texts (syntax.Inner i)))) (one (item (ClassText prefix h NoDeclaration (Also (syntax.Inner i) NoStatement)) [] ∷ os))
+  class_body_adds prefix (syntax.Call e) h os one = as_texts (statement_texts (syntax.Call e)) (statement_texts (syntax.Call e) ++ []) (sym (append-nil (statement_texts (syntax.Call e)))) (one (item (ClassText prefix h NoDeclaration (Also (syntax.Call e) NoStatement)) [] ∷ os))
+  class_body_adds prefix (syntax.Assign left rest) h os one = as_texts (statement_texts (syntax.Assign left rest)) (statement_texts (syntax.Assign left rest) ++ []) (sym (append-nil (statement_texts (syntax.Assign left rest)))) (one (item (ClassText prefix h NoDeclaration (Also (syntax.Assign left rest) NoStatement)) [] ∷ os))
+  class_body_adds prefix (syntax.Choose i c a rest) h os one = as_texts (statement_texts (syntax.Choose i c a rest)) (statement_texts (syntax.Choose i c a rest) ++ []) (sym (append-nil (statement_texts (syntax.Choose i c a rest)))) (one (item (ClassText prefix h NoDeclaration (Also (syntax.Choose i c a rest) NoStatement)) [] ∷ os))
+  class_body_adds prefix (syntax.Repeat i c a) h os one = as_texts (statement_texts (syntax.Repeat i c a)) (statement_texts (syntax.Repeat i c a) ++ []) (sym (append-nil (statement_texts (syntax.Repeat i c a)))) (one (item (ClassText prefix h NoDeclaration (Also (syntax.Repeat i c a) NoStatement)) [] ∷ os))
+  class_body_adds prefix (syntax.For i x sign j es a) h os one = as_texts (statement_texts (syntax.For i x sign j es a)) (statement_texts (syntax.For i x sign j es a) ++ []) (sym (append-nil (statement_texts (syntax.For i x sign j es a)))) (one (item (ClassText prefix h NoDeclaration (Also (syntax.For i x sign j es a) NoStatement)) [] ∷ os))
+  class_body_adds prefix (syntax.Inspect i object d a e rest) h os one = as_texts (statement_texts (syntax.Inspect i object d a e rest)) (statement_texts (syntax.Inspect i object d a e rest) ++ []) (sym (append-nil (statement_texts (syntax.Inspect i object d a e rest)))) (one (item (ClassText prefix h NoDeclaration (Also (syntax.Inspect i object d a e rest) NoStatement)) [] ∷ os))
+  class_body_adds prefix (syntax.InspectWhen i object whens rest) h os one = as_texts (statement_texts (syntax.InspectWhen i object whens rest)) (statement_texts (syntax.InspectWhen i object whens rest) ++ []) (sym (append-nil (statement_texts (syntax.InspectWhen i object whens rest)))) (one (item (ClassText prefix h NoDeclaration (Also (syntax.InspectWhen i object whens rest) NoStatement)) [] ∷ os))
+  class_body_adds prefix (syntax.Activate i word process schedule) h os one = as_texts (statement_texts (syntax.Activate i word process schedule)) (statement_texts (syntax.Activate i word process schedule) ++ []) (sym (append-nil (statement_texts (syntax.Activate i word process schedule)))) (one (item (ClassText prefix h NoDeclaration (Also (syntax.Activate i word process schedule) NoStatement)) [] ∷ os))
 
-  prefixed_adds : (x : Identifier) (args : Expressions) (b : Block) (os : List Open) → PlainBlock b → Adds os (prefixed_marks x (begin_of b) ++ whole_events declaring b) (prefixed_texts x args b) os
-  prefixed_adds x args (Begin i ds ss e) os p =
+  prefixed_adds : (x : Identifier) (args : Expressions) (b : Block) (os : List Open) → Adds os (prefixed_marks x (begin_of b) ++ whole_events declaring b) (prefixed_texts x args b) os
+  prefixed_adds x args (Begin i ds ss e) os =
       let y : Text = PrefixedText x args ds ss in
       as_marks (prefixed_marks x i ++ ((declarations_events declaring ds ++ statements_events declaring Inside ss) ++ Closes e ∷ [])) (prefixed_marks x i ++ (declarations_events declaring ds ++ (statements_events declaring Inside ss ++ Closes e ∷ [])))
       (ap (λ z. prefixed_marks x i ++ z) (append_assoc (declarations_events declaring ds) (statements_events declaring Inside ss) (Closes e ∷ [])))
       (both (begins_prefixed x i args ds ss os)
       (inside_block os y (own_marks ds) (declarations_events declaring ds) (statements_events declaring Inside ss) (declarations_texts ds) (statements_texts ss) e
-      (declarations_add y tt os ds (λ z quals w. w) p.0) (statements_add false ss (item y [] ∷ os) p.1)))
+      (declarations_add y tt os ds (λ z quals w. w)) (statements_add false ss (item y [] ∷ os))))
 
-  block_adds : (b : Block) (os : List Open) → PlainBlock b → Adds os (block_events declaring b) (block_texts b) os
-  block_adds (Begin i NoDeclaration ss e) os p = statements_add false ss os p.1
-  block_adds (Begin i (With d ds) ss e) os p =
+  block_adds : (b : Block) (os : List Open) → Adds os (block_events declaring b) (block_texts b) os
+  block_adds (Begin i NoDeclaration ss e) os = statements_add false ss os
+  block_adds (Begin i (With d ds) ss e) os =
       let x : Text = BlockText i (With d ds) ss in
       as_texts (x ∷ (declarations_texts (With d ds) ++ statements_texts ss)) (block_texts (Begin i (With d ds) ss e)) (ap (λ z. x ∷ z) (append_assoc (declaration_texts d) (declarations_texts ds) (statements_texts ss)))
       (both (begins_block kind.SubBlock i i i (With d ds) ss os tt)
       (inside_block os x (own_marks (With d ds)) (declarations_events declaring (With d ds)) (statements_events declaring Inside ss) (declarations_texts (With d ds)) (statements_texts ss) e
-      (declarations_add x tt os (With d ds) (λ y quals w. w) p.0) (statements_add false ss (item x [] ∷ os) p.1)))
+      (declarations_add x tt os (With d ds) (λ y quals w. w)) (statements_add false ss (item x [] ∷ os))))
 
-  declarations_add : (x : Text) → Declaring x → (os : List Open) (ds : Declarations) → ((y : Identifier) (quals : List Mark) → ArrayWritten y quals ds → ArrayWritten y quals (declared_in_text x)) → PlainDeclarations ds → Adds (item x (own_marks ds) ∷ os) (declarations_events declaring ds) (declarations_texts ds) (item x [] ∷ os)
-  declarations_add x d os NoDeclaration w p = none
-  declarations_add x d os (With (Variables type vs) ds) w p = both (variables_add x d os type vs (own_marks ds) (no_headed_own ds)) (declarations_add x d os ds w p.1)
-  declarations_add x d os (With (Arrays type j segments) ds) w p =
-      both (segments_add x d os type segments (own_marks ds) (no_headed_own ds) (λ y q. w y (qualified_marks type) (inl (q, refl)))) (declarations_add x d os ds (λ y quals q. w y quals (inr q)) p.1)
-  declarations_add x d os (With (DeclareProcedure result j h a e) ds) w p =
-      both (procedure_adds x d os (own_marks ds) (no_headed_own ds) result j h a e p.0.0 (statement_adds false a (item (ProcedureText result h a) [] ∷ item x (own_marks ds) ∷ os) p.0.1)) (declarations_add x d os ds w p.1)
-  declarations_add x d os (With (DeclareClass prefix j h i a e) ds) w p =
-      both (class_adds x d os (own_marks ds) (no_headed_own ds) prefix j h i a e p.0.0 (class_body_adds prefix a h (item x (own_marks ds) ∷ os) p.0.1 (λ ps. statement_adds false a ps p.0.1))) (declarations_add x d os ds w p.1)
+  declarations_add : (x : Text) → Declaring x → (os : List Open) (ds : Declarations) → ((y : Identifier) (quals : List Mark) → ArrayWritten y quals ds → ArrayWritten y quals (declared_in_text x)) → Adds (item x (own_marks ds) ∷ os) (declarations_events declaring ds) (declarations_texts ds) (item x [] ∷ os)
+  declarations_add x d os NoDeclaration w = none
+  declarations_add x d os (With (Variables type vs) ds) w = both (variables_add x d os type vs (own_marks ds) (no_headed_own ds)) (declarations_add x d os ds w)
+  declarations_add x d os (With (Arrays type j segments) ds) w =
+      both (segments_add x d os type segments (own_marks ds) (no_headed_own ds) (λ y q. w y (qualified_marks type) (inl (q, refl)))) (declarations_add x d os ds (λ y quals q. w y quals (inr q)))
+  declarations_add x d os (With (DeclareProcedure result j h a e) ds) w =
+      both (procedure_adds x d os (own_marks ds) (no_headed_own ds) result j h a e (statement_adds false a (item (ProcedureText result h a) [] ∷ item x (own_marks ds) ∷ os))) (declarations_add x d os ds w)
+  declarations_add x d os (With (DeclareClass prefix j h i a e) ds) w =
+      both (class_adds x d os (own_marks ds) (no_headed_own ds) prefix j h i a e (class_body_adds prefix a h (item x (own_marks ds) ∷ os) (λ ps. statement_adds false a ps))) (declarations_add x d os ds w)
 
--- a plain program
-pub program_grouped : (p : Program) → Plain p → Grouped [] (program_events declaring p) (program_texts p.prefix p.block)
+-- a program
+pub program_grouped : (p : Program) → Grouped [] (program_events declaring p) (program_texts p.prefix p.block)
 unfolding program_events declaring program_marks
-program_grouped p q = go p.prefix p.block q.start q.block
+program_grouped p = go p.prefix p.block
   where
-    go : (prefix : Option Prefix) (b : Block) → PlainStart prefix → PlainBlock b → Grouped [] (declaring.program prefix (begin_of b) ++ whole_events declaring b) (program_texts prefix b)
-    go (Some x) b e r =
-        let all : Adds [] (prefixed_marks x.class (begin_of b) ++ whole_events declaring b) (prefixed_texts x.class x.arguments b) [] = prefixed_adds x.class x.arguments b [] r in
+    go : (prefix : Option Prefix) (b : Block) → Grouped [] (declaring.program prefix (begin_of b) ++ whole_events declaring b) (program_texts prefix b)
+    go (Some x) b =
+        let all : Adds [] (prefixed_marks x.class (begin_of b) ++ whole_events declaring b) (prefixed_texts x.class x.arguments b) [] = prefixed_adds x.class x.arguments b [] in
         whole_of b x (subst (λ z. Grouped [] z (prefixed_texts x.class x.arguments b)) (append-nil _) (subst (λ z. Grouped [] ((prefixed_marks x.class (begin_of b) ++ whole_events declaring b) ++ []) z) (append-nil _) (all.before [] [] (nothing refl))))
       where
         whole_of : (b : Block) (x : Prefix) → Grouped [] (prefixed_marks x.class (begin_of b) ++ whole_events declaring b) (prefixed_texts x.class x.arguments b) → Grouped [] (prefixed_marks x.class (begin_of b) ++ whole_events declaring b) (program_texts (Some x) b)
         whole_of (Begin i ds ss end) x g = g
-    go None (Begin i ds ss end) e r =
+    go None (Begin i ds ss end) =
         let x : Text = BlockText i ds ss in
         let all : Adds [] ((Opens kind.Program i i ∷ []) ++ ((declarations_events declaring ds ++ statements_events declaring Inside ss) ++ Closes end ∷ [])) ((x ∷ []) ++ (declarations_texts ds ++ statements_texts ss)) [] =
         both (begins_block kind.Program i i i ds ss [] tt)
         (inside_block [] x (own_marks ds) (declarations_events declaring ds) (statements_events declaring Inside ss) (declarations_texts ds) (statements_texts ss) end
-        (declarations_add x tt [] ds (λ y quals w. w) r.0) (statements_add false ss (item x [] ∷ []) r.1)) in
+        (declarations_add x tt [] ds (λ y quals w. w)) (statements_add false ss (item x [] ∷ []))) in
         subst (λ z. Grouped [] z (x ∷ (declarations_texts ds ++ statements_texts ss)))
         (append-nil _ ∙ ap (λ z. Opens kind.Program i i ∷ z) (append_assoc (declarations_events declaring ds) (statements_events declaring Inside ss) (Closes end ∷ [])))
         (subst (λ z. Grouped [] (((Opens kind.Program i i ∷ []) ++ ((declarations_events declaring ds ++ statements_events declaring Inside ss) ++ Closes end ∷ [])) ++ []) z) (append-nil _) (all.before [] [] (nothing refl)))

@@ -1,4 +1,4 @@
--- The parameters of the procedures and classes of an allowed plain program, and to which texts these belong.
+-- The parameters of the procedures and classes of an allowed program, and to which texts these belong.
 use Rattle.std.proofs.Common.{◌≡◌, ◌<◌, ◌≤◌, ℕ, zero, suc, List, [], ◌∷◌, length, take, Option, Some, None, refl, sym, ap, ◌∙◌, subst, arith, ◌++◌, false, true}
 use Rattle.std.specs.Prelude.{slice_get}
 use Rattle.std.proofs.lemmas.Option.{slice_get_within}
@@ -30,13 +30,13 @@ use Rattle.sim_meaning.specs.Closing as closing
 use Rattle.sim_meaning.specs.Closing.{class_parameters}
 use Rattle.sim_meaning.specs.Entries.{formals_from, formals_of, numbers_in, numbers_of}
 use Rattle.sim_meaning.specs.Texts.{ProcedureText, Text, kind_of_type, text}
-use Rattle.sim_sound.specs.Held.{Among, ArrayOf, ByName, Holds, IsFormal, first, formal_holds, held_by, later}
+use Rattle.sim_sound.specs.Held.{Among, ArrayOf, ByName, Holds, IsFormal, Simply, first, formal_holds, held_by, later}
+use Rattle.sim_sound.specs.Held as held
 use Rattle.sim_sound.specs.Typed.{ClassThere, Distinct, FormalsAre, NoFormal, NoFormals, ProcedureThere}
-use Rattle.sim_agree.specs.Plain.{Plain}
 use Rattle.sim_agree.specs.TablesOf.{TablesOf}
 use Rattle.sim_agree.proofs.Clean.{Counts}
 use Rattle.sim_agree.proofs.Fine.{Alike, IsStandard, Rising, RowIn, attribute_row, class_row, formal_row, own_row, owner_in, procedure_row, simulation_row, virtual_row}
-use Rattle.sim_agree.proofs.Groups.{Declaring, OwnEntry, PlainFormal, Prefixing, Taking, Interfacing}
+use Rattle.sim_agree.proofs.Groups.{Declaring, OwnEntry, TypedFormal, Prefixing, Taking, Interfacing}
 use Rattle.sim_agree.proofs.Steps.{IsParameter, Parametric}
 use Rattle.sim_agree.proofs.Tables as t
 use Rattle.sim_agree.proofs.Tables.{Bs, Ts}
@@ -112,18 +112,20 @@ taken [] (suc m) e = absurd (let f : suc m ≡ 0 = e in cc)
 taken (n ∷ ns) zero e = absurd (let f : length (n ∷ ns) ≡ suc (length ns) = omega arith in let g : zero ≡ suc (length ns) = e ∙ f in cc)
 taken (n ∷ ns) (suc m) e = let f : length (n ∷ ns) ≡ suc (length ns) = omega arith in ap (λ z. n ∷ z) (taken ns m (omega (arith, e, f)))
 
-module _ (s : Source) (of : TablesOf s) (plain : Plain s.program) (order : InOrder s.program) where
-  -- each plain parameter has something to hold
-  formal_has : (m : Mode) (k : FormalKind) (ty : Option SimType) → (m ≡ mode.ByName → k ≡ shape.Array → ⊥) → PlainFormal k ty → (h : Holds) × (formal_holds s m k ty ≡ Some h)
-  formal_has mode.ByName shape.Simple (Some ty) n q = (ByName (kind_of_type ty), refl)
-  formal_has mode.ByName shape.Array (Some ty) n q = absurd (n refl refl)
-  formal_has mode.ByValue shape.Simple (Some ty) n q = (held_by s ty, refl)
-  formal_has mode.ByReference shape.Simple (Some ty) n q = (held_by s ty, refl)
-  formal_has mode.ByValue shape.Array (Some ty) n q = (ArrayOf (held_by s ty), refl)
-  formal_has mode.ByReference shape.Array (Some ty) n q = (ArrayOf (held_by s ty), refl)
-  formal_has m shape.Simple None n q = absurd q
-  formal_has m shape.Array None n q = absurd q
-  formal_has m shape.Procedure ty n q = absurd q
+module _ (s : Source) (of : TablesOf s) (order : InOrder s.program) where
+  -- each parameter has something to hold
+  formal_has : (m : Mode) (k : FormalKind) (ty : Option SimType) → TypedFormal k ty → (h : Holds) × (formal_holds s m k ty ≡ Some h)
+  formal_has mode.ByName shape.Simple (Some ty) q = (ByName (Simply (kind_of_type ty)), refl)
+  formal_has mode.ByName shape.Array (Some ty) q = (ByName (ArrayOf (held_by s ty)), refl)
+  formal_has mode.ByName shape.Procedure ty q = (ByName (held.Procedure ty), refl)
+  formal_has mode.ByValue shape.Simple (Some ty) q = (held_by s ty, refl)
+  formal_has mode.ByValue shape.Array (Some ty) q = (ArrayOf (held_by s ty), refl)
+  formal_has mode.ByValue shape.Procedure ty q = (held.Procedure ty, refl)
+  formal_has mode.ByReference shape.Simple (Some ty) q = (held_by s ty, refl)
+  formal_has mode.ByReference shape.Array (Some ty) q = (ArrayOf (held_by s ty), refl)
+  formal_has mode.ByReference shape.Procedure ty q = (held.Procedure ty, refl)
+  formal_has m shape.Simple None q = absurd q
+  formal_has m shape.Array None q = absurd q
 
   -- a parameter that is specified
   record IsSpecified (d : DeclNo) : Type 0 where
@@ -136,8 +138,8 @@ module _ (s : Source) (of : TablesOf s) (plain : Plain s.program) (order : InOrd
   of_entry d row at p = go row.entry refl p
     where
       go : (e : Entry) → row.entry ≡ e → Parametric e → IsSpecified d
-      go (entry.Formal f) e q = let h = formal_has f.mode f.kind f.ty (λ by_name. (t.by_name_row s of plain order d.0 row f at e by_name).1) q in record { formal = f; entry = t.row_entry s of plain order d row at ∙ ap Some e; holds = h.0; is = h.1 }
-      go (entry.Unspecified w) e q = absurd (t.specified_row s of plain order d.0 row at w e)
+      go (entry.Formal f) e q = let h = formal_has f.mode f.kind f.ty q in record { formal = f; entry = t.row_entry s of order d row at ∙ ap Some e; holds = h.0; is = h.1 }
+      go (entry.Unspecified w) e q = absurd (t.specified_row s of order d.0 row at w e)
       go (entry.Variable ty) e q = absurd q
       go (entry.Constant ty) e q = absurd q
       go (entry.Array ty n) e q = absurd q
@@ -146,7 +148,7 @@ module _ (s : Source) (of : TablesOf s) (plain : Plain s.program) (order : InOrd
       go (entry.Virtual r n) e q = absurd q
       go (entry.Attribute name given result) e q = absurd q
 
-  pub param_in : (x : Text) (d : ℕ) (row : Declaration) → RowIn (Bs s of plain order) (Ts s of plain order) x d row → IsParameter row.entry → Parametric row.entry
+  pub param_in : (x : Text) (d : ℕ) (row : Declaration) → RowIn (Bs s of order) (Ts s of order) x d row → IsParameter row.entry → Parametric row.entry
   param_in x d row (own_row y p) q = absurd (own_is_none p.entry row.entry p.fits p.alike q)
   param_in x d row (procedure_row y p) q = absurd (procedure_is_none (result_named p.result) p.number row.entry p.entry q)
   param_in x d row (class_row y p) q = absurd (subst IsParameter p.entry q)
@@ -157,7 +159,7 @@ module _ (s : Source) (of : TablesOf s) (plain : Plain s.program) (order : InOrd
 
   -- a parameter is specified
   parameter_is : (d : DeclNo) (row : Declaration) → slice_get s.tables.declarations d.0 ≡ Some row → IsParameter row.entry → IsSpecified d
-  parameter_is d row at q = let w = t.text_of_row s of plain order d.0 row at in of_entry d row at (param_in w.0 d.0 row w.2 q)
+  parameter_is d row at q = let w = t.text_of_row s of order d.0 row at in of_entry d row at (param_in w.0 d.0 row w.2 q)
 
   formals_are : (ns : List DeclNo) → ((n : ℕ) (d : DeclNo) → slice_get ns n ≡ Some d → IsSpecified d) → FormalsAre s ns (formals_from s ns)
   formals_are [] h = tt
@@ -173,8 +175,8 @@ module _ (s : Source) (of : TablesOf s) (plain : Plain s.program) (order : InOrd
   in_front_specified k row at n d e =
       let q = taken_at row.formals row.numbers n d e in
       let among : Among d (numbers_of s k) = subst (λ z. Among d z) (sym (ap numbers_in at)) (at_among row.numbers n d q.0) in
-      let r = t.owned s of plain order k d among in
-      parameter_is d r.0 r.1 ((t.counts s of plain order k row at).front n d r.0 q.0 r.1 q.1)
+      let r = t.owned s of order k d among in
+      parameter_is d r.0 r.1 ((t.counts s of order k row at).front n d r.0 q.0 r.1 q.1)
 
   -- those in front are formal parameters
   pub parameters_formal : (k n : ℕ) (d : DeclNo) → slice_get (formals_in (slice_get s.tables.blocks k)) n ≡ Some d → (f : Formal) × (entry_of s.tables d ≡ Some (entry.Formal f))
@@ -202,10 +204,10 @@ module _ (s : Source) (of : TablesOf s) (plain : Plain s.program) (order : InOrd
   of_procedure : (k : ℕ) (result : Option TypeName) (h : Heading) (a : Statement) → text s k ≡ Some (ProcedureText result h a) → (d : DeclNo) (row : Declaration) → slice_get s.tables.declarations d.0 ≡ Some row → row.block ≡ k → Parametric row.entry
   unfolding text
   of_procedure k result h a is d row at e =
-      let w = t.text_of_row s of plain order d.0 row at in
-      go w.0 (sym w.1 ∙ ap (slice_get (Ts s of plain order)) e ∙ is) w.2
+      let w = t.text_of_row s of order d.0 row at in
+      go w.0 (sym w.1 ∙ ap (slice_get (Ts s of order)) e ∙ is) w.2
     where
-      go : (x : Text) → Some x ≡ Some (ProcedureText result h a) → RowIn (Bs s of plain order) (Ts s of plain order) x d.0 row → Parametric row.entry
+      go : (x : Text) → Some x ≡ Some (ProcedureText result h a) → RowIn (Bs s of order) (Ts s of order) x d.0 row → Parametric row.entry
       go x f (own_row y p) = absurd (subst Declaring (some_same x (ProcedureText result h a) f) y)
       go x f (procedure_row y p) = absurd (subst Declaring (some_same x (ProcedureText result h a) f) y)
       go x f (class_row y p) = absurd (subst Declaring (some_same x (ProcedureText result h a) f) y)
@@ -234,14 +236,14 @@ module _ (s : Source) (of : TablesOf s) (plain : Plain s.program) (order : InOrd
   counted k result h a is row at = go (length row.numbers) refl
     where
       c : Counts s.tables.declarations row
-      c = t.counts s of plain order k row at
+      c = t.counts s of order k row at
 
       go : (m : ℕ) → length row.numbers ≡ m → row.formals ≡ length row.numbers
       go zero e = let le : row.formals ≤ length row.numbers = c.fits in omega (arith, le, e)
       go (suc m) e =
           let x = in_range row.numbers m (omega (arith, e)) in
           let among : Among x.0 (numbers_of s k) = subst (λ z. Among x.0 z) (sym (ap numbers_in at)) (at_among row.numbers m x.0 x.1) in
-          let r = t.owned s of plain order k x.0 among in
+          let r = t.owned s of order k x.0 among in
           let lt : m < row.formals = c.back m x.0 r.0 x.1 r.1 (parametric r.0.entry (of_procedure k result h a is x.0 r.0 r.1 r.2)) in
           let le : row.formals ≤ length row.numbers = c.fits in omega (arith, le, e, lt)
 
@@ -299,7 +301,7 @@ module _ (s : Source) (of : TablesOf s) (plain : Plain s.program) (order : InOrd
   parameters k d among formal = go (slice_get s.tables.blocks k) refl among
     where
       r : (row : Declaration) × (slice_get s.tables.declarations d.0 ≡ Some row) × (row.block ≡ k)
-      r = t.owned s of plain order k d among
+      r = t.owned s of order k d among
 
       is_parameter : (e : Entry) → IsFormal (Some e) → IsParameter e
       is_parameter (entry.Formal f) q = tt
@@ -313,7 +315,7 @@ module _ (s : Source) (of : TablesOf s) (plain : Plain s.program) (order : InOrd
       is_parameter (entry.Attribute name given x) q = absurd q
 
       parameter : IsParameter r.0.entry
-      parameter = is_parameter r.0.entry (subst IsFormal (t.row_entry s of plain order d r.0 r.1) formal)
+      parameter = is_parameter r.0.entry (subst IsFormal (t.row_entry s of order d r.0 r.1) formal)
 
       place : (ns : List DeclNo) → Among d ns → (n : ℕ) × (slice_get ns n ≡ Some d)
       place [] a = elim a [ ]
@@ -330,14 +332,14 @@ module _ (s : Source) (of : TablesOf s) (plain : Plain s.program) (order : InOrd
       go None at a = absurd (elim a [ ])
       go (Some row) at a =
           let q = place row.numbers a in
-          let lt : q.0 < row.formals = (t.counts s of plain order k row at).back q.0 d r.0 q.1 r.1 parameter in
+          let lt : q.0 < row.formals = (t.counts s of order k row at).back q.0 d r.0 q.1 r.1 parameter in
           own_formals k row at d (in_front row.numbers row.formals q.0 lt q.1)
 
   -- ---- what is listed
 
   -- each declaration is listed once
   pub different : (k : ℕ) → Distinct (numbers_of s k)
-  different k = go (numbers_of s k) (t.rising s of plain order k)
+  different k = go (numbers_of s k) (t.rising s of order k)
     where
       place : (d : DeclNo) (ns : List DeclNo) → Among d ns → (n : ℕ) × (slice_get ns n ≡ Some d)
       place d [] a = elim a [ ]
@@ -386,7 +388,7 @@ module _ (s : Source) (of : TablesOf s) (plain : Plain s.program) (order : InOrd
       of_virtuals (entry.Attribute name given y) v = tt
       of_virtuals (entry.Formal f) v = absurd (cc)
 
-      in_row : (x : Text) → Some x ≡ Some z → (d : ℕ) (row : Declaration) → RowIn (Bs s of plain order) (Ts s of plain order) x d row → NoFormal (Some row.entry)
+      in_row : (x : Text) → Some x ≡ Some z → (d : ℕ) (row : Declaration) → RowIn (Bs s of order) (Ts s of order) x d row → NoFormal (Some row.entry)
       in_row x f d row (own_row y p) = of_own p.entry row.entry p.fits p.alike
       in_row x f d row (procedure_row y p) = of_procedures (result_named p.result) p.number row.entry p.entry
       in_row x f d row (class_row y p) = subst (λ z. NoFormal (Some z)) (sym p.entry) tt
@@ -397,9 +399,9 @@ module _ (s : Source) (of : TablesOf s) (plain : Plain s.program) (order : InOrd
 
       one : (d : DeclNo) → Among d (numbers_of s k) → NoFormal (entry_of s.tables d)
       one d a =
-          let r = t.owned s of plain order k d a in
-          let w = t.text_of_row s of plain order d.0 r.0 r.1 in
-          subst NoFormal (sym (t.row_entry s of plain order d r.0 r.1)) (in_row w.0 (sym w.1 ∙ ap (slice_get (Ts s of plain order)) r.2 ∙ is) d.0 r.0 w.2)
+          let r = t.owned s of order k d a in
+          let w = t.text_of_row s of order d.0 r.0 r.1 in
+          subst NoFormal (sym (t.row_entry s of order d r.0 r.1)) (in_row w.0 (sym w.1 ∙ ap (slice_get (Ts s of order)) r.2 ∙ is) d.0 r.0 w.2)
 
       each : (ns : List DeclNo) → ((d : DeclNo) → Among d ns → Among d (numbers_of s k)) → NoFormals s ns
       each [] h = tt
@@ -417,11 +419,11 @@ module _ (s : Source) (of : TablesOf s) (plain : Plain s.program) (order : InOrd
   pub procedures : (d : DeclNo) (result : Option SimType) (k : ℕ) → entry_of s.tables d ≡ Some (entry.Procedure result k) → ProcedureThere s d k
   unfolding text encloser
   procedures d result k e =
-      let r = t.entry_row s of plain order d (entry.Procedure result k) e in
-      let w = t.text_of_row s of plain order d.0 r.0 r.1 in
+      let r = t.entry_row s of order d (entry.Procedure result k) e in
+      let w = t.text_of_row s of order d.0 r.0 r.1 in
       go r.0 r.1 r.2 w.0 w.2
     where
-      go : (row : Declaration) → slice_get s.tables.declarations d.0 ≡ Some row → row.entry ≡ entry.Procedure result k → (x : Text) → RowIn (Bs s of plain order) (Ts s of plain order) x d.0 row → ProcedureThere s d k
+      go : (row : Declaration) → slice_get s.tables.declarations d.0 ≡ Some row → row.entry ≡ entry.Procedure result k → (x : Text) → RowIn (Bs s of order) (Ts s of order) x d.0 row → ProcedureThere s d k
       go row at f x (own_row y p) = absurd (own_no_procedure p.entry p.fits (subst (Alike p.entry) f p.alike))
         where
           own_no_procedure : (o : Entry) → OwnEntry o → Alike o (entry.Procedure result k) → ⊥
@@ -436,12 +438,12 @@ module _ (s : Source) (of : TablesOf s) (plain : Plain s.program) (order : InOrd
           own_no_procedure (entry.Attribute name given z) q a = q
       go row at f x (procedure_row y p) =
           let same : p.number ≡ k = (subst (Alike (entry.Procedure (result_named p.result) p.number)) f p.entry).1 in
-          let block : row.block ≡ block_of s d = sym (t.block_is s of plain order d row at) in
+          let block : row.block ≡ block_of s d = sym (t.block_is s of order d row at) in
           record {
             given = p.result;
             heading = p.heading;
             body = p.body;
-            is = subst (λ z. slice_get (Ts s of plain order) z ≡ Some (ProcedureText p.result p.heading p.body)) same p.text;
+            is = subst (λ z. slice_get (Ts s of order) z ≡ Some (ProcedureText p.result p.heading p.body)) same p.text;
             around = subst (λ z. around_of (slice_get s.tables.blocks z) ≡ Some (block_of s d)) same (p.around ∙ ap Some block);
             owned = subst (λ z. owner_of_level s.tables (Some z) ≡ Some d) same (owner_at p.number d p.owner);
           }
@@ -454,18 +456,18 @@ module _ (s : Source) (of : TablesOf s) (plain : Plain s.program) (order : InOrd
   pub classes : (d : DeclNo) (k : ℕ) → entry_of s.tables d ≡ Some (entry.Class k) → ClassThere s d k × (owner_of_level s.tables (Some k) ≡ Some d)
   unfolding text encloser
   classes d k e =
-      let r = t.entry_row s of plain order d (entry.Class k) e in
-      let w = t.text_of_row s of plain order d.0 r.0 r.1 in
+      let r = t.entry_row s of order d (entry.Class k) e in
+      let w = t.text_of_row s of order d.0 r.0 r.1 in
       go r.0 r.1 r.2 w.0 w.2
     where
-      go : (row : Declaration) → slice_get s.tables.declarations d.0 ≡ Some row → row.entry ≡ entry.Class k → (x : Text) → RowIn (Bs s of plain order) (Ts s of plain order) x d.0 row → ClassThere s d k × (owner_of_level s.tables (Some k) ≡ Some d)
+      go : (row : Declaration) → slice_get s.tables.declarations d.0 ≡ Some row → row.entry ≡ entry.Class k → (x : Text) → RowIn (Bs s of order) (Ts s of order) x d.0 row → ClassThere s d k × (owner_of_level s.tables (Some k) ≡ Some d)
       go row at f x (own_row y p) = absurd (own_no_class p.entry k p.fits (subst (Alike p.entry) f p.alike))
       go row at f x (procedure_row y p) = absurd (subst (Alike (entry.Procedure (result_named p.result) p.number)) f p.entry)
       go row at f x (class_row y p) =
           let same : p.number ≡ k = number p.number k (sym p.entry ∙ f) in
-          let block : row.block ≡ block_of s d = sym (t.block_is s of plain order d row at) in (
+          let block : row.block ≡ block_of s d = sym (t.block_is s of order d row at) in (
             record {
-              is = ap is_class (subst (λ z. slice_get (Ts s of plain order) z ≡ Some p.class) same p.text) ∙ p.is;
+              is = ap is_class (subst (λ z. slice_get (Ts s of order) z ≡ Some p.class) same p.text) ∙ p.is;
               around = subst (λ z. around_of (slice_get s.tables.blocks z) ≡ Some (block_of s d)) same (p.around ∙ ap Some block);
             },
             subst (λ z. owner_of_level s.tables (Some z) ≡ Some d) same (owner_at p.number d p.owner),

@@ -1,4 +1,4 @@
--- A block of a plain program in which a class is declared is said to have one.
+-- A block of a program in which a class is declared is said to have one.
 use Rattle.std.proofs.Common.{◌≡◌, ◌<◌, ◌+◌, ◌⊎◌, inl, inr, ℕ, zero, suc, Bool, true, false, List, [], ◌∷◌, ◌++◌, length, Option, Some, None, refl, sym, ap, ◌∙◌, subst, arith, if◌then◌else◌}
 use Rattle.std.specs.Prelude.{◌&&◌, ◌||◌, nat_eq, nat_lt, not, slice_get, slice_set}
 use Rattle.std.specs.List.{list_any}
@@ -32,7 +32,6 @@ use Rattle.sim_scope.specs.Tables.{BlockOf}
 use Rattle.sim_scope.proofs.Kept.{kept_set, set_here, set_other}
 use Rattle.virtual_match.specs.Qualifying.{entry_to, type_to}
 use Rattle.sim_meaning.specs.Texts.{Text}
-use Rattle.sim_agree.specs.Plain.{Plain}
 use Rattle.sim_agree.specs.TablesOf.{TablesOf}
 use Rattle.sim_agree.proofs.Calm.{declared_calm}
 use Rattle.sim_agree.proofs.Completing.{bare_row}
@@ -416,7 +415,7 @@ run_held b (specifies_virtual x owed quals y result dx nh q g) h =
     (run_held (run marked (declared b y (entry.Virtual (result_named result) None)) quals) g
     (quals_held (declared b y (entry.Virtual (result_named result) None)) _ quals q (other_held b y (entry.Virtual (result_named result) None) (λ z. absurd (let f : entry.Virtual (result_named result) None ≡ entry.Class z.0 = z.1 in cc)) b.current h)))
 run_held b (parameter_mark x owed y tx has g) h = run_held (parameter b y) g (counted_held (declared b y (entry.Unspecified None)) (declared b y (entry.Unspecified None)).current (other_held b y (entry.Unspecified None) (λ z. absurd (let f : entry.Unspecified None ≡ entry.Class z.0 = z.1 in cc)) b.current h))
-run_held b (moded_mark x owed y m written g) h = run_held (moded b y.token m (found_in b.tables b.current y.name)) g (held_same b (moded b y.token m (found_in b.tables b.current y.name)) (moded_grows b y.token m (found_in b.tables b.current y.name)) h)
+run_held b (moded_mark x owed y m takes g) h = run_held (moded b y.token m (found_in b.tables b.current y.name)) g (held_same b (moded b y.token m (found_in b.tables b.current y.name)) (moded_grows b y.token m (found_in b.tables b.current y.name)) h)
 run_held b (specified_mark x owed quals y k ty written pf q g) h =
     let o : Option DeclNo = found_in b.tables b.current y.name in
     subst ClassesHeld (sym (run_both (specified (record b { latest = found_in b.tables b.current y.name }) y.token k ty (found_in b.tables b.current y.name)) quals _))
@@ -437,9 +436,9 @@ none_there : (d : ℕ) → slice_get no_rows d ≡ None
 none_there zero = refl
 none_there (suc d) = refl
 
-pub classes_held : (p : Program) → Plain p → ClassesHeld (declared_by p)
+pub classes_held : (p : Program) → ClassesHeld (declared_by p)
 unfolding declared_by
-classes_held p plain = run_held empty (program_grouped p plain) (λ d n row at is l. absurd (let f : None ≡ Some row = sym (none_there d) ∙ at in cc))
+classes_held p = run_held empty (program_grouped p) (λ d n row at is l. absurd (let f : None ≡ Some row = sym (none_there d) ∙ at in cc))
 
 -- ---- in the complete tables
 
@@ -460,14 +459,14 @@ class_before (entry.Formal x) new n (inr f) g = absurd (let h : entry.Formal (re
 class_before (entry.Unspecified w) new n (inr f) g = absurd f.0
 class_before (entry.Attribute name given result) new n (inr f) g = absurd f.0
 
-pub class_in_block : (s : Source) → TablesOf s → Plain s.program → InOrder s.program → (d : DeclNo) (n : ℕ) (row : Declaration) → slice_get s.tables.declarations d.0 ≡ Some row → row.entry ≡ entry.Class n → row.listed ≡ true
+pub class_in_block : (s : Source) → TablesOf s → InOrder s.program → (d : DeclNo) (n : ℕ) (row : Declaration) → slice_get s.tables.declarations d.0 ≡ Some row → row.entry ≡ entry.Class n → row.listed ≡ true
     → holds_class s.tables (block_of s d) ≡ true
 unfolding holds_class
-class_in_block s of plain order d n row at is l =
-    let c = tables.completes s of plain order in
+class_in_block s of order d n row at is l =
+    let c = tables.completes s of order in
     let w = c.rows.was d.0 row at in
-    let held = classes_held s.program plain d.0 n w.0 w.1 (class_before w.0.entry row.entry n w.2.entry is) (sym w.2.listed ∙ l) in
-    let block : block_of s d ≡ w.0.block = tables.block_is s of plain order d row at ∙ w.2.block in
+    let held = classes_held s.program d.0 n w.0 w.1 (class_before w.0.entry row.entry n w.2.entry is) (sym w.2.listed ∙ l) in
+    let block : block_of s d ≡ w.0.block = tables.block_is s of order d row at ∙ w.2.block in
     let same : flag (slice_get s.tables.blocks w.0.block) ≡ flag (slice_get (declared_by s.program).tables.blocks w.0.block) = sym (flag_bare (slice_get s.tables.blocks w.0.block)) ∙ ap flag (c.blocks w.0.block) ∙ flag_bare (slice_get (declared_by s.program).tables.blocks w.0.block) in
     subst (λ k. holds_class_in (slice_get s.tables.blocks k) ≡ true) (sym block) (go (slice_get s.tables.blocks w.0.block) (same ∙ held))
   where

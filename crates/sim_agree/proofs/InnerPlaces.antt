@@ -17,7 +17,7 @@ use Rattle.sim_tree.specs.Syntax.{Also, Arms, Arrays, Begin, Block, Declaration,
 use Rattle.sim_tree.specs.Syntax as syntax
 use Rattle.sim_meaning.specs.Texts.{BlockText, ClassText, ProcedureText, Text, arms_texts, block_texts, declaration_texts, declarations_texts, program_texts, statement_texts, statements_texts, text, prefix_texts, PrefixedText, prefixed_texts}
 use Rattle.sim_agree.specs.Inners.{NoInner, NoInnerArms, NoInnerWithin, NoInners}
-use Rattle.sim_agree.specs.Plain.{Each, Plain, PlainArms, PlainBlock, PlainDeclaration, PlainDeclarations, PlainStatement, PlainStatements, PlainStart}
+use Rattle.sim_agree.specs.Places.{Each}
 use Rattle.sim_agree.proofs.StandardPrefixes.{behind_prefix, brought_texts}
 use Rattle.sim_agree.specs.TablesOf.{TablesOf}
 
@@ -182,152 +182,152 @@ placed_behind prefix xs a = behind_prefix (Each InPlace) prefix xs a go
 mutual
   unfolding declaring inner_marks prefixed_marks
 
-  statement_placed : (a : Statement) → PlainStatement a → Free (statement_events declaring Inside a) → Each InPlace (statement_texts a)
-  statement_placed (syntax.Empty i) p f = tt
-  statement_placed (syntax.Compound b) p f = block_placed b p f
-  statement_placed (syntax.Call e) p f = tt
-  statement_placed (syntax.Assign e rs) p f = tt
-  statement_placed (syntax.Inner i) p f = tt
-  statement_placed (syntax.Choose i c x y) p f =
-      both_each (statement_texts x) (statements_texts y) (statement_placed x p.1 (front (statement_events declaring Inside x) (statements_events declaring Inside y) f)) (statements_placed y p.2 (back (statement_events declaring Inside x) (statements_events declaring Inside y) f))
-  statement_placed (syntax.Repeat i c x) p f = statement_placed x p.1 f
-  statement_placed (syntax.For i name sign assign es x) p f = statement_placed x p.1 f
-  statement_placed (syntax.Inspect i e opening x end other) p f =
+  statement_placed : (a : Statement) → Free (statement_events declaring Inside a) → Each InPlace (statement_texts a)
+  statement_placed (syntax.Empty i) f = tt
+  statement_placed (syntax.Compound b) f = block_placed b f
+  statement_placed (syntax.Call e) f = tt
+  statement_placed (syntax.Assign e rs) f = tt
+  statement_placed (syntax.Inner i) f = tt
+  statement_placed (syntax.Choose i c x y) f =
+      both_each (statement_texts x) (statements_texts y) (statement_placed x (front (statement_events declaring Inside x) (statements_events declaring Inside y) f)) (statements_placed y (back (statement_events declaring Inside x) (statements_events declaring Inside y) f))
+  statement_placed (syntax.Repeat i c x) f = statement_placed x f
+  statement_placed (syntax.For i name sign assign es x) f = statement_placed x f
+  statement_placed (syntax.Inspect i e opening x end other) f =
       let events = statement_events declaring Inside x in
-      let behind = Closes end ∷ statements_events declaring Inside other in (tt, both_each (statement_texts x) (statements_texts other) (statement_placed x p.1 (front events behind f.1)) (statements_placed other p.2 (back events behind f.1).1))
-  statement_placed (syntax.InspectWhen i e arms other) p f =
-      both_each (arms_texts arms) (statements_texts other) (arms_placed arms p.1 (front (arms_events declaring arms) (statements_events declaring Inside other) f)) (statements_placed other p.2 (back (arms_events declaring arms) (statements_events declaring Inside other) f))
-  statement_placed (syntax.Prefixed class arguments b) p f = prefixed_placed class arguments b p.1 (back (prefixed_marks class (begin_of b)) (whole_events declaring b) f)
-  statement_placed (syntax.Activate i word e schedule) p f = tt
+      let behind = Closes end ∷ statements_events declaring Inside other in (tt, both_each (statement_texts x) (statements_texts other) (statement_placed x (front events behind f.1)) (statements_placed other (back events behind f.1).1))
+  statement_placed (syntax.InspectWhen i e arms other) f =
+      both_each (arms_texts arms) (statements_texts other) (arms_placed arms (front (arms_events declaring arms) (statements_events declaring Inside other) f)) (statements_placed other (back (arms_events declaring arms) (statements_events declaring Inside other) f))
+  statement_placed (syntax.Prefixed class arguments b) f = prefixed_placed class arguments b (back (prefixed_marks class (begin_of b)) (whole_events declaring b) f)
+  statement_placed (syntax.Activate i word e schedule) f = tt
 
-  arms_placed : (arms : Arms) → PlainArms arms → Free (arms_events declaring arms) → Each InPlace (arms_texts arms)
-  arms_placed NoArm p f = tt
-  arms_placed (When i class opening x end more) p f =
+  arms_placed : (arms : Arms) → Free (arms_events declaring arms) → Each InPlace (arms_texts arms)
+  arms_placed NoArm f = tt
+  arms_placed (When i class opening x end more) f =
       let events = statement_events declaring Inside x in
-      let one = events ++ Closes end ∷ [] in (tt, both_each (statement_texts x) (arms_texts more) (statement_placed x p.0 (front events (Closes end ∷ []) (front one (arms_events declaring more) f.1))) (arms_placed more p.1 (back one (arms_events declaring more) f.1)))
+      let one = events ++ Closes end ∷ [] in (tt, both_each (statement_texts x) (arms_texts more) (statement_placed x (front events (Closes end ∷ []) (front one (arms_events declaring more) f.1))) (arms_placed more (back one (arms_events declaring more) f.1)))
 
-  statements_placed : (ss : Statements) → PlainStatements ss → Free (statements_events declaring Inside ss) → Each InPlace (statements_texts ss)
-  statements_placed NoStatement p f = tt
-  statements_placed (Also x more) p f =
-      both_each (statement_texts x) (statements_texts more) (statement_placed x p.0 (front (statement_events declaring Inside x) (statements_events declaring Inside more) f)) (statements_placed more p.1 (back (statement_events declaring Inside x) (statements_events declaring Inside more) f))
+  statements_placed : (ss : Statements) → Free (statements_events declaring Inside ss) → Each InPlace (statements_texts ss)
+  statements_placed NoStatement f = tt
+  statements_placed (Also x more) f =
+      both_each (statement_texts x) (statements_texts more) (statement_placed x (front (statement_events declaring Inside x) (statements_events declaring Inside more) f)) (statements_placed more (back (statement_events declaring Inside x) (statements_events declaring Inside more) f))
 
-  prefixed_placed : (class : Identifier) (arguments : Expressions) (b : Block) → PlainBlock b → Free (whole_events declaring b) → Each InPlace (prefixed_texts class arguments b)
-  prefixed_placed class arguments (Begin i ds ss end) p f =
+  prefixed_placed : (class : Identifier) (arguments : Expressions) (b : Block) → Free (whole_events declaring b) → Each InPlace (prefixed_texts class arguments b)
+  prefixed_placed class arguments (Begin i ds ss end) f =
       let first = declarations_events declaring ds in
       let events = statements_events declaring Inside ss in
       let body = front events (Closes end ∷ []) (back first (events ++ Closes end ∷ []) f) in
-      (no_inners ss body, placed_behind (Some class) (declarations_texts ds ++ statements_texts ss) (both_each (declarations_texts ds) (statements_texts ss) (declarations_placed ds p.0 (front first (events ++ Closes end ∷ []) f)) (statements_placed ss p.1 body)))
+      (no_inners ss body, placed_behind (Some class) (declarations_texts ds ++ statements_texts ss) (both_each (declarations_texts ds) (statements_texts ss) (declarations_placed ds (front first (events ++ Closes end ∷ []) f)) (statements_placed ss body)))
 
-  block_placed : (b : Block) → PlainBlock b → Free (statement_events declaring Inside (syntax.Compound b)) → Each InPlace (block_texts b)
-  block_placed (Begin i NoDeclaration ss end) p f = statements_placed ss p.1 f
-  block_placed (Begin i (With d ds) ss end) p f =
+  block_placed : (b : Block) → Free (statement_events declaring Inside (syntax.Compound b)) → Each InPlace (block_texts b)
+  block_placed (Begin i NoDeclaration ss end) f = statements_placed ss f
+  block_placed (Begin i (With d ds) ss end) f =
       let first = declarations_events declaring (With d ds) in
       let events = statements_events declaring Inside ss in
       let both = front (first ++ events) (Closes end ∷ []) f.1 in
       let own = front first events both in (
         no_inners ss (back first events both),
-        both_each (declaration_texts d) (declarations_texts ds ++ statements_texts ss) (declaration_placed d (p.0).0 (front (declaration_events declaring d) (declarations_events declaring ds) own))
-            (both_each (declarations_texts ds) (statements_texts ss) (declarations_placed ds (p.0).1 (back (declaration_events declaring d) (declarations_events declaring ds) own)) (statements_placed ss p.1 (back first events both))),
+        both_each (declaration_texts d) (declarations_texts ds ++ statements_texts ss) (declaration_placed d (front (declaration_events declaring d) (declarations_events declaring ds) own))
+            (both_each (declarations_texts ds) (statements_texts ss) (declarations_placed ds (back (declaration_events declaring d) (declarations_events declaring ds) own)) (statements_placed ss (back first events both))),
       )
 
-  declarations_placed : (ds : Declarations) → PlainDeclarations ds → Free (declarations_events declaring ds) → Each InPlace (declarations_texts ds)
-  declarations_placed NoDeclaration p f = tt
-  declarations_placed (With d ds) p f =
-      both_each (declaration_texts d) (declarations_texts ds) (declaration_placed d p.0 (front (declaration_events declaring d) (declarations_events declaring ds) f)) (declarations_placed ds p.1 (back (declaration_events declaring d) (declarations_events declaring ds) f))
+  declarations_placed : (ds : Declarations) → Free (declarations_events declaring ds) → Each InPlace (declarations_texts ds)
+  declarations_placed NoDeclaration f = tt
+  declarations_placed (With d ds) f =
+      both_each (declaration_texts d) (declarations_texts ds) (declaration_placed d (front (declaration_events declaring d) (declarations_events declaring ds) f)) (declarations_placed ds (back (declaration_events declaring d) (declarations_events declaring ds) f))
 
-  class_statements_placed : (ss : Statements) → PlainStatements ss → Free (statements_events declaring ClassStatement ss) → Each InPlace (statements_texts ss)
-  class_statements_placed NoStatement p f = tt
-  class_statements_placed (Also x more) p f =
-      both_each (statement_texts x) (statements_texts more) (class_statement x (λ z. statement_placed x p.0 z) (front (statement_events declaring ClassStatement x) (statements_events declaring ClassStatement more) f)) (class_statements_placed more p.1 (back (statement_events declaring ClassStatement x) (statements_events declaring ClassStatement more) f))
+  class_statements_placed : (ss : Statements) → Free (statements_events declaring ClassStatement ss) → Each InPlace (statements_texts ss)
+  class_statements_placed NoStatement f = tt
+  class_statements_placed (Also x more) f =
+      both_each (statement_texts x) (statements_texts more) (class_statement x (λ z. statement_placed x z) (front (statement_events declaring ClassStatement x) (statements_events declaring ClassStatement more) f)) (class_statements_placed more (back (statement_events declaring ClassStatement x) (statements_events declaring ClassStatement more) f))
 
-  declaration_placed : (d : Declaration) → PlainDeclaration d → Free (declaration_events declaring d) → Each InPlace (declaration_texts d)
-  declaration_placed (Variables type vs) p f = tt
-  declaration_placed (Arrays type i gs) p f = tt
-  declaration_placed (DeclareProcedure result i h a end) p f =
+  declaration_placed : (d : Declaration) → Free (declaration_events declaring d) → Each InPlace (declaration_texts d)
+  declaration_placed (Variables type vs) f = tt
+  declaration_placed (Arrays type i gs) f = tt
+  declaration_placed (DeclareProcedure result i h a end) f =
       let heading = procedure_marks result i h.name ++ heading_marks h in
-      let body = front (statement_events declaring Inside a) (Closes end ∷ []) (back heading (statement_events declaring Inside a ++ Closes end ∷ []) f) in (no_inner a body, statement_placed a p.1 body)
-  declaration_placed (DeclareClass prefix i h interface (syntax.Compound (Begin j ds ss e)) end) p f =
+      let body = front (statement_events declaring Inside a) (Closes end ∷ []) (back heading (statement_events declaring Inside a ++ Closes end ∷ []) f) in (no_inner a body, statement_placed a body)
+  declaration_placed (DeclareClass prefix i h interface (syntax.Compound (Begin j ds ss e)) end) f =
       let heading = class_marks prefix i h.name ++ (heading_marks h ++ interface_marks interface) in
       let events = statement_events declaring ClassBody (syntax.Compound (Begin j ds ss e)) in
       let body = front events (Closes end ∷ []) (back heading (events ++ Closes end ∷ []) f) in
       let first = declarations_events declaring ds in
       let more = statements_events declaring ClassStatement ss in
-      (or_inners ss (back first more body), placed_behind prefix (declarations_texts ds ++ statements_texts ss) (both_each (declarations_texts ds) (statements_texts ss) (declarations_placed ds (p.1).0 (front first more body)) (class_statements_placed ss (p.1).1 (back first more body))))
-  declaration_placed (DeclareClass prefix i h interface (syntax.Inner j) end) p f =
+      (or_inners ss (back first more body), placed_behind prefix (declarations_texts ds ++ statements_texts ss) (both_each (declarations_texts ds) (statements_texts ss) (declarations_placed ds (front first more body)) (class_statements_placed ss (back first more body))))
+  declaration_placed (DeclareClass prefix i h interface (syntax.Inner j) end) f =
       let heading = class_marks prefix i h.name ++ (heading_marks h ++ interface_marks interface) in
       let events = statement_events declaring ClassBody (syntax.Inner j) in
       let body = front events (Closes end ∷ []) (back heading (events ++ Closes end ∷ []) f) in
       absurd (body.0)
-  declaration_placed (DeclareClass prefix i h interface (syntax.Prefixed class arguments b) end) p f =
+  declaration_placed (DeclareClass prefix i h interface (syntax.Prefixed class arguments b) end) f =
       let heading = class_marks prefix i h.name ++ (heading_marks h ++ interface_marks interface) in
       let events = statement_events declaring ClassBody (syntax.Prefixed class arguments b) in
       let body = front events (Closes end ∷ []) (back heading (events ++ Closes end ∷ []) f) in
-      ((tt, tt), placed_behind prefix (statement_texts (syntax.Prefixed class arguments b)) (statement_placed (syntax.Prefixed class arguments b) p.1 body))
-  declaration_placed (DeclareClass prefix i h interface (syntax.Activate j word e schedule) end) p f =
+      ((tt, tt), placed_behind prefix (statement_texts (syntax.Prefixed class arguments b)) (statement_placed (syntax.Prefixed class arguments b) body))
+  declaration_placed (DeclareClass prefix i h interface (syntax.Activate j word e schedule) end) f =
       let heading = class_marks prefix i h.name ++ (heading_marks h ++ interface_marks interface) in
       let events = statement_events declaring ClassBody (syntax.Activate j word e schedule) in
       let body = front events (Closes end ∷ []) (back heading (events ++ Closes end ∷ []) f) in
-      ((no_inner (syntax.Activate j word e schedule) body, tt), placed_behind prefix (statement_texts (syntax.Activate j word e schedule)) (statement_placed (syntax.Activate j word e schedule) p.1 body))
-  declaration_placed (DeclareClass prefix i h interface (syntax.Empty j) end) p f =
+      ((no_inner (syntax.Activate j word e schedule) body, tt), placed_behind prefix (statement_texts (syntax.Activate j word e schedule)) (statement_placed (syntax.Activate j word e schedule) body))
+  declaration_placed (DeclareClass prefix i h interface (syntax.Empty j) end) f =
       let heading = class_marks prefix i h.name ++ (heading_marks h ++ interface_marks interface) in
       let events = statement_events declaring ClassBody (syntax.Empty j) in
       let body = front events (Closes end ∷ []) (back heading (events ++ Closes end ∷ []) f) in
-      ((no_inner (syntax.Empty j) body, tt), placed_behind prefix (statement_texts (syntax.Empty j)) (statement_placed (syntax.Empty j) p.1 body))
-  declaration_placed (DeclareClass prefix i h interface (syntax.Call e) end) p f =
+      ((no_inner (syntax.Empty j) body, tt), placed_behind prefix (statement_texts (syntax.Empty j)) (statement_placed (syntax.Empty j) body))
+  declaration_placed (DeclareClass prefix i h interface (syntax.Call e) end) f =
       let heading = class_marks prefix i h.name ++ (heading_marks h ++ interface_marks interface) in
       let events = statement_events declaring ClassBody (syntax.Call e) in
       let body = front events (Closes end ∷ []) (back heading (events ++ Closes end ∷ []) f) in
-      ((no_inner (syntax.Call e) body, tt), placed_behind prefix (statement_texts (syntax.Call e)) (statement_placed (syntax.Call e) p.1 body))
-  declaration_placed (DeclareClass prefix i h interface (syntax.Assign e rs) end) p f =
+      ((no_inner (syntax.Call e) body, tt), placed_behind prefix (statement_texts (syntax.Call e)) (statement_placed (syntax.Call e) body))
+  declaration_placed (DeclareClass prefix i h interface (syntax.Assign e rs) end) f =
       let heading = class_marks prefix i h.name ++ (heading_marks h ++ interface_marks interface) in
       let events = statement_events declaring ClassBody (syntax.Assign e rs) in
       let body = front events (Closes end ∷ []) (back heading (events ++ Closes end ∷ []) f) in
-      ((no_inner (syntax.Assign e rs) body, tt), placed_behind prefix (statement_texts (syntax.Assign e rs)) (statement_placed (syntax.Assign e rs) p.1 body))
-  declaration_placed (DeclareClass prefix i h interface (syntax.Choose j c x y) end) p f =
+      ((no_inner (syntax.Assign e rs) body, tt), placed_behind prefix (statement_texts (syntax.Assign e rs)) (statement_placed (syntax.Assign e rs) body))
+  declaration_placed (DeclareClass prefix i h interface (syntax.Choose j c x y) end) f =
       let heading = class_marks prefix i h.name ++ (heading_marks h ++ interface_marks interface) in
       let events = statement_events declaring ClassBody (syntax.Choose j c x y) in
       let body = front events (Closes end ∷ []) (back heading (events ++ Closes end ∷ []) f) in
-      ((no_inner (syntax.Choose j c x y) body, tt), placed_behind prefix (statement_texts (syntax.Choose j c x y)) (statement_placed (syntax.Choose j c x y) p.1 body))
-  declaration_placed (DeclareClass prefix i h interface (syntax.Repeat j c x) end) p f =
+      ((no_inner (syntax.Choose j c x y) body, tt), placed_behind prefix (statement_texts (syntax.Choose j c x y)) (statement_placed (syntax.Choose j c x y) body))
+  declaration_placed (DeclareClass prefix i h interface (syntax.Repeat j c x) end) f =
       let heading = class_marks prefix i h.name ++ (heading_marks h ++ interface_marks interface) in
       let events = statement_events declaring ClassBody (syntax.Repeat j c x) in
       let body = front events (Closes end ∷ []) (back heading (events ++ Closes end ∷ []) f) in
-      ((no_inner (syntax.Repeat j c x) body, tt), placed_behind prefix (statement_texts (syntax.Repeat j c x)) (statement_placed (syntax.Repeat j c x) p.1 body))
-  declaration_placed (DeclareClass prefix i h interface (syntax.For j name sign assign es x) end) p f =
+      ((no_inner (syntax.Repeat j c x) body, tt), placed_behind prefix (statement_texts (syntax.Repeat j c x)) (statement_placed (syntax.Repeat j c x) body))
+  declaration_placed (DeclareClass prefix i h interface (syntax.For j name sign assign es x) end) f =
       let heading = class_marks prefix i h.name ++ (heading_marks h ++ interface_marks interface) in
       let events = statement_events declaring ClassBody (syntax.For j name sign assign es x) in
       let body = front events (Closes end ∷ []) (back heading (events ++ Closes end ∷ []) f) in
-      ((no_inner (syntax.For j name sign assign es x) body, tt), placed_behind prefix (statement_texts (syntax.For j name sign assign es x)) (statement_placed (syntax.For j name sign assign es x) p.1 body))
-  declaration_placed (DeclareClass prefix i h interface (syntax.Inspect j e opening x close other) end) p f =
+      ((no_inner (syntax.For j name sign assign es x) body, tt), placed_behind prefix (statement_texts (syntax.For j name sign assign es x)) (statement_placed (syntax.For j name sign assign es x) body))
+  declaration_placed (DeclareClass prefix i h interface (syntax.Inspect j e opening x close other) end) f =
       let heading = class_marks prefix i h.name ++ (heading_marks h ++ interface_marks interface) in
       let events = statement_events declaring ClassBody (syntax.Inspect j e opening x close other) in
       let body = front events (Closes end ∷ []) (back heading (events ++ Closes end ∷ []) f) in
-      ((no_inner (syntax.Inspect j e opening x close other) body, tt), placed_behind prefix (statement_texts (syntax.Inspect j e opening x close other)) (statement_placed (syntax.Inspect j e opening x close other) p.1 body))
-  declaration_placed (DeclareClass prefix i h interface (syntax.InspectWhen j e arms other) end) p f =
+      ((no_inner (syntax.Inspect j e opening x close other) body, tt), placed_behind prefix (statement_texts (syntax.Inspect j e opening x close other)) (statement_placed (syntax.Inspect j e opening x close other) body))
+  declaration_placed (DeclareClass prefix i h interface (syntax.InspectWhen j e arms other) end) f =
       let heading = class_marks prefix i h.name ++ (heading_marks h ++ interface_marks interface) in
       let events = statement_events declaring ClassBody (syntax.InspectWhen j e arms other) in
       let body = front events (Closes end ∷ []) (back heading (events ++ Closes end ∷ []) f) in
-      ((no_inner (syntax.InspectWhen j e arms other) body, tt), placed_behind prefix (statement_texts (syntax.InspectWhen j e arms other)) (statement_placed (syntax.InspectWhen j e arms other) p.1 body))
+      ((no_inner (syntax.InspectWhen j e arms other) body, tt), placed_behind prefix (statement_texts (syntax.InspectWhen j e arms other)) (statement_placed (syntax.InspectWhen j e arms other) body))
 
-program_placed : (prefix : Option Prefix) (b : Block) → PlainStart prefix → PlainBlock b → Free (program_events declaring (record { prefix = prefix; block = b })) → Each InPlace (program_texts prefix b)
+program_placed : (prefix : Option Prefix) (b : Block) → Free (program_events declaring (record { prefix = prefix; block = b })) → Each InPlace (program_texts prefix b)
 unfolding program_events declaring
-program_placed None (Begin i ds ss end) e p f =
+program_placed None (Begin i ds ss end) f =
     let first = declarations_events declaring ds in
     let events = statements_events declaring Inside ss in
     let whole = back (program_marks None i) (first ++ (events ++ Closes end ∷ [])) f in
     let body = front events (Closes end ∷ []) (back first (events ++ Closes end ∷ []) whole) in
-    (no_inners ss body, both_each (declarations_texts ds) (statements_texts ss) (declarations_placed ds p.0 (front first (events ++ Closes end ∷ []) whole)) (statements_placed ss p.1 body))
-program_placed (Some x) b e p f = start x b e p (back (program_marks (Some x) (begin_of b)) (whole_events declaring b) f)
+    (no_inners ss body, both_each (declarations_texts ds) (statements_texts ss) (declarations_placed ds (front first (events ++ Closes end ∷ []) whole)) (statements_placed ss body))
+program_placed (Some x) b f = start x b (back (program_marks (Some x) (begin_of b)) (whole_events declaring b) f)
   where
-    start : (x : Prefix) (b : Block) → PlainStart (Some x) → PlainBlock b → Free (whole_events declaring b) → Each InPlace (program_texts (Some x) b)
-    start x (Begin i ds ss end) e p f = prefixed_placed x.class x.arguments (Begin i ds ss end) p f
+    start : (x : Prefix) (b : Block) → Free (whole_events declaring b) → Each InPlace (program_texts (Some x) b)
+    start x (Begin i ds ss end) f = prefixed_placed x.class x.arguments (Begin i ds ss end) f
 
 pub each_at : (P : Text → Type 0) (xs : List Text) (k : ℕ) (x : Text) → Each P xs → slice_get xs k ≡ Some x → P x
 each_at P [] k x a e = absurd (cc)
 each_at P (y ∷ xs) zero x a e = let same : y ≡ x = cc in subst P same a.0
 each_at P (y ∷ xs) (suc k) x a e = each_at P xs k x a.1 e
 
-pub in_place : (s : Source) → TablesOf s → Plain s.program → (k : ℕ) (x : Text) → text s k ≡ Some x → InPlace x
+pub in_place : (s : Source) → TablesOf s → (k : ℕ) (x : Text) → text s k ≡ Some x → InPlace x
 unfolding text
-in_place s of plain k x e =
-    each_at InPlace (program_texts s.program.prefix s.program.block) k x (program_placed s.program.prefix s.program.block plain.start plain.block (program_free s.program of.unbroken)) e
+in_place s of k x e =
+    each_at InPlace (program_texts s.program.prefix s.program.block) k x (program_placed s.program.prefix s.program.block (program_free s.program of.unbroken)) e

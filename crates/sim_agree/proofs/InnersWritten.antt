@@ -1,4 +1,4 @@
--- The tables of an allowed plain program have an `inner` of a class just where one is among its statements, and never two.
+-- The tables of an allowed program have an `inner` of a class just where one is among its statements, and never two.
 use Rattle.std.proofs.Common.{◌≡◌, ℕ, zero, suc, Bool, true, false, List, [], ◌∷◌, ◌++◌, length, map, Option, Some, None, refl, sym, ap, ◌∙◌, subst, arith, append-nil, append_assoc}
 use Rattle.std.specs.Prelude.{slice_get, slice_set}
 use Rattle.std.proofs.lemmas.List.{length-map, map-append}
@@ -29,7 +29,6 @@ use Rattle.sim_scope.proofs.Walks.{run-append}
 use Rattle.sim_meaning.specs.Levels.{is_written, written_in}
 use Rattle.sim_meaning.specs.Texts.{BlockText, ClassText, ConnectionText, ProcedureText, Text, arms_texts, block_texts, declaration_texts, declarations_texts, program_texts, statement_texts, statements_texts, text, PrefixedText, prefix_texts, prefixed_texts, standard_texts}
 use Rattle.sim_agree.specs.Inners.{Inners, InnersIn, NoInner, NoInners, OneInner, here, behind}
-use Rattle.sim_agree.specs.Plain.{Plain, PlainArms, PlainBlock, PlainDeclaration, PlainDeclarations, PlainStatement, PlainStatements}
 use Rattle.sim_agree.specs.TablesOf.{TablesOf}
 use Rattle.sim_agree.proofs.Completing.{bare_row}
 use Rattle.sim_agree.proofs.BroughtRows.{added_rows, bringing}
@@ -492,40 +491,40 @@ class_adds prefix i h interface a e p =
 mutual
   unfolding declaring inner_marks prefixed_marks
 
-  statement_adds : (a : Statement) → PlainStatement a → Adds (statement_events declaring Inside a) (statement_texts a)
-  statement_adds (syntax.Empty i) p = adds_kept [] tt
-  statement_adds (syntax.Compound b) p = block_adds b p
-  statement_adds (syntax.Prefixed class arguments b) p = prefixed_adds class arguments b p.1
-  statement_adds (syntax.Inner i) p = adds_kept (inner_marks Inside i) (tt, tt)
-  statement_adds (syntax.Call e) p = adds_kept [] tt
-  statement_adds (syntax.Assign left rest) p = adds_kept [] tt
-  statement_adds (syntax.Choose i e a rest) p = adds_both (statement_events declaring Inside a) (statements_events declaring Inside rest) (statement_texts a) (statements_texts rest) (statement_adds a p.1) (statements_add rest p.2)
-  statement_adds (syntax.Repeat i e a) p = statement_adds a p.1
-  statement_adds (syntax.For i x sign j es a) p = statement_adds a p.1
-  statement_adds (syntax.Inspect i object d a e rest) p =
+  statement_adds : (a : Statement) → Adds (statement_events declaring Inside a) (statement_texts a)
+  statement_adds (syntax.Empty i) = adds_kept [] tt
+  statement_adds (syntax.Compound b) = block_adds b
+  statement_adds (syntax.Prefixed class arguments b) = prefixed_adds class arguments b
+  statement_adds (syntax.Inner i) = adds_kept (inner_marks Inside i) (tt, tt)
+  statement_adds (syntax.Call e) = adds_kept [] tt
+  statement_adds (syntax.Assign left rest) = adds_kept [] tt
+  statement_adds (syntax.Choose i e a rest) = adds_both (statement_events declaring Inside a) (statements_events declaring Inside rest) (statement_texts a) (statements_texts rest) (statement_adds a) (statements_add rest)
+  statement_adds (syntax.Repeat i e a) = statement_adds a
+  statement_adds (syntax.For i x sign j es a) = statement_adds a
+  statement_adds (syntax.Inspect i object d a e rest) =
       let es = statement_events declaring Inside a in
       let fs = statements_events declaring Inside rest in
       adds_as ((Opens kind.Connection d d ∷ (es ++ Closes e ∷ [])) ++ fs) _ _ (ap (λ z. Opens kind.Connection d d ∷ z) (append_assoc es (Closes e ∷ []) fs))
-      (adds_both (Opens kind.Connection d d ∷ (es ++ Closes e ∷ [])) fs (ConnectionText ∷ statement_texts a) (statements_texts rest) (adds_connection d e es (statement_texts a) (statement_adds a p.1)) (statements_add rest p.2))
-  statement_adds (syntax.InspectWhen i object arms rest) p = adds_both (arms_events declaring arms) (statements_events declaring Inside rest) (arms_texts arms) (statements_texts rest) (arms_add arms p.1) (statements_add rest p.2)
-  statement_adds (syntax.Activate i word process schedule) p = adds_kept [] tt
+      (adds_both (Opens kind.Connection d d ∷ (es ++ Closes e ∷ [])) fs (ConnectionText ∷ statement_texts a) (statements_texts rest) (adds_connection d e es (statement_texts a) (statement_adds a)) (statements_add rest))
+  statement_adds (syntax.InspectWhen i object arms rest) = adds_both (arms_events declaring arms) (statements_events declaring Inside rest) (arms_texts arms) (statements_texts rest) (arms_add arms) (statements_add rest)
+  statement_adds (syntax.Activate i word process schedule) = adds_kept [] tt
 
-  statements_add : (ss : Statements) → PlainStatements ss → Adds (statements_events declaring Inside ss) (statements_texts ss)
-  statements_add NoStatement p = adds_kept [] tt
-  statements_add (Also a more) p = adds_both (statement_events declaring Inside a) (statements_events declaring Inside more) (statement_texts a) (statements_texts more) (statement_adds a p.0) (statements_add more p.1)
+  statements_add : (ss : Statements) → Adds (statements_events declaring Inside ss) (statements_texts ss)
+  statements_add NoStatement = adds_kept [] tt
+  statements_add (Also a more) = adds_both (statement_events declaring Inside a) (statements_events declaring Inside more) (statement_texts a) (statements_texts more) (statement_adds a) (statements_add more)
 
-  class_statements_add : (ss : Statements) → PlainStatements ss → ClassAdds ss
-  class_statements_add NoStatement p = class_none
-  class_statements_add (Also a more) p = class_statement a more (statement_adds a p.0) (class_statements_add more p.1)
+  class_statements_add : (ss : Statements) → ClassAdds ss
+  class_statements_add NoStatement = class_none
+  class_statements_add (Also a more) = class_statement a more (statement_adds a) (class_statements_add more)
 
-  arms_add : (arms : Arms) → PlainArms arms → Adds (arms_events declaring arms) (arms_texts arms)
-  arms_add NoArm p = adds_kept [] tt
-  arms_add (When i x d a e more) p =
+  arms_add : (arms : Arms) → Adds (arms_events declaring arms) (arms_texts arms)
+  arms_add NoArm = adds_kept [] tt
+  arms_add (When i x d a e more) =
       adds_both (Opens kind.Connection d d ∷ (statement_events declaring Inside a ++ Closes e ∷ [])) (arms_events declaring more) (ConnectionText ∷ statement_texts a) (arms_texts more)
-      (adds_connection d e (statement_events declaring Inside a) (statement_texts a) (statement_adds a p.0)) (arms_add more p.1)
+      (adds_connection d e (statement_events declaring Inside a) (statement_texts a) (statement_adds a)) (arms_add more)
 
-  prefixed_adds : (class : Identifier) (arguments : Expressions) (b : Block) → PlainBlock b → Adds (prefixed_marks class (begin_of b) ++ whole_events declaring b) (prefixed_texts class arguments b)
-  prefixed_adds class arguments (Begin i ds ss e) p =
+  prefixed_adds : (class : Identifier) (arguments : Expressions) (b : Block) → Adds (prefixed_marks class (begin_of b) ++ whole_events declaring b) (prefixed_texts class arguments b)
+  prefixed_adds class arguments (Begin i ds ss e) =
       let P : List Mark = prefix_marks i class in
       let es = declarations_events declaring ds in
       let fs = statements_events declaring Inside ss in
@@ -537,57 +536,57 @@ mutual
       (ap (λ z. O ∷ z) (append_assoc P (es ++ fs) (Closes e ∷ []) ∙ ap (λ z. P ++ z) (append_assoc es fs (Closes e ∷ []))))
       (adds_one kind.Prefixed class.token.0 i e x (P ++ (es ++ fs)) ms
       (prefix_fills x i class (es ++ fs) ns
-      (fills_plain x (es ++ fs) ns (λ f. no_inners ss (back es fs f)) (adds_both es fs (declarations_texts ds) (statements_texts ss) (declarations_add ds p.0) (statements_add ss p.1)))))
+      (fills_plain x (es ++ fs) ns (λ f. no_inners ss (back es fs f)) (adds_both es fs (declarations_texts ds) (statements_texts ss) (declarations_add ds) (statements_add ss)))))
 
-  block_adds : (b : Block) → PlainBlock b → Adds (block_events declaring b) (block_texts b)
-  block_adds (Begin i NoDeclaration ss e) p = statements_add ss p.1
-  block_adds (Begin i (With d ds) ss e) p =
+  block_adds : (b : Block) → Adds (block_events declaring b) (block_texts b)
+  block_adds (Begin i NoDeclaration ss e) = statements_add ss
+  block_adds (Begin i (With d ds) ss e) =
       let es = declarations_events declaring (With d ds) in
       let fs = statements_events declaring Inside ss in
       let x : Text = BlockText i (With d ds) ss in
       let ns : List Text = declarations_texts (With d ds) ++ statements_texts ss in
       adds_texts _ (x ∷ ns) _ (ap (λ z. x ∷ z) (append_assoc (declaration_texts d) (declarations_texts ds) (statements_texts ss)))
-      (adds_filled kind.SubBlock i i e x (es ++ fs) ns (fills_plain x (es ++ fs) ns (λ f. no_inners ss (back es fs f)) (adds_both es fs (declarations_texts (With d ds)) (statements_texts ss) (declarations_add (With d ds) p.0) (statements_add ss p.1))))
+      (adds_filled kind.SubBlock i i e x (es ++ fs) ns (fills_plain x (es ++ fs) ns (λ f. no_inners ss (back es fs f)) (adds_both es fs (declarations_texts (With d ds)) (statements_texts ss) (declarations_add (With d ds)) (statements_add ss))))
 
-  declarations_add : (ds : Declarations) → PlainDeclarations ds → Adds (declarations_events declaring ds) (declarations_texts ds)
-  declarations_add NoDeclaration p = adds_kept [] tt
-  declarations_add (With d ds) p = adds_both (declaration_events declaring d) (declarations_events declaring ds) (declaration_texts d) (declarations_texts ds) (declaration_adds d p.0) (declarations_add ds p.1)
+  declarations_add : (ds : Declarations) → Adds (declarations_events declaring ds) (declarations_texts ds)
+  declarations_add NoDeclaration = adds_kept [] tt
+  declarations_add (With d ds) = adds_both (declaration_events declaring d) (declarations_events declaring ds) (declaration_texts d) (declarations_texts ds) (declaration_adds d) (declarations_add ds)
 
-  declaration_adds : (d : Declaration) → PlainDeclaration d → Adds (declaration_events declaring d) (declaration_texts d)
-  declaration_adds (Variables type vs) p = adds_kept (each (variable_marks type) vs) (keep_variables type vs)
-  declaration_adds (Arrays type i segments) p = adds_kept (each (segment_marks type) segments) (keep_segments type segments)
-  declaration_adds (DeclareProcedure result i h a e) p = procedure_adds result i h a e (statement_adds a p.1)
-  declaration_adds (DeclareClass prefix i h interface a e) p = class_adds prefix i h interface a e (class_body prefix a h p.1 (statement_adds a p.1))
+  declaration_adds : (d : Declaration) → Adds (declaration_events declaring d) (declaration_texts d)
+  declaration_adds (Variables type vs) = adds_kept (each (variable_marks type) vs) (keep_variables type vs)
+  declaration_adds (Arrays type i segments) = adds_kept (each (segment_marks type) segments) (keep_segments type segments)
+  declaration_adds (DeclareProcedure result i h a e) = procedure_adds result i h a e (statement_adds a)
+  declaration_adds (DeclareClass prefix i h interface a e) = class_adds prefix i h interface a e (class_body prefix a h (statement_adds a))
 
-  class_body : (prefix : Option Identifier) (a : Statement) (h : Heading) → PlainStatement a → Adds (statement_events declaring Inside a) (statement_texts a)
+  class_body : (prefix : Option Identifier) (a : Statement) (h : Heading) → Adds (statement_events declaring Inside a) (statement_texts a)
       → Fills (ClassText prefix h (body_declarations a) (body_statements a)) (statement_events declaring ClassBody a) (declarations_texts (body_declarations a) ++ statements_texts (body_statements a))
-  class_body prefix (syntax.Compound (Begin i ds ss e)) h p one = class_fills prefix h ds ss (declarations_add ds p.0) (class_statements_add ss p.1)
-  class_body prefix (syntax.Empty i) h p one = one_fills prefix h (syntax.Empty i) one
-  class_body prefix (syntax.Prefixed class arguments b) h p one = one_fills prefix h (syntax.Prefixed class arguments b) one
-  class_body prefix (syntax.Inner i) h p one = one_fills prefix h (syntax.Inner i) one
-  class_body prefix (syntax.Call e) h p one = one_fills prefix h (syntax.Call e) one
-  class_body prefix (syntax.Assign left rest) h p one = one_fills prefix h (syntax.Assign left rest) one
-  class_body prefix (syntax.Choose i e a rest) h p one = one_fills prefix h (syntax.Choose i e a rest) one
-  class_body prefix (syntax.Repeat i e a) h p one = one_fills prefix h (syntax.Repeat i e a) one
-  class_body prefix (syntax.For i x sign j es a) h p one = one_fills prefix h (syntax.For i x sign j es a) one
-  class_body prefix (syntax.Inspect i object d a e rest) h p one = one_fills prefix h (syntax.Inspect i object d a e rest) one
-  class_body prefix (syntax.InspectWhen i object arms rest) h p one = one_fills prefix h (syntax.InspectWhen i object arms rest) one
-  class_body prefix (syntax.Activate i word process schedule) h p one = one_fills prefix h (syntax.Activate i word process schedule) one
+  class_body prefix (syntax.Compound (Begin i ds ss e)) h one = class_fills prefix h ds ss (declarations_add ds) (class_statements_add ss)
+  class_body prefix (syntax.Empty i) h one = one_fills prefix h (syntax.Empty i) one
+  class_body prefix (syntax.Prefixed class arguments b) h one = one_fills prefix h (syntax.Prefixed class arguments b) one
+  class_body prefix (syntax.Inner i) h one = one_fills prefix h (syntax.Inner i) one
+  class_body prefix (syntax.Call e) h one = one_fills prefix h (syntax.Call e) one
+  class_body prefix (syntax.Assign left rest) h one = one_fills prefix h (syntax.Assign left rest) one
+  class_body prefix (syntax.Choose i e a rest) h one = one_fills prefix h (syntax.Choose i e a rest) one
+  class_body prefix (syntax.Repeat i e a) h one = one_fills prefix h (syntax.Repeat i e a) one
+  class_body prefix (syntax.For i x sign j es a) h one = one_fills prefix h (syntax.For i x sign j es a) one
+  class_body prefix (syntax.Inspect i object d a e rest) h one = one_fills prefix h (syntax.Inspect i object d a e rest) one
+  class_body prefix (syntax.InspectWhen i object arms rest) h one = one_fills prefix h (syntax.InspectWhen i object arms rest) one
+  class_body prefix (syntax.Activate i word process schedule) h one = one_fills prefix h (syntax.Activate i word process schedule) one
 
 -- the program's block, which is around all
 whole_program : (es : List Mark) (ns : List Text) → Adds es ns → all_breaks empty es ≡ [] → Grown [] None ns (run marked empty es)
 unfolding Adds
 whole_program es ns p e = p empty [] None (record { rows = refl; current = refl }) e
 
-program_grown : (p : Program) → Plain p → (declared_by p).least ≡ None → Grown [] None (program_texts p.prefix p.block) (declared_by p)
+program_grown : (p : Program) → (declared_by p).least ≡ None → Grown [] None (program_texts p.prefix p.block) (declared_by p)
 unfolding declared_by broken_by program_events declaring program_marks
-program_grown p q unbroken = go p.prefix p.block q.block (no_fault (broken_by p) (declared_by p).least unbroken (least_declared p))
+program_grown p unbroken = go p.prefix p.block (no_fault (broken_by p) (declared_by p).least unbroken (least_declared p))
   where
-    go : (prefix : Option Prefix) (b : Block) → PlainBlock b → all_breaks empty (program_marks prefix (begin_of b) ++ whole_events declaring b) ≡ []
+    go : (prefix : Option Prefix) (b : Block) → all_breaks empty (program_marks prefix (begin_of b) ++ whole_events declaring b) ≡ []
         → Grown [] None (program_texts prefix b) (run marked empty (program_marks prefix (begin_of b) ++ whole_events declaring b))
-    go (Some x) (Begin i ds ss end) r none =
-        whole_program (prefixed_marks x.class i ++ whole_events declaring (Begin i ds ss end)) (prefixed_texts x.class x.arguments (Begin i ds ss end)) (prefixed_adds x.class x.arguments (Begin i ds ss end) r) none
-    go None (Begin i ds ss end) r none =
+    go (Some x) (Begin i ds ss end) none =
+        whole_program (prefixed_marks x.class i ++ whole_events declaring (Begin i ds ss end)) (prefixed_texts x.class x.arguments (Begin i ds ss end)) (prefixed_adds x.class x.arguments (Begin i ds ss end)) none
+    go None (Begin i ds ss end) none =
         let es = declarations_events declaring ds in
         let fs = statements_events declaring Inside ss in
         let x : Text = BlockText i ds ss in
@@ -595,7 +594,7 @@ program_grown p q unbroken = go p.prefix p.block q.block (no_fault (broken_by p)
         let same : Opens kind.Program i i ∷ ((es ++ fs) ++ Closes end ∷ []) ≡ Opens kind.Program i i ∷ (es ++ (fs ++ Closes end ∷ [])) = ap (λ z. Opens kind.Program i i ∷ z) (append_assoc es fs (Closes end ∷ [])) in
         subst (λ z. Grown [] None (x ∷ ns) (run marked empty z)) same
         (whole_program (Opens kind.Program i i ∷ ((es ++ fs) ++ Closes end ∷ [])) (x ∷ ns)
-        (adds_filled kind.Program i i end x (es ++ fs) ns (fills_plain x (es ++ fs) ns (λ f. no_inners ss (back es fs f)) (adds_both es fs (declarations_texts ds) (statements_texts ss) (declarations_add ds r.0) (statements_add ss r.1))))
+        (adds_filled kind.Program i i end x (es ++ fs) ns (fills_plain x (es ++ fs) ns (λ f. no_inners ss (back es fs f)) (adds_both es fs (declarations_texts ds) (statements_texts ss) (declarations_add ds) (statements_add ss))))
         (ap (all_breaks empty) same ∙ none))
 
 -- ---- each text
@@ -620,12 +619,12 @@ bare_written : (o : Option BlockOf) → written_in (bare_row o) ≡ written_in o
 bare_written None = refl
 bare_written (Some b) = refl
 
-pub inners : (s : Source) → TablesOf s → Plain s.program → InOrder s.program → Inners s
+pub inners : (s : Source) → TablesOf s → InOrder s.program → Inners s
 unfolding text
-inners s of plain order k y e =
-    let g = program_grown s.program plain of.unbroken in
+inners s of order k y e =
+    let g = program_grown s.program of.unbroken in
     let D = (declared_by s.program).tables.blocks in
     let declared : inner_at_row (slice_get g.more k) ≡ written_in (slice_get D k) = ap (λ z. inner_at_row (slice_get z k)) (sym g.stays.rows) ∙ row_written D k in
     let complete : written_in (slice_get s.tables.blocks k) ≡ written_in (slice_get D k) =
-    sym (bare_written (slice_get s.tables.blocks k)) ∙ ap written_in ((t.completed_tables s of plain order).blocks k) ∙ bare_written (slice_get D k) in
+    sym (bare_written (slice_get s.tables.blocks k)) ∙ ap written_in ((t.completed_tables s of order).blocks k) ∙ bare_written (slice_get D k) in
     subst (λ z. InnersIn (is_written z) y) (declared ∙ sym complete) (fits_at g.more (program_texts s.program.prefix s.program.block) k y g.fits e)

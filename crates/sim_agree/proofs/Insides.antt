@@ -1,4 +1,4 @@
--- Which tokens stand in which blocks of an allowed plain program, and which texts last.
+-- Which tokens stand in which blocks of an allowed program, and which texts last.
 use Rattle.std.proofs.Common.{◌≡◌, ◌<◌, ◌≤◌, ◌⊎◌, inl, inr, ℕ, zero, suc, Bool, true, false, List, [], ◌∷◌, length, Option, Some, None, refl, sym, ap, ◌∙◌, subst, arith}
 use Rattle.std.specs.Prelude.{◌&&◌, ◌||◌, nat_le, nat_lt, not, slice_get}
 use Rattle.std.specs.List.{list_any}
@@ -19,7 +19,6 @@ use Rattle.sim_scope.specs.Tables.{BlockOf, Tables}
 use Rattle.sim_meaning.specs.Attributes.{is_connection}
 use Rattle.sim_meaning.specs.Texts.{BlockText, ClassText, ConnectionText, PrefixedText, ProcedureText, StandardText, Text, has_class_in, is_class_free, is_class_kind, text}
 use Rattle.sim_sound.specs.Held.{Around, further, itself}
-use Rattle.sim_agree.specs.Plain.{Plain}
 use Rattle.sim_agree.specs.TablesOf.{TablesOf}
 use Rattle.sim_agree.proofs.ClassRows.{levels_of_kind}
 use Rattle.sim_agree.proofs.Depth.{Chain, Deep, IsOpen, beyond, program_deep, same}
@@ -77,26 +76,26 @@ some_at {A = A} f (y ∷ ys) h = go (f y) refl h (λ g. some_at f ys g)
     go true e g later = (0, (y, refl, e))
     go false e g later = let q = later g in (suc q.0, q.1)
 
-module _ (s : Source) (of : TablesOf s) (plain : Plain s.program) (order : InOrder s.program) where
+module _ (s : Source) (of : TablesOf s) (order : InOrder s.program) where
   D : Tables
   D = (declared_by s.program).tables
 
-  deep : Deep (declared_by s.program) (program_deep s.program plain order).0
-  deep = (program_deep s.program plain order).1
+  deep : Deep (declared_by s.program) (program_deep s.program order).0
+  deep = (program_deep s.program order).1
 
   final : Final (declared_by s.program) (program_held s.program.prefix s.program.block)
-  final = program_final s.program plain order
+  final = program_final s.program order
 
   none_open : (j : ℕ) → IsOpen (declared_by s.program) j → ⊥
   none_open j q = let e : None ≡ Some q.0 = sym final.laid.stack ∙ q.1 in cc
 
   same_places : s.tables.places ≡ (declared_by s.program).tables.places
-  same_places = (t.completed_tables s of plain order).places
+  same_places = (t.completed_tables s of order).places
 
   chain_around : {k j : ℕ} → Chain (declared_by s.program).tables.blocks k j → Around s.tables k j
   unfolding encloser
   chain_around same = itself
-  chain_around (beyond {k = k} e c) = further (t.same_around s of plain order k ∙ e) (chain_around c)
+  chain_around (beyond {k = k} e c) = further (t.same_around s of order k ∙ e) (chain_around c)
 
   -- a block whose text has a token is around the innermost block of that token
   chain_to : (i k j : ℕ) (row : BlockOf) → slice_get (declared_by s.program).tables.places i ≡ Some (Some k) → slice_get (declared_by s.program).tables.blocks j ≡ Some row → row.first ≤ i → i < row.end → Chain (declared_by s.program).tables.blocks k j
@@ -111,7 +110,7 @@ module _ (s : Source) (of : TablesOf s) (plain : Plain s.program) (order : InOrd
       go (a, inr b) = (a, b)
 
   first_of : (k : ℕ) (row : BlockOf) → slice_get (declared_by s.program).tables.blocks k ≡ Some row → is_standard_class row.kind ≡ false → slice_get (declared_by s.program).tables.places row.first ≡ Some (Some k)
-  first_of k row at other = t.first_place s.program plain order k row at other
+  first_of k row at other = t.first_place s.program order k row at other
 
   pub inside : (token k j : ℕ) → block_at s.tables token ≡ Some k → is_inside s.tables token j ≡ true → Around s.tables k j
   unfolding block_at is_inside
@@ -122,7 +121,7 @@ module _ (s : Source) (of : TablesOf s) (plain : Plain s.program) (order : InOrd
       go (Some None) e f r g h = absurd (cc)
       go (Some (Some m)) e f None g h = absurd (cc)
       go (Some (Some m)) e f (Some row) g h =
-          let w = t.row_was s of plain order j row g in
+          let w = t.row_was s of order j row g in
           let q = low_high row.first row.end token h in
           let x : row.first ≡ w.0.first = ap (λ (z : BlockOf). z.first) w.2 in
           let y : row.end ≡ w.0.end = ap (λ (z : BlockOf). z.end) w.2 in
@@ -203,17 +202,17 @@ module _ (s : Source) (of : TablesOf s) (plain : Plain s.program) (order : InOrd
 
   pub stays : (k : ℕ) → has_levels (text s k) ≡ true → is_class_free s k ≡ false
   unfolding text is_class_free
-  stays k levels = go (slice_get s.tables.blocks k) refl (t.kind_at s of plain order k)
+  stays k levels = go (slice_get s.tables.blocks k) refl (t.kind_at s of order k)
     where
       nothing : (o : Option Text) → KindIs None o → has_levels o ≡ true → ⊥
       nothing None q e = cc
       nothing (Some x) q e = q
 
-      go : (o : Option BlockOf) → slice_get s.tables.blocks k ≡ o → KindIs o (slice_get (t.Ts s of plain order) k) → not (has_class_in (slice_get s.tables.blocks k) s.tables.blocks) ≡ false
-      go None at q = absurd (nothing (slice_get (t.Ts s of plain order) k) q levels)
+      go : (o : Option BlockOf) → slice_get s.tables.blocks k ≡ o → KindIs o (slice_get (t.Ts s of order) k) → not (has_class_in (slice_get s.tables.blocks k) s.tables.blocks) ≡ false
+      go None at q = absurd (nothing (slice_get (t.Ts s of order) k) q levels)
       go (Some row) at q =
           ap (λ o. not (has_class_in o s.tables.blocks)) at
-          ∙ ap (λ z. not (z || list_any (λ c. is_class_kind c.kind && nat_le row.first c.first && nat_lt c.first row.end) s.tables.blocks)) (of_class_kind row (slice_get (t.Ts s of plain order) k) q levels)
+          ∙ ap (λ z. not (z || list_any (λ c. is_class_kind c.kind && nat_le row.first c.first && nat_lt c.first row.end) s.tables.blocks)) (of_class_kind row (slice_get (t.Ts s of order) k) q levels)
 
   -- what is no text with levels is no standard class
   no_standard : (row : BlockOf) (o : Option Text) → KindIs (Some row) o → has_levels o ≡ false → is_standard_class row.kind ≡ false
@@ -237,8 +236,8 @@ module _ (s : Source) (of : TablesOf s) (plain : Plain s.program) (order : InOrd
   -- a standard class has no text
   set_first : (k : ℕ) (row : BlockOf) → slice_get s.tables.blocks k ≡ Some row → is_standard_class row.kind ≡ true → row.first ≡ 0
   set_first k row at is =
-      let w = t.row_was s of plain order k row at in
-      ap (λ (z : BlockOf). z.first) w.2 ∙ of_kind w.0.kind w.0.first (ap (λ (z : BlockOf). is_standard_class z.kind) (sym w.2) ∙ is) (sym (ap first_or_none w.1) ∙ (t.program_agrees s.program plain).fine.textless k)
+      let w = t.row_was s of order k row at in
+      ap (λ (z : BlockOf). z.first) w.2 ∙ of_kind w.0.kind w.0.first (ap (λ (z : BlockOf). is_standard_class z.kind) (sym w.2) ∙ is) (sym (ap first_or_none w.1) ∙ (t.program_agrees s.program).fine.textless k)
     where
       of_kind : (c : BlockKind) (n : ℕ) → is_standard_class c ≡ true → standard_first c n ≡ 0 → n ≡ 0
       of_kind (kind.StandardClass which) n e f = f
@@ -253,9 +252,9 @@ module _ (s : Source) (of : TablesOf s) (plain : Plain s.program) (order : InOrd
   hosted : (k u : ℕ) (which : StandardClass) → encloser s.tables k ≡ Some u → text s k ≡ Some (StandardText which) → has_levels (text s u) ≡ true
   unfolding text encloser
   hosted k u which e is =
-      let q = (t.program_agrees s.program plain).fine.standards k which is in
+      let q = (t.program_agrees s.program).fine.standards k which is in
       let there : around (slice_get (declared_by s.program).tables.blocks k) ≡ Some q.block = ap (λ m. around (slice_get (declared_by s.program).tables.blocks m)) q.place ∙ q.group.around which q.is in
-      let same_block : u ≡ q.block = some_number u q.block (sym e ∙ t.same_around s of plain order k ∙ there) in
+      let same_block : u ≡ q.block = some_number u q.block (sym e ∙ t.same_around s of order k ∙ there) in
       ap (λ m. has_levels (text s m)) same_block ∙ ap has_levels q.group.host.1 ∙ levels q.prefix q.group.host.0 q.group.host.2
     where
       some_number : (m n : ℕ) → Some m ≡ Some n → m ≡ n
@@ -283,12 +282,12 @@ module _ (s : Source) (of : TablesOf s) (plain : Plain s.program) (order : InOrd
         go kind.Prefixed f = refl
         go kind.Connection f = refl
         go (kind.StandardClass which) f =
-            let is : text s k ≡ Some (StandardText which) = standard_text row (slice_get (t.Ts s of plain order) k) which (subst (λ o. KindIs o (slice_get (t.Ts s of plain order) k)) at (t.kind_at s of plain order k)) f in
+            let is : text s k ≡ Some (StandardText which) = standard_text row (slice_get (t.Ts s of order) k) which (subst (λ o. KindIs o (slice_get (t.Ts s of order) k)) at (t.kind_at s of order k)) f in
             absurd (let z : true ≡ false = sym (hosted k u which e is) ∙ without in cc)
 
     outer_other : (row : BlockOf) → slice_get s.tables.blocks u ≡ Some row → is_standard_class row.kind ≡ false
     unfolding text
-    outer_other row at = no_standard row (slice_get (t.Ts s of plain order) u) (subst (λ o. KindIs o (slice_get (t.Ts s of plain order) u)) at (t.kind_at s of plain order u)) without
+    outer_other row at = no_standard row (slice_get (t.Ts s of order) u) (subst (λ o. KindIs o (slice_get (t.Ts s of order) u)) at (t.kind_at s of order u)) without
 
     missing : (bs : List BlockOf) (n : ℕ) → n < length bs → slice_get bs n ≡ None → ⊥
     missing [] n lt g = omega arith
@@ -301,23 +300,23 @@ module _ (s : Source) (of : TablesOf s) (plain : Plain s.program) (order : InOrd
 
     under : Chain (declared_by s.program).tables.blocks k u
     unfolding encloser
-    under = beyond (sym (t.same_around s of plain order k) ∙ e) same
+    under = beyond (sym (t.same_around s of order k) ∙ e) same
 
     -- the row of the text around
     outer_row : (row : BlockOf) → slice_get s.tables.blocks k ≡ Some row → (outer : BlockOf) × (slice_get s.tables.blocks u ≡ Some outer)
     outer_row row at = go (slice_get s.tables.blocks u) refl
       where
         go : (o : Option BlockOf) → slice_get s.tables.blocks u ≡ o → (outer : BlockOf) × (o ≡ Some outer)
-        go None f = absurd (let a : k < length s.tables.blocks = slice_get_within s.tables.blocks k row at in let b : u < k = t.nesting s of plain order k u e in missing s.tables.blocks u (omega arith) f)
+        go None f = absurd (let a : k < length s.tables.blocks = slice_get_within s.tables.blocks k row at in let b : u < k = t.nesting s of order k u e in missing s.tables.blocks u (omega arith) f)
         go (Some outer) f = (outer, refl)
 
     -- a class or a block with a prefix inside the one is inside the other
     from_inner : (row : BlockOf) → slice_get s.tables.blocks k ≡ Some row → (class : ℕ) (inner : BlockOf) → slice_get s.tables.blocks class ≡ Some inner → is_class_kind inner.kind ≡ true → is_standard_class inner.kind ≡ false
         → Chain (declared_by s.program).tables.blocks class k → is_class_free s u ≡ false
     from_inner row at class inner there is other c =
-        let v = t.row_was s of plain order class inner there in
+        let v = t.row_was s of order class inner there in
         let o = outer_row row at in
-        let w = t.row_was s of plain order u o.0 o.1 in
+        let w = t.row_was s of order u o.0 o.1 in
         let z : inner.first ≡ v.0.first = ap (λ (z : BlockOf). z.first) v.2 in
         let place : slice_get (declared_by s.program).tables.places v.0.first ≡ Some (Some class) = first_of class v.0 v.1 (ap (λ (z : BlockOf). is_standard_class z.kind) (sym v.2) ∙ other) in
         let x : o.0.first ≡ w.0.first = ap (λ (z : BlockOf). z.first) w.2 in
@@ -330,9 +329,9 @@ module _ (s : Source) (of : TablesOf s) (plain : Plain s.program) (order : InOrd
     -- a standard class has no text, and is inside no other text than one that begins with the source
     from_nothing : (row : BlockOf) → slice_get s.tables.blocks k ≡ Some row → row.first ≤ 0 → is_class_free s u ≡ false
     from_nothing row at le =
-        let w = t.row_was s of plain order k row at in
+        let w = t.row_was s of order k row at in
         let o = outer_row row at in
-        let v = t.row_was s of plain order u o.0 o.1 in
+        let v = t.row_was s of order u o.0 o.1 in
         let x : row.first ≡ w.0.first = ap (λ (z : BlockOf). z.first) w.2 in
         let zero_ : w.0.first ≡ 0 = omega (arith, le, x) in
         let place : slice_get (declared_by s.program).tables.places w.0.first ≡ Some (Some k) = first_of k w.0 w.1 (ap (λ (z : BlockOf). is_standard_class z.kind) (sym w.2) ∙ inner_other row at) in
@@ -341,7 +340,7 @@ module _ (s : Source) (of : TablesOf s) (plain : Plain s.program) (order : InOrd
         let other : slice_get (declared_by s.program).tables.places v.0.first ≡ Some (Some u) = first_of u v.0 v.1 (ap (λ (z : BlockOf). is_standard_class z.kind) (sym v.2) ∙ outer_other o.0 o.1) in
         let both_zero : v.0.first ≡ w.0.first = omega (arith, lo, zero_) in
         let one : Some (Some u) ≡ Some (Some k) = sym other ∙ ap (slice_get (declared_by s.program).tables.places) both_zero ∙ place in
-        let lt : u < k = t.nesting s of plain order k u e in
+        let lt : u < k = t.nesting s of order k u e in
         absurd (let equal : u ≡ k = cc in omega arith)
 
     from_kind : (row : BlockOf) → slice_get s.tables.blocks k ≡ Some row → Lasts k → is_class_free s u ≡ false
@@ -349,8 +348,8 @@ module _ (s : Source) (of : TablesOf s) (plain : Plain s.program) (order : InOrd
       where
         go : (c : Bool) → is_standard_class l.inner.kind ≡ c → is_class_free s u ≡ false
         go false f =
-            let w = t.row_was s of plain order k l.row l.at in
-            let v = t.row_was s of plain order l.class l.inner l.there in
+            let w = t.row_was s of order k l.row l.at in
+            let v = t.row_was s of order l.class l.inner l.there in
             let x : l.row.first ≡ w.0.first = ap (λ (z : BlockOf). z.first) w.2 in
             let y : l.row.end ≡ w.0.end = ap (λ (z : BlockOf). z.end) w.2 in
             let z : l.inner.first ≡ v.0.first = ap (λ (z : BlockOf). z.first) v.2 in
@@ -382,7 +381,7 @@ module _ (s : Source) (of : TablesOf s) (plain : Plain s.program) (order : InOrd
 
   pub prefixed_kinds : (k : ℕ) → is_kind is_prefixed_block s.tables k ≡ is_prefixed_text (text s k)
   unfolding is_kind text
-  prefixed_kinds k = go (slice_get s.tables.blocks k) (text s k) (t.kind_at s of plain order k)
+  prefixed_kinds k = go (slice_get s.tables.blocks k) (text s k) (t.kind_at s of order k)
     where
       plain_kind : (k : BlockKind) → PlainKind k → is_prefixed_block k ≡ false
       plain_kind kind.Program q = refl
@@ -408,7 +407,7 @@ module _ (s : Source) (of : TablesOf s) (plain : Plain s.program) (order : InOrd
 
   pub connections : (k : ℕ) → is_kind is_connection_kind s.tables k ≡ is_connection (text s k)
   unfolding is_kind text
-  connections k = go (slice_get s.tables.blocks k) (text s k) (t.kind_at s of plain order k)
+  connections k = go (slice_get s.tables.blocks k) (text s k) (t.kind_at s of order k)
     where
       plain_kind : (k : BlockKind) → PlainKind k → is_connection_kind k ≡ false
       plain_kind kind.Program q = refl
@@ -433,7 +432,7 @@ module _ (s : Source) (of : TablesOf s) (plain : Plain s.program) (order : InOrd
   -- a class and a block with a prefix have levels
   pub level_kinds : (k : ℕ) → is_kind has_text_of_levels s.tables k ≡ true → has_levels (text s k) ≡ true
   unfolding is_kind text
-  level_kinds k e = go (slice_get s.tables.blocks k) (text s k) (t.kind_at s of plain order k) e
+  level_kinds k e = go (slice_get s.tables.blocks k) (text s k) (t.kind_at s of order k) e
     where
       same_kinds : (k : BlockKind) → has_text_of_levels k ≡ true → has_base k ≡ true
       same_kinds kind.Class e = refl
@@ -451,4 +450,4 @@ module _ (s : Source) (of : TablesOf s) (plain : Plain s.program) (order : InOrd
   -- a connection is the text around its first token
   pub begins : (k : ℕ) (row : BlockOf) → slice_get s.tables.blocks k ≡ Some row → is_standard_class row.kind ≡ false → block_at s.tables row.first ≡ Some k
   unfolding block_at
-  begins k row at other = ap joined (t.begun s of plain order k row at other)
+  begins k row at other = ap joined (t.begun s of order k row at other)

@@ -24,6 +24,8 @@ pub mod Openings
 pub mod Completing
 pub mod Prefixing
 pub mod Laid
+pub mod Latest
+pub mod TokenBlocks
 pub mod Spots
 pub mod Depth
 pub mod ClassRows
@@ -53,6 +55,7 @@ pub mod ArrayTypes
 pub mod BlockPrefixes
 pub mod SetLevels
 pub mod Whole
+pub mod WrittenTypes
 pub mod Settled
 pub mod SettledJudged
 pub mod Holding

@@ -27,7 +27,7 @@ use Rattle.sim_scope.specs.Tables.{BlockOf}
 use Rattle.sim_scope.proofs.Kept.{kept_set, more_here, more_other, set_here, set_other}
 use Rattle.sim_meaning.specs.Entries.{numbers_in}
 use Rattle.sim_sound.specs.Held.{Among}
-use Rattle.sim_agree.proofs.Groups.{Declarable, OwnEntry, PlainFormal, Quals, qualifies, unqualified}
+use Rattle.sim_agree.proofs.Groups.{Declarable, OwnEntry, TypedFormal, Quals, qualifies, unqualified}
 use Rattle.sim_agree.proofs.Unprefixed.{Extras, Known, MatchOf, NamesFound, NoExtras, extras_in, is_wrong, no_extras, is_prefixable, brings_of, spelt_as, spelt_before}
 use Rattle.sim_agree.proofs.Steps.{Changed, Even, Finds, IsParameter, IsRow, Listed, Nothing, Parametric, RowIs, Step, Unmatched, Was, broken_step, fixed, get_more, new_step, same_step, some_same, unchanged}
 
@@ -402,15 +402,15 @@ pub moded_step : (b : BuildingOf) (token : TokenNo) (m : Mode) (o : Option DeclN
 moded_step b token m None = same_step b _ _ refl refl
 moded_step b token m (Some d) = moded_row b token m d (unspecified_in (entry_of b.tables d)) refl
 
-specified_mode : (b : BuildingOf) (d : DeclNo) (k : FormalKind) (ty : Option SimType) (w : Option WrittenMode) → unspecified_in (entry_of b.tables d) ≡ Some w → PlainFormal k ty → Step b (with_mode b d k ty w) Nothing
+specified_mode : (b : BuildingOf) (d : DeclNo) (k : FormalKind) (ty : Option SimType) (w : Option WrittenMode) → unspecified_in (entry_of b.tables d) ≡ Some w → TypedFormal k ty → Step b (with_mode b d k ty w) Nothing
 specified_mode b d k ty None is p = with_entry_step b d None (formal (default_mode k ty) k ty) is p tt
 specified_mode b d k ty (Some w) is p = broken_step (not (mode_allowed w.mode k ty)) b _ w.token.0 r.ModeNotAllowed Nothing (with_entry_step b d (Some w) (formal w.mode k ty) is p tt)
 
-specified_row : (b : BuildingOf) (token : TokenNo) (k : FormalKind) (ty : Option SimType) (d : DeclNo) (o : Option (Option WrittenMode)) → unspecified_in (entry_of b.tables d) ≡ o → PlainFormal k ty → Step b (specified_as b token k ty d o) Nothing
+specified_row : (b : BuildingOf) (token : TokenNo) (k : FormalKind) (ty : Option SimType) (d : DeclNo) (o : Option (Option WrittenMode)) → unspecified_in (entry_of b.tables d) ≡ o → TypedFormal k ty → Step b (specified_as b token k ty d o) Nothing
 specified_row b token k ty d None is p = same_step b _ _ refl refl
 specified_row b token k ty d (Some w) is p = broken_step (is_procedure k && in_class b) b _ (token_in (slice_get b.tables.declarations d.0)) r.ModeNotAllowed Nothing (specified_mode b d k ty w is p)
 
-specified_step : (b : BuildingOf) (token : TokenNo) (k : FormalKind) (ty : Option SimType) (o : Option DeclNo) → PlainFormal k ty → Step b (specified b token k ty o) Nothing
+specified_step : (b : BuildingOf) (token : TokenNo) (k : FormalKind) (ty : Option SimType) (o : Option DeclNo) → TypedFormal k ty → Step b (specified b token k ty o) Nothing
 specified_step b token k ty None p = same_step b _ _ refl refl
 specified_step b token k ty (Some d) p = specified_row b token k ty d (unspecified_in (entry_of b.tables d)) refl p
 
@@ -421,7 +421,7 @@ met b o = record b { latest = o }
 met_step : (b c : BuildingOf) (o : Option DeclNo) → Step (met b o) c Nothing → Step b c Nothing
 met_step b c o h = record { current = h.current; size = h.size; fixes = h.fixes; others = h.others; more = h.more; fewer = h.fewer; lists = h.lists; rows = h.rows; places = h.places; evens = h.evens; looks = h.looks; stays = h.stays; bare = h.bare; knows = h.knows; brings = h.brings; spells = h.spells }
 
-pub specified_met : (b : BuildingOf) (token : TokenNo) (k : FormalKind) (ty : Option SimType) (o : Option DeclNo) → PlainFormal k ty → Step b (specified (met b o) token k ty o) Nothing
+pub specified_met : (b : BuildingOf) (token : TokenNo) (k : FormalKind) (ty : Option SimType) (o : Option DeclNo) → TypedFormal k ty → Step b (specified (met b o) token k ty o) Nothing
 specified_met b token k ty o p = met_step b (specified (met b o) token k ty o) o (specified_step (met b o) token k ty o p)
 
 pub headed_step : (b : BuildingOf) (token : TokenNo) (o : Option (Option WrittenMode)) → Step b (headed b token o) Nothing

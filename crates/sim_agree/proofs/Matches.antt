@@ -1,4 +1,4 @@
--- What matches a virtual of an allowed plain program in the class of a text: a procedure of one of its levels, whose result fits.
+-- What matches a virtual of an allowed program in the class of a text: a procedure of one of its levels, whose result fits.
 use Rattle.std.proofs.Common.{◌≡◌, ◌⊎◌, inl, inr, ℕ, zero, suc, Bool, true, false, List, [], ◌∷◌, ◌++◌, length, Option, Some, None, refl, sym, ap, ◌∙◌, subst, arith, if◌then◌else◌}
 use Rattle.std.specs.Prelude.{◌||◌, nat_eq, not, slice_get}
 use Rattle.std.specs.Option.{option_or}
@@ -35,7 +35,6 @@ use Rattle.sim_meaning.specs.Virtuals.{match_if, match_in_text, match_of_text, p
 use Rattle.sim_sound.specs.Typed.{Ends, outermost, prefixed}
 use Rattle.sim_agree.specs.Facts.{MatchFits}
 use Rattle.sim_agree.specs.Order.{InOrder}
-use Rattle.sim_agree.specs.Plain.{Plain}
 use Rattle.sim_agree.specs.TablesOf.{TablesOf}
 use Rattle.sim_agree.proofs.Chains as chains
 use Rattle.sim_agree.proofs.Fine.{Alike, RowIn, attribute_row, class_row, formal_row, own_row, procedure_row, simulation_row, virtual_row}
@@ -214,12 +213,12 @@ found_level : {T : Tables} {name : List ℕ} {w : DeclNo} (n b : ℕ) → FoundI
 found_level n b (here e) = (b, itself, e)
 found_level n b (behind {n = m} {c = c} none up f) = let q = found_level m c f in (q.0, through up q.1, q.2)
 
-module _ (s : Source) (of : TablesOf s) (plain : Plain s.program) (order : InOrder s.program) where
+module _ (s : Source) (of : TablesOf s) (order : InOrder s.program) where
   -- a virtual stands in the text of a class, which lists it
-  virtual_stands : (d : ℕ) (row : Declaration) (result : Option SimType) (own : Option DeclNo) → slice_get s.tables.declarations d ≡ Some row → row.entry ≡ entry.Virtual result own → (x : Text) × (slice_get (Ts s of plain order) row.block ≡ Some x) × Interfacing x × (row.listed ≡ true)
-  virtual_stands d row result own at is = let w = t.text_of_row s of plain order d row at in let q = go w.0 w.2 in (w.0, w.1, q.0, q.1)
+  virtual_stands : (d : ℕ) (row : Declaration) (result : Option SimType) (own : Option DeclNo) → slice_get s.tables.declarations d ≡ Some row → row.entry ≡ entry.Virtual result own → (x : Text) × (slice_get (Ts s of order) row.block ≡ Some x) × Interfacing x × (row.listed ≡ true)
+  virtual_stands d row result own at is = let w = t.text_of_row s of order d row at in let q = go w.0 w.2 in (w.0, w.1, q.0, q.1)
     where
-      go : (x : Text) → RowIn (Bs s of plain order) (Ts s of plain order) x d row → Interfacing x × (row.listed ≡ true)
+      go : (x : Text) → RowIn (Bs s of order) (Ts s of order) x d row → Interfacing x × (row.listed ≡ true)
       go x (virtual_row y p l) = (y, l)
       go x (own_row y p) = absurd (like_virtual p.entry result own (subst (Alike p.entry) is p.alike))
       go x (procedure_row y p) = absurd (subst (Alike (entry.Procedure (result_named p.result) p.number)) is p.entry)
@@ -239,9 +238,9 @@ module _ (s : Source) (of : TablesOf s) (plain : Plain s.program) (order : InOrd
   pub virtuals : (v : DeclNo) (result : Option SimType) (own : Option DeclNo) → entry_of s.tables v ≡ Some (entry.Virtual result own) → is_class (text s (block_of s v)) ≡ true
   unfolding text
   virtuals v result own is =
-      let q = t.entry_row s of plain order v (entry.Virtual result own) is in
+      let q = t.entry_row s of order v (entry.Virtual result own) is in
       let x = virtual_stands v.0 q.0 result own q.1 q.2 in
-      ap (λ z. is_class (slice_get (Ts s of plain order) z)) (t.block_is s of plain order v q.0 q.1) ∙ ap is_class x.1 ∙ interfacing_class x.0 x.2
+      ap (λ z. is_class (slice_get (Ts s of order) z)) (t.block_is s of order v q.0 q.1) ∙ ap is_class x.1 ∙ interfacing_class x.0 x.2
 
   module _ (second : second_least s.tables ≡ None) (v : DeclNo) (result : Option SimType) (own : Option DeclNo) (is : entry_of s.tables v ≡ Some (entry.Virtual result own)) where
     -- the procedure that matches a virtual in the class of a text
@@ -262,21 +261,21 @@ module _ (s : Source) (of : TablesOf s) (plain : Plain s.program) (order : InOrd
         each_none (match_faults s.tables) s.tables.declarations (both_none (all_match_faults s.tables) _ all.1).0 d row at
 
     its : (row : Declaration) × (slice_get s.tables.declarations v.0 ≡ Some row) × (row.entry ≡ entry.Virtual result own)
-    its = t.entry_row s of plain order v (entry.Virtual result own) is
+    its = t.entry_row s of order v (entry.Virtual result own) is
 
     is_one : entry_is is_virtual (entry_of s.tables v) ≡ true
     is_one = ap (entry_is is_virtual) is
 
     found : lookup s.tables its.0.block its.0.name ≡ Some v
-    found = t.finds_now s of plain order v its.0 its.1 (virtual_stands v.0 its.0 result own its.1 its.2).3
+    found = t.finds_now s of order v its.0 its.1 (virtual_stands v.0 its.0 result own its.1 its.2).3
 
     -- no level inside declares another virtual of the name
     inner : (b : ℕ) (w : DeclNo) (c : ℕ) → lookup s.tables b its.0.name ≡ Some w → entry_is is_virtual (entry_of s.tables w) ≡ true → base s.tables b ≡ Some c → Reaches s.tables c its.0.block → ⊥
     unfolding lookup virtual_for
     inner b w c at virtual up reach =
-        let q = t.names_now s of plain order b its.0.name w at in
-        let x = virtual_reached s.tables its.0.name v its.0.block found is_one (length s.tables.blocks) c (chains.all_end s of plain order c) reach in
-        let one : is_virtual q.0.entry ≡ true = sym (ap (entry_is is_virtual) (t.row_entry s of plain order w q.0 q.1)) ∙ virtual in
+        let q = t.names_now s of order b its.0.name w at in
+        let x = virtual_reached s.tables its.0.name v its.0.block found is_one (length s.tables.blocks) c (chains.all_end s of order c) reach in
+        let one : is_virtual q.0.entry ≡ true = sym (ap (entry_is is_virtual) (t.row_entry s of order w q.0 q.1)) ∙ virtual in
         let e = virtual_shape q.0.entry one in
         let listed : q.0.listed ≡ true = (virtual_stands w.0 q.0 e.0 e.1 q.1 e.2).3 in
         let outside : virtual_for s.tables q.0 ≡ Some x.0 =
@@ -287,7 +286,7 @@ module _ (s : Source) (of : TablesOf s) (plain : Plain s.program) (order : InOrd
 
     this_one : (b : ℕ) → Reaches s.tables b its.0.block → virtual_of s.tables (length s.tables.blocks) b its.0.name ≡ Some v
     this_one b reach =
-        let x = virtual_reached s.tables its.0.name v its.0.block found is_one (length s.tables.blocks) b (chains.all_end s of plain order b) reach in
+        let x = virtual_reached s.tables its.0.name v its.0.block found is_one (length s.tables.blocks) b (chains.all_end s of order b) reach in
         let q = virtual_found s.tables (length s.tables.blocks) b its.0.name x.0 x.1 in
         x.1 ∙ ap Some (only_this s.tables its.0.name v its.0.block found is_one inner q.0 q.1 reach)
 
@@ -311,7 +310,7 @@ module _ (s : Source) (of : TablesOf s) (plain : Plain s.program) (order : InOrd
       at = at;
       given = given;
       entry = e;
-      level = subst (λ z. some_level_of s.tables (length s.tables.blocks) (λ c. nat_eq c z) k ≡ true) (sym (t.block_is s of plain order d row at ∙ block)) (chains.reaches_level s.tables (length s.tables.blocks) k b (chains.all_end s of plain order k) reach);
+      level = subst (λ z. some_level_of s.tables (length s.tables.blocks) (λ c. nat_eq c z) k ≡ true) (sym (t.block_is s of order d row at ∙ block)) (chains.reaches_level s.tables (length s.tables.blocks) k b (chains.all_end s of order k) reach);
       matches = procedure_matches b match row given name block e further;
       fits = procedure_fits b match d row given at name block e further;
     }
@@ -324,14 +323,14 @@ module _ (s : Source) (of : TablesOf s) (plain : Plain s.program) (order : InOrd
         same_own a z b d e = cc
 
         row_of : (d : DeclNo) (row : Declaration) (given : Option SimType) → slice_get s.tables.declarations d.0 ≡ Some row → entry_of s.tables d ≡ Some (entry.Procedure given match) → row.entry ≡ entry.Procedure given match
-        row_of d row given there e = some_same row.entry (entry.Procedure given match) (sym (t.row_entry s of plain order d row there) ∙ e)
+        row_of d row given there e = some_same row.entry (entry.Procedure given match) (sym (t.row_entry s of order d row there) ∙ e)
 
         -- the match that the virtual knows
         of_known : (o : Option DeclNo) → own ≡ o → text_of_procedure s o ≡ Some match → MatchFound k match
         of_known None knows e = absurd (cc)
         of_known (Some d) knows e =
             let p = procedure_shape (entry_of s.tables d) match e in
-            let m = t.known s of plain order v.0 its.0 result d its.1 (its.2 ∙ ap (entry.Virtual result) knows) in
+            let m = t.known s of order v.0 its.0 result d its.1 (its.2 ∙ ap (entry.Virtual result) knows) in
             procedure_found k its.0.block match d m.row p.0 m.at m.name m.block (row_of d m.row p.0 m.at p.1) (reaches_on reach further) itself
           where
             reaches_on : {i j n : ℕ} → Reaches s.tables i j → Reaches s.tables j n → Reaches s.tables i n
@@ -349,14 +348,14 @@ module _ (s : Source) (of : TablesOf s) (plain : Plain s.program) (order : InOrd
             of_known q.1 knows (ap (text_of_procedure s) (sym q.3) ∙ gives)
         go (inr q) =
             let p = procedure_shape (entry_of s.tables c) match (ap (text_of_procedure s) (sym q) ∙ gives) in
-            let n = t.names_now s of plain order b its.0.name c at in
+            let n = t.names_now s of order b its.0.name c at in
             procedure_found k b match c n.0 p.0 n.1 n.2 n.3 (row_of c n.0 p.0 n.1 p.1) reach further
 
     pub match_found : (k match : ℕ) → match_in_text s v.0 (Some k) ≡ Some (Some match) → MatchFound k match
     unfolding has_level match_of_text name_of
     match_found k match e =
         let c = if_cases (has_level s.tables k (block_of s v)) (match_of_text s v.0 k) match e in
-        let reach = subst (λ z. Reaches s.tables k z) (t.block_is s of plain order v its.0 its.1) (level_reaches s.tables (length s.tables.blocks) k (block_of s v) c.0) in
+        let reach = subst (λ z. Reaches s.tables k z) (t.block_is s of order v its.0 its.1) (level_reaches s.tables (length s.tables.blocks) k (block_of s v) c.0) in
         go (declared_along s.tables its.0.name k) refl reach (sym (ap (λ n. text_of_procedure s (match_in s.tables n (Some k))) (ap name_in its.1)) ∙ c.1)
       where
         go : (o : Option DeclNo) → declared_along s.tables its.0.name k ≡ o → Reaches s.tables k its.0.block → text_of_procedure s (match_of_declared s.tables o) ≡ Some match → MatchFound k match
@@ -373,15 +372,15 @@ module _ (s : Source) (of : TablesOf s) (plain : Plain s.program) (order : InOrd
       where
         of_known : own ≡ Some q → MatchFits s result q
         of_known e =
-            let m = t.known s of plain order v.0 its.0 result q its.1 (its.2 ∙ ap (entry.Virtual result) e) in
+            let m = t.known s of order v.0 its.0 result q its.1 (its.2 ∙ ap (entry.Virtual result) e) in
             let p = procedure_entry m.row.entry m.procedure in
-            record { given = p.0; block = p.1; declares = t.row_entry s of plain order q m.row m.at ∙ ap Some p.2; fits = procedure_fits its.0.block p.1 q m.row p.0 m.at m.name m.block p.2 itself }
+            record { given = p.0; block = p.1; declares = t.row_entry s of order q m.row m.at ∙ ap Some p.2; fits = procedure_fits its.0.block p.1 q m.row p.0 m.at m.name m.block p.2 itself }
     seen_match f q (inr w) e =
         let p = procedure_entry w.0.entry w.2 in
-        let declares : entry_of s.tables f ≡ Some (entry.Procedure p.0 p.1) = t.row_entry s of plain order f w.0 w.1 ∙ ap Some p.2 in
+        let declares : entry_of s.tables f ≡ Some (entry.Procedure p.0 p.1) = t.row_entry s of order f w.0 w.1 ∙ ap Some p.2 in
         let same : f ≡ q = some_same f q (sym (ap (λ o. calls.match_at o (Some f)) declares) ∙ e) in
         let l = found_level (length s.tables.blocks) w.0.block w.3 in
-        let n = t.names_now s of plain order l.0 w.0.name v l.2 in
+        let n = t.names_now s of order l.0 w.0.name v l.2 in
         let one : n.0 ≡ its.0 = some_same n.0 its.0 (sym n.1 ∙ its.1) in
         let block : its.0.block ≡ l.0 = ap (λ (z : Declaration). z.block) (sym one) ∙ n.3 in
         let name : w.0.name ≡ its.0.name = sym n.2 ∙ ap (λ (z : Declaration). z.name) one in

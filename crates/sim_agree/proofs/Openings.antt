@@ -1,4 +1,4 @@
--- Each connection that a plain program makes begins one of its bodies.
+-- Each connection that a program makes begins one of its bodies.
 use Rattle.std.proofs.Common.{◌≡◌, ◌+◌, ◌⊎◌, inl, inr, ℕ, suc, arith, Bool, true, false, List, [], ◌∷◌, ◌++◌, length, map, Option, Some, None, refl, ap, ◌∙◌}
 use Rattle.std.specs.Prelude.{slice_get}
 use Rattle.sim_tree.specs.Syntax.{Also, Arms, Arrays, Begin, Block, Declaration, Declarations, DeclareClass, DeclareProcedure, Heading, Interface, NoArm, NoDeclaration, NoStatement, Prefix, Program, Statement, Statements, Variables, When, With, Expressions}
@@ -15,7 +15,6 @@ use Rattle.sim_scope.specs.Tables.{BlockOf, deeper}
 use Rattle.sim_scope.specs.Walk.{arms_events, begin_of, block_events, declaration_events, declarations_events, program_events, statement_events, statements_events, whole_events}
 use Rattle.sim_scope.proofs.BodiesOfTables.{blocks_are_bodies}
 use Rattle.inspect_types.specs.Connecting.{Connecting, Connects, Looks, Names, connections}
-use Rattle.sim_agree.specs.Plain.{Plain, PlainArms, PlainBlock, PlainDeclaration, PlainDeclarations, PlainStatement, PlainStatements}
 
 -- a connection begins at this token
 abbrev Begins : (opening : ℕ) → List Body → Type 0
@@ -75,51 +74,51 @@ connection_body o opening end = record { kind = kind.Connection; encloser = Some
 mutual
   unfolding connections
 
-  statement_begins : (c : Bool) (a : Statement) → PlainStatement a → (o : Around) (next : ℕ) → AllBegin (statement_events connections (place c) a) (statement_bodies o a next)
-  statement_begins c (syntax.Empty i) p o next = tt
-  statement_begins true (syntax.Compound b) p o next = block_begins b p o next
-  statement_begins false (syntax.Compound b) p o next = block_begins b p o next
-  statement_begins c (syntax.Prefixed x args b) p o next = prefixed_begins x args b p.1 o next
-  statement_begins c (syntax.Inner i) p o next = tt
-  statement_begins c (syntax.Call e) p o next = tt
-  statement_begins c (syntax.Assign e sides) p o next = tt
-  statement_begins c (syntax.Choose i e a rest) p o next =
+  statement_begins : (c : Bool) (a : Statement) → (o : Around) (next : ℕ) → AllBegin (statement_events connections (place c) a) (statement_bodies o a next)
+  statement_begins c (syntax.Empty i) o next = tt
+  statement_begins true (syntax.Compound b) o next = block_begins b o next
+  statement_begins false (syntax.Compound b) o next = block_begins b o next
+  statement_begins c (syntax.Prefixed x args b) o next = prefixed_begins x args b o next
+  statement_begins c (syntax.Inner i) o next = tt
+  statement_begins c (syntax.Call e) o next = tt
+  statement_begins c (syntax.Assign e sides) o next = tt
+  statement_begins c (syntax.Choose i e a rest) o next =
       joined (statement_events connections Inside a) (statements_events connections Inside rest) (statement_bodies o a next) (statements_bodies o rest (next + length (statement_bodies o a next)))
-      (statement_begins false a p.1 o next) (statements_begin false rest p.2 o (next + length (statement_bodies o a next)))
-  statement_begins c (syntax.Repeat i e a) p o next = statement_begins false a p.1 o next
-  statement_begins c (syntax.For i x sign j es a) p o next = statement_begins false a p.1 o next
-  statement_begins c (syntax.Inspect i object d a e rest) p o next =
+      (statement_begins false a o next) (statements_begin false rest o (next + length (statement_bodies o a next)))
+  statement_begins c (syntax.Repeat i e a) o next = statement_begins false a o next
+  statement_begins c (syntax.For i x sign j es a) o next = statement_begins false a o next
+  statement_begins c (syntax.Inspect i object d a e rest) o next =
       let inner : Around = record { number = next; level = o.level } in
       let inside : List Body = connection_body o d e ∷ statement_bodies inner a (next + 1) in (
         inl (refl, refl),
         joined (statement_events connections Inside a) (statements_events connections Inside rest) inside (statements_bodies o rest (next + length inside))
-            (behind (statement_events connections Inside a) (connection_body o d e) (statement_bodies inner a (next + 1)) (statement_begins false a p.1 inner (next + 1)))
-            (statements_begin false rest p.2 o (next + length inside)),
+            (behind (statement_events connections Inside a) (connection_body o d e) (statement_bodies inner a (next + 1)) (statement_begins false a inner (next + 1)))
+            (statements_begin false rest o (next + length inside)),
       )
-  statement_begins c (syntax.InspectWhen i object whens rest) p o next =
+  statement_begins c (syntax.InspectWhen i object whens rest) o next =
       joined (arms_events connections whens) (statements_events connections Inside rest) (arms_bodies o whens next) (statements_bodies o rest (next + length (arms_bodies o whens next)))
-      (arms_begin whens p.1 o next) (statements_begin false rest p.2 o (next + length (arms_bodies o whens next)))
-  statement_begins c (syntax.Activate i word process schedule) p o next = tt
+      (arms_begin whens o next) (statements_begin false rest o (next + length (arms_bodies o whens next)))
+  statement_begins c (syntax.Activate i word process schedule) o next = tt
 
-  statements_begin : (c : Bool) (ss : Statements) → PlainStatements ss → (o : Around) (next : ℕ) → AllBegin (statements_events connections (place c) ss) (statements_bodies o ss next)
-  statements_begin c NoStatement p o next = tt
-  statements_begin c (Also a more) p o next =
+  statements_begin : (c : Bool) (ss : Statements) → (o : Around) (next : ℕ) → AllBegin (statements_events connections (place c) ss) (statements_bodies o ss next)
+  statements_begin c NoStatement o next = tt
+  statements_begin c (Also a more) o next =
       joined (statement_events connections (place c) a) (statements_events connections (place c) more) (statement_bodies o a next) (statements_bodies o more (next + length (statement_bodies o a next)))
-      (statement_begins c a p.0 o next) (statements_begin c more p.1 o (next + length (statement_bodies o a next)))
+      (statement_begins c a o next) (statements_begin c more o (next + length (statement_bodies o a next)))
 
-  arms_begin : (arms : Arms) → PlainArms arms → (o : Around) (next : ℕ) → AllBegin (arms_events connections arms) (arms_bodies o arms next)
-  arms_begin NoArm p o next = tt
-  arms_begin (When i x d a e more) p o next =
+  arms_begin : (arms : Arms) → (o : Around) (next : ℕ) → AllBegin (arms_events connections arms) (arms_bodies o arms next)
+  arms_begin NoArm o next = tt
+  arms_begin (When i x d a e more) o next =
       let inner : Around = record { number = next; level = o.level } in
       let inside : List Body = connection_body o d e ∷ statement_bodies inner a (next + 1) in (
         inl (refl, refl),
         joined (statement_events connections Inside a ++ []) (arms_events connections more) inside (arms_bodies o more (next + length inside))
-            (nothing_behind (statement_events connections Inside a) inside (behind (statement_events connections Inside a) (connection_body o d e) (statement_bodies inner a (next + 1)) (statement_begins false a p.0 inner (next + 1))))
-            (arms_begin more p.1 o (next + length inside)),
+            (nothing_behind (statement_events connections Inside a) inside (behind (statement_events connections Inside a) (connection_body o d e) (statement_bodies inner a (next + 1)) (statement_begins false a inner (next + 1))))
+            (arms_begin more o (next + length inside)),
       )
 
-  prefixed_begins : (x : Identifier) (args : Expressions) (b : Block) → PlainBlock b → (o : Around) (next : ℕ) → AllBegin (whole_events connections b) (prefixed_bodies o x args b next)
-  prefixed_begins x args (Begin i ds ss e) p o next =
+  prefixed_begins : (x : Identifier) (args : Expressions) (b : Block) → (o : Around) (next : ℕ) → AllBegin (whole_events connections b) (prefixed_bodies o x args b next)
+  prefixed_begins x args (Begin i ds ss e) o next =
       let inner : Around = record { number = next; level = deeper kind.Prefixed o.level } in
       let standard : List Body = standard_bodies inner x.name (next + 1) in
       let first : List Body = declarations_bodies inner ds (next + 1 + length standard) in
@@ -128,76 +127,76 @@ mutual
       let S = statements_events connections Inside ss in
       behind (E ++ (S ++ [])) _ (standard ++ (first ++ second))
       (ahead (E ++ (S ++ [])) standard (first ++ second)
-      (joined E (S ++ []) first second (declarations_begin ds p.0 inner (next + 1 + length standard)) (nothing_behind S second (statements_begin false ss p.1 inner (next + 1 + length standard + length first)))))
+      (joined E (S ++ []) first second (declarations_begin ds inner (next + 1 + length standard)) (nothing_behind S second (statements_begin false ss inner (next + 1 + length standard + length first)))))
 
-  block_begins : (b : Block) → PlainBlock b → (o : Around) (next : ℕ) → AllBegin (block_events connections b) (block_bodies o b next)
-  block_begins (Begin i NoDeclaration ss e) p o next = statements_begin false ss p.1 o next
-  block_begins (Begin i (With d ds) ss e) p o next =
+  block_begins : (b : Block) → (o : Around) (next : ℕ) → AllBegin (block_events connections b) (block_bodies o b next)
+  block_begins (Begin i NoDeclaration ss e) o next = statements_begin false ss o next
+  block_begins (Begin i (With d ds) ss e) o next =
       let inner : Around = record { number = next; level = deeper kind.SubBlock o.level } in
       let first : List Body = declarations_bodies inner (With d ds) (next + 1) in
       nothing_behind (declarations_events connections (With d ds) ++ statements_events connections Inside ss) _
       (behind (declarations_events connections (With d ds) ++ statements_events connections Inside ss) _ (first ++ statements_bodies inner ss (next + 1 + length first))
-      (joined (declarations_events connections (With d ds)) (statements_events connections Inside ss) first (statements_bodies inner ss (next + 1 + length first)) (declarations_begin (With d ds) p.0 inner (next + 1)) (statements_begin false ss p.1 inner (next + 1 + length first))))
+      (joined (declarations_events connections (With d ds)) (statements_events connections Inside ss) first (statements_bodies inner ss (next + 1 + length first)) (declarations_begin (With d ds) inner (next + 1)) (statements_begin false ss inner (next + 1 + length first))))
 
-  declarations_begin : (ds : Declarations) → PlainDeclarations ds → (o : Around) (next : ℕ) → AllBegin (declarations_events connections ds) (declarations_bodies o ds next)
-  declarations_begin NoDeclaration p o next = tt
-  declarations_begin (With d ds) p o next =
+  declarations_begin : (ds : Declarations) → (o : Around) (next : ℕ) → AllBegin (declarations_events connections ds) (declarations_bodies o ds next)
+  declarations_begin NoDeclaration o next = tt
+  declarations_begin (With d ds) o next =
       joined (declaration_events connections d) (declarations_events connections ds) (declaration_bodies o d next) (declarations_bodies o ds (next + length (declaration_bodies o d next)))
-      (declaration_begins d p.0 o next) (declarations_begin ds p.1 o (next + length (declaration_bodies o d next)))
+      (declaration_begins d o next) (declarations_begin ds o (next + length (declaration_bodies o d next)))
 
-  declaration_begins : (d : Declaration) → PlainDeclaration d → (o : Around) (next : ℕ) → AllBegin (declaration_events connections d) (declaration_bodies o d next)
-  declaration_begins (Variables type vs) p o next = tt
-  declaration_begins (Arrays type i segments) p o next = tt
-  declaration_begins (DeclareProcedure result i h a e) p o next =
+  declaration_begins : (d : Declaration) → (o : Around) (next : ℕ) → AllBegin (declaration_events connections d) (declaration_bodies o d next)
+  declaration_begins (Variables type vs) o next = tt
+  declaration_begins (Arrays type i segments) o next = tt
+  declaration_begins (DeclareProcedure result i h a e) o next =
       let inner : Around = record { number = next; level = deeper kind.Procedure o.level } in
-      nothing_behind (statement_events connections Inside a) _ (behind (statement_events connections Inside a) _ (statement_bodies inner a (next + 1)) (statement_begins false a p.1 inner (next + 1)))
-  declaration_begins (DeclareClass prefix i h interface a e) p o next =
-      nothing_behind (statement_events connections ClassBody a) _ (class_begins prefix i h interface a e p.1 o next (λ inner m. statement_begins false a p.1 inner m))
+      nothing_behind (statement_events connections Inside a) _ (behind (statement_events connections Inside a) _ (statement_bodies inner a (next + 1)) (statement_begins false a inner (next + 1)))
+  declaration_begins (DeclareClass prefix i h interface a e) o next =
+      nothing_behind (statement_events connections ClassBody a) _ (class_begins prefix i h interface a e o next (λ inner m. statement_begins false a inner m))
 
   -- the body of a class
-  class_begins : (prefix : Option Identifier) (i : ℕ) (h : Heading) (interface : Interface) (a : Statement) (e : ℕ) → PlainStatement a → (o : Around) (next : ℕ) → ((inner : Around) (m : ℕ) → AllBegin (statement_events connections Inside a) (statement_bodies inner a m))
+  class_begins : (prefix : Option Identifier) (i : ℕ) (h : Heading) (interface : Interface) (a : Statement) (e : ℕ) → (o : Around) (next : ℕ) → ((inner : Around) (m : ℕ) → AllBegin (statement_events connections Inside a) (statement_bodies inner a m))
       → AllBegin (statement_events connections ClassBody a) (declaration_bodies o (DeclareClass prefix i h interface a e) next)
-  class_begins prefix i h interface (syntax.Compound (Begin j ds ss k)) e p o next one =
+  class_begins prefix i h interface (syntax.Compound (Begin j ds ss k)) e o next one =
       let inner : Around = record { number = next; level = deeper kind.Class o.level } in
       let first : List Body = declarations_bodies inner ds (next + 1 + length (prefix_bodies inner prefix (next + 1))) in
       behind (declarations_events connections ds ++ statements_events connections ClassStatement ss) _ (prefix_bodies inner prefix (next + 1) ++ (first ++ statements_bodies inner ss (next + 1 + length (prefix_bodies inner prefix (next + 1)) + length first)))
-      (ahead (declarations_events connections ds ++ statements_events connections ClassStatement ss) (prefix_bodies inner prefix (next + 1)) (first ++ statements_bodies inner ss (next + 1 + length (prefix_bodies inner prefix (next + 1)) + length first)) (joined (declarations_events connections ds) (statements_events connections ClassStatement ss) first (statements_bodies inner ss (next + 1 + length (prefix_bodies inner prefix (next + 1)) + length first)) (declarations_begin ds p.0 inner (next + 1 + length (prefix_bodies inner prefix (next + 1)))) (statements_begin true ss p.1 inner (next + 1 + length (prefix_bodies inner prefix (next + 1)) + length first))))
-  class_begins prefix i h interface (syntax.Empty n) e p o next one = tt
-  class_begins prefix i h interface (syntax.Inner n) e p o next one = tt
-  class_begins prefix i h interface (syntax.Call x) e p o next one = tt
-  class_begins prefix i h interface (syntax.Assign x sides) e p o next one = tt
-  class_begins prefix i h interface (syntax.Choose n c x rest) e p o next one =
+      (ahead (declarations_events connections ds ++ statements_events connections ClassStatement ss) (prefix_bodies inner prefix (next + 1)) (first ++ statements_bodies inner ss (next + 1 + length (prefix_bodies inner prefix (next + 1)) + length first)) (joined (declarations_events connections ds) (statements_events connections ClassStatement ss) first (statements_bodies inner ss (next + 1 + length (prefix_bodies inner prefix (next + 1)) + length first)) (declarations_begin ds inner (next + 1 + length (prefix_bodies inner prefix (next + 1)))) (statements_begin true ss inner (next + 1 + length (prefix_bodies inner prefix (next + 1)) + length first))))
+  class_begins prefix i h interface (syntax.Empty n) e o next one = tt
+  class_begins prefix i h interface (syntax.Inner n) e o next one = tt
+  class_begins prefix i h interface (syntax.Call x) e o next one = tt
+  class_begins prefix i h interface (syntax.Assign x sides) e o next one = tt
+  class_begins prefix i h interface (syntax.Choose n c x rest) e o next one =
       let inner : Around = record { number = next; level = deeper kind.Class o.level } in
       behind (statement_events connections Inside (syntax.Choose n c x rest)) _ (prefix_bodies inner prefix (next + 1) ++ statement_bodies inner (syntax.Choose n c x rest) (next + 1 + length (prefix_bodies inner prefix (next + 1)))) (ahead (statement_events connections Inside (syntax.Choose n c x rest)) (prefix_bodies inner prefix (next + 1)) (statement_bodies inner (syntax.Choose n c x rest) (next + 1 + length (prefix_bodies inner prefix (next + 1)))) (one inner (next + 1 + length (prefix_bodies inner prefix (next + 1)))))
-  class_begins prefix i h interface (syntax.Repeat n c x) e p o next one =
+  class_begins prefix i h interface (syntax.Repeat n c x) e o next one =
       let inner : Around = record { number = next; level = deeper kind.Class o.level } in
       behind (statement_events connections Inside (syntax.Repeat n c x)) _ (prefix_bodies inner prefix (next + 1) ++ statement_bodies inner (syntax.Repeat n c x) (next + 1 + length (prefix_bodies inner prefix (next + 1)))) (ahead (statement_events connections Inside (syntax.Repeat n c x)) (prefix_bodies inner prefix (next + 1)) (statement_bodies inner (syntax.Repeat n c x) (next + 1 + length (prefix_bodies inner prefix (next + 1)))) (one inner (next + 1 + length (prefix_bodies inner prefix (next + 1)))))
-  class_begins prefix i h interface (syntax.For n y sign m es x) e p o next one =
+  class_begins prefix i h interface (syntax.For n y sign m es x) e o next one =
       let inner : Around = record { number = next; level = deeper kind.Class o.level } in
       behind (statement_events connections Inside (syntax.For n y sign m es x)) _ (prefix_bodies inner prefix (next + 1) ++ statement_bodies inner (syntax.For n y sign m es x) (next + 1 + length (prefix_bodies inner prefix (next + 1)))) (ahead (statement_events connections Inside (syntax.For n y sign m es x)) (prefix_bodies inner prefix (next + 1)) (statement_bodies inner (syntax.For n y sign m es x) (next + 1 + length (prefix_bodies inner prefix (next + 1)))) (one inner (next + 1 + length (prefix_bodies inner prefix (next + 1)))))
-  class_begins prefix i h interface (syntax.Inspect n object d x m rest) e p o next one =
+  class_begins prefix i h interface (syntax.Inspect n object d x m rest) e o next one =
       let inner : Around = record { number = next; level = deeper kind.Class o.level } in
       behind (statement_events connections Inside (syntax.Inspect n object d x m rest)) _ (prefix_bodies inner prefix (next + 1) ++ statement_bodies inner (syntax.Inspect n object d x m rest) (next + 1 + length (prefix_bodies inner prefix (next + 1)))) (ahead (statement_events connections Inside (syntax.Inspect n object d x m rest)) (prefix_bodies inner prefix (next + 1)) (statement_bodies inner (syntax.Inspect n object d x m rest) (next + 1 + length (prefix_bodies inner prefix (next + 1)))) (one inner (next + 1 + length (prefix_bodies inner prefix (next + 1)))))
-  class_begins prefix i h interface (syntax.InspectWhen n object arms rest) e p o next one =
+  class_begins prefix i h interface (syntax.InspectWhen n object arms rest) e o next one =
       let inner : Around = record { number = next; level = deeper kind.Class o.level } in
       behind (statement_events connections Inside (syntax.InspectWhen n object arms rest)) _ (prefix_bodies inner prefix (next + 1) ++ statement_bodies inner (syntax.InspectWhen n object arms rest) (next + 1 + length (prefix_bodies inner prefix (next + 1)))) (ahead (statement_events connections Inside (syntax.InspectWhen n object arms rest)) (prefix_bodies inner prefix (next + 1)) (statement_bodies inner (syntax.InspectWhen n object arms rest) (next + 1 + length (prefix_bodies inner prefix (next + 1)))) (one inner (next + 1 + length (prefix_bodies inner prefix (next + 1)))))
-  class_begins prefix i h interface (syntax.Prefixed x args b) e p o next one =
+  class_begins prefix i h interface (syntax.Prefixed x args b) e o next one =
       let inner : Around = record { number = next; level = deeper kind.Class o.level } in
       behind (statement_events connections Inside (syntax.Prefixed x args b)) _ (prefix_bodies inner prefix (next + 1) ++ statement_bodies inner (syntax.Prefixed x args b) (next + 1 + length (prefix_bodies inner prefix (next + 1)))) (ahead (statement_events connections Inside (syntax.Prefixed x args b)) (prefix_bodies inner prefix (next + 1)) (statement_bodies inner (syntax.Prefixed x args b) (next + 1 + length (prefix_bodies inner prefix (next + 1)))) (one inner (next + 1 + length (prefix_bodies inner prefix (next + 1)))))
-  class_begins prefix i h interface (syntax.Activate n w process schedule) e p o next one = tt
+  class_begins prefix i h interface (syntax.Activate n w process schedule) e o next one = tt
 
-whole_begins : (b : Block) → PlainBlock b → AllBegin (whole_events connections b) (bodies_of None b)
+whole_begins : (b : Block) → AllBegin (whole_events connections b) (bodies_of None b)
 unfolding connections
-whole_begins (Begin i ds ss end) p =
+whole_begins (Begin i ds ss end) =
     let first : List Body = declarations_bodies program_around ds 1 in
     behind (declarations_events connections ds ++ (statements_events connections Inside ss ++ [])) _ (first ++ statements_bodies program_around ss (1 + length first))
-    (joined (declarations_events connections ds) (statements_events connections Inside ss ++ []) first (statements_bodies program_around ss (1 + length first)) (declarations_begin ds p.0 program_around 1)
-    (nothing_behind (statements_events connections Inside ss) (statements_bodies program_around ss (1 + length first)) (statements_begin false ss p.1 program_around (1 + length first))))
+    (joined (declarations_events connections ds) (statements_events connections Inside ss ++ []) first (statements_bodies program_around ss (1 + length first)) (declarations_begin ds program_around 1)
+    (nothing_behind (statements_events connections Inside ss) (statements_bodies program_around ss (1 + length first)) (statements_begin false ss program_around (1 + length first))))
 
 -- with a prefix
-start_begins : (x : Prefix) (b : Block) → PlainBlock b → AllBegin (whole_events connections b) (bodies_of (Some x) b)
+start_begins : (x : Prefix) (b : Block) → AllBegin (whole_events connections b) (bodies_of (Some x) b)
 unfolding connections
-start_begins x (Begin i ds ss end) p =
+start_begins x (Begin i ds ss end) =
     let standard : List Body = standard_bodies program_around x.class.name 1 in
     let first : List Body = declarations_bodies program_around ds (1 + length standard) in
     let second : List Body = statements_bodies program_around ss (1 + length standard + length first) in
@@ -205,15 +204,15 @@ start_begins x (Begin i ds ss end) p =
     let S = statements_events connections Inside ss in
     behind (E ++ (S ++ [])) _ (standard ++ (first ++ second))
     (ahead (E ++ (S ++ [])) standard (first ++ second)
-    (joined E (S ++ []) first second (declarations_begin ds p.0 program_around (1 + length standard)) (nothing_behind S second (statements_begin false ss p.1 program_around (1 + length standard + length first)))))
+    (joined E (S ++ []) first second (declarations_begin ds program_around (1 + length standard)) (nothing_behind S second (statements_begin false ss program_around (1 + length standard + length first)))))
 
-pub program_begins : (p : Program) → Plain p → AllBegin (program_events connections p) (program_bodies p)
+pub program_begins : (p : Program) → AllBegin (program_events connections p) (program_bodies p)
 unfolding connections program_events program_bodies
-program_begins p q = go p.prefix p.block q.block
+program_begins p = go p.prefix p.block
   where
-    go : (prefix : Option Prefix) (b : Block) → PlainBlock b → AllBegin (connections.program prefix (begin_of b) ++ whole_events connections b) (bodies_of prefix b)
-    go (Some x) b r = start_begins x b r
-    go None b r = whole_begins b r
+    go : (prefix : Option Prefix) (b : Block) → AllBegin (connections.program prefix (begin_of b) ++ whole_events connections b) (bodies_of prefix b)
+    go (Some x) b = start_begins x b
+    go None b = whole_begins b
 
 -- ---- the blocks that begin so
 
@@ -258,5 +257,5 @@ all_opened (Looks x ∷ es) bs cs e a = all_opened es bs cs e a
 all_opened (Names x ∷ es) bs cs e a = all_opened es bs cs e a
 all_opened (Connects i ∷ es) bs cs e a = (opened bs cs i e a.0, all_opened es bs cs e a.1)
 
-pub program_opened : (p : Program) → Plain p → AllOpened (program_events connections p) (declared_by p).tables.blocks
-program_opened p q = all_opened (program_events connections p) (declared_by p).tables.blocks (program_bodies p) (blocks_are_bodies p) (program_begins p q)
+pub program_opened : (p : Program) → AllOpened (program_events connections p) (declared_by p).tables.blocks
+program_opened p = all_opened (program_events connections p) (declared_by p).tables.blocks (program_bodies p) (blocks_are_bodies p) (program_begins p)

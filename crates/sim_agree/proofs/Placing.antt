@@ -1,4 +1,4 @@
--- Where the parts of a plain program stand, whose tokens are in order and whose connections connect what is looked up in front of them.
+-- Where the parts of a program stand, whose tokens are in order and whose connections connect what is looked up in front of them.
 use Rattle.std.proofs.Common.{◌≡◌, ◌⊎◌, inl, inr, ℕ, zero, suc, Bool, true, false, List, [], ◌∷◌, map, Option, Some, None, refl, sym, ap, ◌∙◌, subst}
 use Rattle.std.specs.Prelude.{slice_get}
 use Rattle.sim_tree.specs.declared.expr.Identifier.{Identifier}
@@ -16,12 +16,12 @@ use Rattle.inspect_types.specs.Connecting.{connections}
 use Rattle.sim_meaning.specs.Levels.{is_class}
 use Rattle.sim_meaning.specs.Texts.{BlockText, ClassText, ConnectionText, ProcedureText, Text, program_texts, text, PrefixedText}
 use Rattle.sim_sound.specs.Statements.{BlockIs, ConnectionIs}
-use Rattle.sim_agree.specs.Places.{PlacedArms, PlacedArrays, PlacedBlock, PlacedBounds, PlacedElement, PlacedExpression, PlacedExpressions, PlacedSchedule, PlacedSegment, PlacedSide, PlacedStatement, PlacedStatements, PlacedPrefixed}
-use Rattle.sim_agree.specs.Plain.{Each, Plain}
+use Rattle.sim_agree.specs.Places.{Each, PlacedArms, PlacedArrays, PlacedBlock, PlacedBounds, PlacedElement, PlacedExpression, PlacedExpressions, PlacedSchedule, PlacedSegment, PlacedSide, PlacedStatement, PlacedStatements, PlacedPrefixed}
 use Rattle.sim_agree.specs.TablesOf.{TablesOf}
 use Rattle.sim_agree.proofs.Fitted.{AllConnect, ConnectsAt, DotsBounds, DotsDeclarations, DotsElement, DotsExpression, DotsExpressions, DotsSchedule, DotsSegment, DotsSide, FittedArms, FittedBlock, FittedStatement, FittedStatements, Given, TextFitted, text_fitted}
 use Rattle.sim_agree.proofs.Laid.{Con, Held, Joined, Part, Sub, Use, Whole, arms_used, block_used, bounds_used, declarations_used, each_used, element_used, expression_used, held_program, program_held, schedule_used, segment_used, side_used, statement_used, statements_used, text_held, text_used, used, used_held, Pre}
-use Rattle.sim_agree.proofs.Spots.{Fact, Final, Has, Here, LeftAt, here, there}
+use Rattle.sim_agree.proofs.Spots.{Final}
+use Rattle.sim_agree.proofs.TokenBlocks.{Fact, Has, Here, LeftAt, here, there}
 use Rattle.sim_agree.proofs.Tables as tables
 use Rattle.sim_agree.proofs.Tables.{program_final, program_unbroken}
 
@@ -36,15 +36,15 @@ what_is_held [] n x e = absurd (cc)
 what_is_held (h ∷ hs) zero x e = (h, refl, (let q : text_held h ≡ x = cc in q))
 what_is_held (h ∷ hs) (suc n) x e = what_is_held hs n x e
 
-module _ (s : Source) (of : TablesOf s) (plain : Plain s.program) (order : InOrder s.program) where
+module _ (s : Source) (of : TablesOf s) (order : InOrder s.program) where
   held : List Held
   held = program_held s.program.prefix s.program.block
 
   texts : map text_held (program_held s.program.prefix s.program.block) ≡ program_texts s.program.prefix s.program.block
-  texts = held_program s.program.prefix s.program.block plain.block
+  texts = held_program s.program.prefix s.program.block
 
   pub final : Final (declared_by s.program) (program_held s.program.prefix s.program.block)
-  final = program_final s.program plain order
+  final = program_final s.program order
 
   -- ---- what is used in a text
 
@@ -60,7 +60,7 @@ module _ (s : Source) (of : TablesOf s) (plain : Plain s.program) (order : InOrd
 
   pub at_place : (n i : ℕ) → Here (declared_by s.program) final.to n i → block_at s.tables i ≡ Some n
   unfolding block_at
-  at_place n i (inl q) = ap (λ z. joined (slice_get z i)) (tables.completed_tables s of plain order).places ∙ ap joined q
+  at_place n i (inl q) = ap (λ z. joined (slice_get z i)) (tables.completed_tables s of order).places ∙ ap joined q
   at_place n i (inr q) = absurd (let e : None ≡ Some n = sym final.laid.stack ∙ q.2 in cc)
 
   pub text_at : (n : ℕ) (h : Held) → slice_get (program_held s.program.prefix s.program.block) n ≡ Some h → text s n ≡ Some (text_held h)
@@ -73,7 +73,7 @@ module _ (s : Source) (of : TablesOf s) (plain : Plain s.program) (order : InOrd
   part_is n (Sub i) f = record {
     number = f.2.number;
     around = at_place f.2.number i f.2.there;
-    stands_in = tables.same_around s of plain order f.2.number ∙ f.2.around;
+    stands_in = tables.same_around s of order f.2.number ∙ f.2.around;
     begin = i;
     declarations = f.0;
     statements = f.1;
@@ -82,7 +82,7 @@ module _ (s : Source) (of : TablesOf s) (plain : Plain s.program) (order : InOrd
   part_is n (Pre i) f = record {
     number = f.4.number;
     around = at_place f.4.number i f.4.there;
-    stands_in = tables.same_around s of plain order f.4.number ∙ f.4.around;
+    stands_in = tables.same_around s of order f.4.number ∙ f.4.around;
     class = f.0;
     arguments = f.1;
     declarations = f.2;
@@ -93,8 +93,8 @@ module _ (s : Source) (of : TablesOf s) (plain : Plain s.program) (order : InOrd
     connection = record {
       number = f.number;
       around = at_place f.number i f.there;
-      begins = tables.same_first s of plain order f.number ∙ f.begins;
-      stands_in = tables.same_around s of plain order f.number ∙ f.around;
+      begins = tables.same_first s of order f.number ∙ f.begins;
+      stands_in = tables.same_around s of order f.number ∙ f.around;
       is = text_at f.number (Joined i a) f.text;
     };
     held_there = f.text;
@@ -260,7 +260,7 @@ module _ (s : Source) (of : TablesOf s) (plain : Plain s.program) (order : InOrd
 
   module _ (connects : AllConnect s None (program_events connections s.program)) where
     fitted : (k : ℕ) (x : Text) → text s k ≡ Some x → TextFitted s (ConnectsAt s) x
-    fitted k x at = text_fitted s (ConnectsAt s) plain order (program_unbroken s.program plain of.unbroken) connects k x at
+    fitted k x at = text_fitted s (ConnectsAt s) order (program_unbroken s.program of.unbroken) connects k x at
 
     -- what a block, a class and a procedure have in them stands in it
     pub block_placed : (k i : ℕ) (ds : Declarations) (ss : Statements) → text s k ≡ Some (BlockText i ds ss) → PlacedArrays s.tables k ds × PlacedStatements s k ss

@@ -1,5 +1,5 @@
--- What the declarations of an allowed plain program may be: where each reference has a qualification, its type is that of a class.
-use Rattle.std.proofs.Common.{◌≡◌, ◌+◌, ◌⊎◌, inl, inr, ℕ, false, List, Option, Some, None, refl, sym, ap, ◌∙◌, subst}
+-- What the declarations of an allowed program may be: where each reference has a qualification, its type is that of a class.
+use Rattle.std.proofs.Common.{◌≡◌, ◌+◌, ◌⊎◌, inl, inr, ℕ, false, List, Option, Some, None, sym, ap, ◌∙◌, subst}
 use Rattle.std.specs.Prelude.{slice_get}
 use Rattle.sim_base.specs.declared.numbering.DeclNo.{DeclNo}
 use Rattle.sim_agree.specs.Order.{InOrder}
@@ -9,8 +9,6 @@ use Rattle.sim_scope.specs.declared.types.Entry.{Entry}
 use Rattle.sim_scope.specs.declared.types.Entry.TheVariants as entry
 use Rattle.sim_scope.specs.declared.types.FormalKind.{FormalKind}
 use Rattle.sim_scope.specs.declared.types.FormalKind.TheVariants as shape
-use Rattle.sim_scope.specs.declared.types.Mode.{Mode}
-use Rattle.sim_scope.specs.declared.types.Mode.TheVariants as mode
 use Rattle.sim_scope.specs.declared.types.SimType.{SimType}
 use Rattle.sim_scope.specs.declared.types.SimType.TheVariants as type
 use Rattle.sim_scope.specs.declared.types.StandardClass.{StandardClass}
@@ -30,13 +28,12 @@ use Rattle.sim_static.specs.Check.{second_least}
 use Rattle.sim_meaning.specs.Attributes.{is_connection}
 use Rattle.sim_meaning.specs.Texts.{text}
 use Rattle.sim_agree.specs.Facts.{IsClass, PlainType, ProperEntry, ProperFormal, ProperResult, ProperType}
-use Rattle.sim_agree.specs.Plain.{Plain}
 use Rattle.sim_agree.specs.TablesOf.{TablesOf}
 use Rattle.sim_agree.proofs.Completing.{Retyped}
 use Rattle.sim_agree.proofs.Fine.{StandardGroup}
 use Rattle.sim_agree.proofs.StandardRows as rows
 use Rattle.sim_agree.proofs.StandardPrefixes.{IsBrought}
-use Rattle.sim_agree.proofs.Groups.{AreReferences, IsReference, OfReferences, PlainFormal}
+use Rattle.sim_agree.proofs.Groups.{AreReferences, IsReference, OfReferences, TypedFormal}
 use Rattle.sim_agree.proofs.Headings as h
 use Rattle.sim_agree.proofs.Qualified as q
 use Rattle.sim_agree.proofs.Steps.{IsParameter, Parametric}
@@ -44,7 +41,7 @@ use Rattle.sim_agree.proofs.Tables as t
 use Rattle.sim_agree.proofs.Tables.{Bs, Ts}
 
 -- of references or not
-references_or : (ty : SimType) → IsReference ty ⊎ PlainType ty
+pub references_or : (ty : SimType) → IsReference ty ⊎ PlainType ty
 references_or type.NoneType = inl tt
 references_or (type.Ref class) = inl tt
 references_or type.Integer = inr tt
@@ -128,31 +125,27 @@ types_to s class c (entry.Virtual None own) r = absurd r
 types_to s class c (entry.Unspecified w) r = absurd r
 types_to s class c (entry.Attribute name given result) r = absurd r
 
-formal_proper : (s : Source) (m : Mode) (k : FormalKind) (ty : Option SimType) → (m ≡ mode.ByName → k ≡ shape.Array → ⊥) → PlainFormal k ty → ProperResult s ty → ProperFormal s m k ty
-formal_proper s mode.ByName shape.Simple (Some ty) n p r = r
-formal_proper s mode.ByName shape.Array (Some ty) n p r = absurd (n refl refl)
-formal_proper s mode.ByValue shape.Simple (Some ty) n p r = r
-formal_proper s mode.ByValue shape.Array (Some ty) n p r = r
-formal_proper s mode.ByReference shape.Simple (Some ty) n p r = r
-formal_proper s mode.ByReference shape.Array (Some ty) n p r = r
-formal_proper s m shape.Simple None n p r = absurd p
-formal_proper s m shape.Array None n p r = absurd p
-formal_proper s m shape.Procedure ty n p r = absurd p
+formal_proper : (s : Source) (k : FormalKind) (ty : Option SimType) → TypedFormal k ty → ProperResult s ty → ProperFormal s k ty
+formal_proper s shape.Simple (Some ty) p r = r
+formal_proper s shape.Array (Some ty) p r = r
+formal_proper s shape.Simple None p r = absurd p
+formal_proper s shape.Array None p r = absurd p
+formal_proper s shape.Procedure ty p r = r
 
-module _ (s : Source) (of : TablesOf s) (plain : Plain s.program) (order : InOrder s.program)
+module _ (s : Source) (of : TablesOf s) (order : InOrder s.program)
     (second : second_least s.tables ≡ None)
     (outside : (token found : ℕ) (name : List ℕ) (d : DeclNo) (k : ℕ) → binding s.tables token name ≡ Some (denotation.Declared d) → entry_of s.tables d ≡ Some (entry.Class k) → found_in s.tables token name ≡ Some found → is_connection (text s found) ≡ false)
     (constants : (d : DeclNo) (ty : SimType) → entry_of s.tables d ≡ Some (entry.Constant ty) → PlainType ty) where
   class_is : (c : DeclNo) (n : ℕ) → class_block s.tables c ≡ Some n → IsClass s c
   class_is c n e =
-      let there = q.class_entry s of plain order c n e in
-      let k = h.classes s of plain order c n there in record { block = n; declares = there; is = k.0.is; owned = k.1 }
+      let there = q.class_entry s of order c n e in
+      let k = h.classes s of order c n there in record { block = n; declares = there; is = k.0.is; owned = k.1 }
 
   -- a standard class, and the types of attributes
-  standard_class_is : (p : StandardPrefix) (block : ℕ) (first : DeclNo) → StandardGroup p (Bs s of plain order) (Ts s of plain order) block first → (which : StandardClass) → IsBrought p which → IsClass s (record { 0 = first.0 + place_of which })
-  standard_class_is p block first g which is = class_is (record { 0 = first.0 + place_of which }) (block + 1 + place_of which) (rows.class_block_of s of plain order p block first g which is)
+  standard_class_is : (p : StandardPrefix) (block : ℕ) (first : DeclNo) → StandardGroup p (Bs s of order) (Ts s of order) block first → (which : StandardClass) → IsBrought p which → IsClass s (record { 0 = first.0 + place_of which })
+  standard_class_is p block first g which is = class_is (record { 0 = first.0 + place_of which }) (block + 1 + place_of which) (rows.class_block_of s of order p block first g which is)
 
-  result_proper : (p : StandardPrefix) (block : ℕ) (first : DeclNo) → StandardGroup p (Bs s of plain order) (Ts s of plain order) block first → (o : Option StandardType) → rows.TypedFor p o → ProperResult s (typed_or_none (Some first) o)
+  result_proper : (p : StandardPrefix) (block : ℕ) (first : DeclNo) → StandardGroup p (Bs s of order) (Ts s of order) block first → (o : Option StandardType) → rows.TypedFor p o → ProperResult s (typed_or_none (Some first) o)
   result_proper p block first g None q = tt
   result_proper p block first g (Some of_type.Linkage) q = standard_class_is p block first g standard.Linkage tt
   result_proper p block first g (Some of_type.Link) q = standard_class_is p block first g standard.Link tt
@@ -164,7 +157,7 @@ module _ (s : Source) (of : TablesOf s) (plain : Plain s.program) (order : InOrd
   result_proper p block first g (Some of_type.Text) q = absurd q
   result_proper p block first g (Some of_type.Reference) q = absurd q
 
-  attribute_proper : (row : Declaration) → rows.AttributeRow s of plain order row → ProperEntry s row.entry
+  attribute_proper : (row : Declaration) → rows.AttributeRow s of order row → ProperEntry s row.entry
   attribute_proper row (inl p) =
       let types = rows.attribute_types p.name p.prefix p.class p.is p.owner p.is_attribute in
       subst (ProperEntry s) (sym p.entry) (inl p.is_attribute, result_proper p.prefix p.block p.first p.group (parameter_of p.name) types.0, result_proper p.prefix p.block p.first p.group (result_of p.name) types.1)
@@ -180,20 +173,20 @@ module _ (s : Source) (of : TablesOf s) (plain : Plain s.program) (order : InOrd
   shaped d row at (entry.Class k) is en r = tt
   shaped d row at (entry.Virtual result own) is en r = r
   shaped d row at (entry.Formal f) is en r =
-      let x = t.text_of_row s of plain order d row at in
-      let p = subst Parametric is (h.param_in s of plain order x.0 d row x.2 (subst IsParameter (sym is) tt)) in
-      formal_proper s f.mode f.kind f.ty (λ by_name. (t.by_name_row s of plain order d row f at is by_name).1) p r
-  shaped d row at (entry.Unspecified w) is en r = absurd (t.specified_row s of plain order d row at w is)
+      let x = t.text_of_row s of order d row at in
+      let p = subst Parametric is (h.param_in s of order x.0 d row x.2 (subst IsParameter (sym is) tt)) in
+      formal_proper s f.kind f.ty p r
+  shaped d row at (entry.Unspecified w) is en r = absurd (t.specified_row s of order d row at w is)
   shaped d row at (entry.Attribute name given result) is en r =
-      subst (ProperEntry s) is (attribute_proper row (rows.attribute_is s of plain order d row at name given result is))
+      subst (ProperEntry s) is (attribute_proper row (rows.attribute_is s of order d row at name given result is))
 
   typed : (d : ℕ) (row : Declaration) → slice_get s.tables.declarations d ≡ Some row → (e : Entry) → row.entry ≡ e → TypesOf s e
-  typed d row at e is = let w = (t.completed_tables s of plain order).rows.was d row at in go w.0 w.1 w.2 (types_or s w.0.entry)
+  typed d row at e is = let w = (t.completed_tables s of order).rows.was d row at in go w.0 w.1 w.2 (types_or s w.0.entry)
     where
       of_references : (old : Declaration) → slice_get (declared_by s.program).tables.declarations d ≡ Some old → OfReferences old.entry → TypesOf s e
       of_references old was refs =
-          let x = t.program_covered s.program plain of.unbroken d old was refs in
-          let j : q.IsSet s of plain order s.tables d = subst (λ m. q.IsSet s of plain order s.tables m) x.3 (q.set_there s of plain order second outside x.0 x.1 x.2) in
+          let x = t.program_covered s.program of.unbroken d old was refs in
+          let j : q.IsSet s of order s.tables d = subst (λ m. q.IsSet s of order s.tables m) x.3 (q.set_there s of order second outside x.0 x.1 x.2) in
           let same : j.row ≡ row = some_same j.row row (sym j.at ∙ at) in
           let e_is : e ≡ entry_to j.class j.old.entry = sym is ∙ ap (λ (z : Declaration). z.entry) (sym same) ∙ j.is in
           subst (TypesOf s) (sym e_is) (types_to s j.class (class_is j.class j.block j.declares) j.old.entry j.refs)
@@ -207,4 +200,4 @@ module _ (s : Source) (of : TablesOf s) (plain : Plain s.program) (order : InOrd
           either (inr refs) = of_references old was refs.0
 
   pub proper : (d : DeclNo) (e : Entry) → entry_of s.tables d ≡ Some e → ProperEntry s e
-  proper d e en = let r = t.entry_row s of plain order d e en in shaped d.0 r.0 r.1 e r.2 en (typed d.0 r.0 r.1 e r.2)
+  proper d e en = let r = t.entry_row s of order d e en in shaped d.0 r.0 r.1 e r.2 en (typed d.0 r.0 r.1 e r.2)

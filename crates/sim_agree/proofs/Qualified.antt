@@ -28,7 +28,6 @@ use Rattle.inspect_types.specs.Connecting.{Connecting, ConnectingOf, Connects, L
 use Rattle.sim_static.specs.Check.{completed, second_least}
 use Rattle.sim_meaning.specs.Attributes.{is_connection}
 use Rattle.sim_meaning.specs.Texts.{text}
-use Rattle.sim_agree.specs.Plain.{Plain}
 use Rattle.sim_agree.specs.TablesOf.{TablesOf}
 use Rattle.sim_agree.proofs.Completing.{AllReferences, Completes, Requalified, Retyped, bare_row, class_was, entry_is_class, one_more, same_rows, twice}
 use Rattle.sim_agree.proofs.Groups.{OfReferences}
@@ -154,18 +153,18 @@ class_in T d n e = go (slice_get T.declarations d.0) e
     go None f = absurd (cc)
     go (Some row) f = ap Some (entry_is_class n row.entry f)
 
-module _ (s : Source) (of : TablesOf s) (plain : Plain s.program) (order : InOrder s.program) where
+module _ (s : Source) (of : TablesOf s) (order : InOrder s.program) where
   done : Completes (declared_by s.program).tables s.tables (IsClassText s.program)
-  done = t.completed_tables s of plain order
+  done = t.completed_tables s of order
 
   known : AllReferences (declared_by s.program).tables (declared_by s.program).tables.qualifications
-  known = all_references (declared_by s.program).tables (declared_by s.program).tables.qualifications (program_clean s.program plain of.unbroken).refs
+  known = all_references (declared_by s.program).tables (declared_by s.program).tables.qualifications (program_clean s.program of.unbroken).refs
 
   -- the declarations of the complete tables are those with the classes of references
   rows_are : SameRows (qualified (with_blocks (declared_by s.program).tables (prefixed (declared_by s.program).tables).blocks)) s.tables
   unfolding completed connected
   rows_are =
-      subst (λ z. SameRows (qualified z) s.tables) (prefixed_is (declared_by s.program).tables (t.P s of plain order))
+      subst (λ z. SameRows (qualified z) s.tables) (prefixed_is (declared_by s.program).tables (t.P s of order))
       (subst (λ z. SameRows (qualified (prefixed (declared_by s.program).tables)) z) (sym of.tables)
       (connections_keep (program_events connections s.program) (record { tables = qualified (prefixed (declared_by s.program).tables); next = None })))
 
@@ -180,9 +179,9 @@ module _ (s : Source) (of : TablesOf s) (plain : Plain s.program) (order : InOrd
   class_other : (d : DeclNo) (n : ℕ) → class_block s.tables d ≡ Some n → is_kind is_connection_kind s.tables n ≡ false
   unfolding text
   class_other d n e =
-      let r = t.entry_row s of plain order d (entry.Class n) (class_entry d n e) in
-      let x = t.text_of_row s of plain order d.0 r.0 r.1 in
-      ic.connections s of plain order n ∙ no_class_connection (text s n) (class_text x.0 (t.Bs s of plain order) (t.Ts s of plain order) d.0 r.0 n r.2 x.2)
+      let r = t.entry_row s of order d (entry.Class n) (class_entry d n e) in
+      let x = t.text_of_row s of order d.0 r.0 r.1 in
+      ic.connections s of order n ∙ no_class_connection (text s n) (class_text x.0 (t.Bs s of order) (t.Ts s of order) d.0 r.0 n r.2 x.2)
 
   -- ---- tables in which some references have their classes
 
@@ -195,10 +194,10 @@ module _ (s : Source) (of : TablesOf s) (plain : Plain s.program) (order : InOrd
     base_early k = ap (λ z. base_in (slice_get z k)) r.blocks
 
     text_other : (k : ℕ) → is_kind is_connection_kind s.tables k ≡ false → is_connection (text s k) ≡ false
-    text_other k e = sym (ic.connections s of plain order k) ∙ e
+    text_other k e = sym (ic.connections s of order k) ∙ e
 
     own_early : (k : ℕ) → is_kind is_connection_kind s.tables k ≡ false → base T k ≡ base s.tables k
-    own_early k e = base_early k ∙ sym (t.own_base_of s of plain order k (text_other k e))
+    own_early k e = base_early k ∙ sym (t.own_base_of s of order k (text_other k e))
 
     none_early : (k : ℕ) → is_kind is_connection_kind s.tables k ≡ true → base T k ≡ None
     none_early k e = base_early k ∙ go (base (prefixed (declared_by s.program).tables) k) refl
@@ -206,10 +205,10 @@ module _ (s : Source) (of : TablesOf s) (plain : Plain s.program) (order : InOrd
         go : (o : Option ℕ) → base (prefixed (declared_by s.program).tables) k ≡ o → o ≡ None
         go None is = refl
         go (Some b) is =
-            absurd (let q : true ≡ false = sym e ∙ ic.connections s of plain order k ∙ t.next_there s of plain order k b ((t.P s of plain order).bases k b is) in cc)
+            absurd (let q : true ≡ false = sym e ∙ ic.connections s of order k ∙ t.next_there s of order k b ((t.P s of order).bases k b is) in cc)
 
     next_early : (k c : ℕ) → base s.tables k ≡ Some c → is_kind is_connection_kind s.tables c ≡ false
-    next_early k c e = ic.connections s of plain order c ∙ no_class_connection (text s c) (t.connects s of plain order k c e)
+    next_early k c e = ic.connections s of order c ∙ no_class_connection (text s c) (t.connects s of order k c e)
 
     stand_early : (d : ℕ) → standing (slice_get T.declarations d) ≡ standing (slice_get s.tables.declarations d)
     stand_early d = rows_stand (declared_by s.program).tables.declarations T.declarations r.rows d ∙ sym (rows_stand (declared_by s.program).tables.declarations s.tables.declarations done.rows d)
@@ -252,12 +251,12 @@ module _ (s : Source) (of : TablesOf s) (plain : Plain s.program) (order : InOrd
         ap (class_denoted T) (bound (length T.blocks) refl) ∙ ap (class_with_block T class) (class_early class w.block w.declares) ∙ ap (class_unless class) (ap (λ n. some_level_of T n (is_simulation_block T) w.block) (sym size) ∙ levels_early (length s.tables.blocks) w.block (class_other class w.block w.declares) ∙ w.single)
       where
         size : length s.tables.blocks ≡ length T.blocks
-        size = done.size ∙ sym (t.P s of plain order).size ∙ ap length (sym r.blocks)
+        size = done.size ∙ sym (t.P s of order).size ∙ ap length (sym r.blocks)
 
         bound : (n : ℕ) → length T.blocks ≡ n → binding T x.class.token.0 x.class.name ≡ Some (denotation.Declared class)
-        bound zero e = absurd (let lt : 0 < length s.tables.blocks = t.some_block s of plain order in omega (arith, lt, size, e))
+        bound zero e = absurd (let lt : 0 < length s.tables.blocks = t.some_block s of order in omega (arith, lt, size, e))
         bound (suc more) e =
-            bound_alone T s.tables (λ k. done.blocks k ∙ sym ((t.P s of plain order).blocks k) ∙ ap (λ z. bare_row (slice_get z k)) (sym r.blocks)) size (done.places ∙ sym r.places) own_early none_early next_early stand_early (λ k. standards_early k ∙ sym (done.standards k)) more e x.class.token.0 x.class.name class (ap (entry_is is_virtual) (class_entry class w.block w.declares)) (no_procedure_stands T class (entry.Class w.block) (class_in T class w.block (class_early class w.block w.declares)) refl) w.binds alone
+            bound_alone T s.tables (λ k. done.blocks k ∙ sym ((t.P s of order).blocks k) ∙ ap (λ z. bare_row (slice_get z k)) (sym r.blocks)) size (done.places ∙ sym r.places) own_early none_early next_early stand_early (λ k. standards_early k ∙ sym (done.standards k)) more e x.class.token.0 x.class.name class (ap (entry_is is_virtual) (class_entry class w.block w.declares)) (no_procedure_stands T class (entry.Class w.block) (class_in T class w.block (class_early class w.block w.declares)) refl) w.binds alone
 
   -- ---- a reference has its class
 
@@ -374,7 +373,7 @@ module _ (s : Source) (of : TablesOf s) (plain : Plain s.program) (order : InOrd
           block = w.block;
           declares = w.declares;
           given = record { place = i; qualification = x; at = at; of_row = refl; written = c.1 };
-          found = λ T r. written_early T r x c.0 w (λ u e. ic.connections s of plain order u ∙ outside x.class.token.0 u x.class.name c.0 w.block w.binds (class_entry c.0 w.block w.declares) e);
+          found = λ T r. written_early T r x c.0 w (λ u e. ic.connections s of order u ∙ outside x.class.token.0 u x.class.name c.0 w.block w.binds (class_entry c.0 w.block w.declares) e);
         }
 
     pub set_there : (i : ℕ) (x : Qualification) → slice_get (declared_by s.program).tables.qualifications i ≡ Some x → IsSet s.tables x.declaration.0

@@ -1,4 +1,4 @@
--- The result of each procedure of an allowed plain program has the type that is written.
+-- The result of each procedure of an allowed program has the type that is written.
 use Rattle.std.proofs.Common.{◌≡◌, ℕ, Option, Some, None, refl, sym, ap, ◌∙◌, subst}
 use Rattle.sim_base.specs.declared.numbering.DeclNo.{DeclNo}
 use Rattle.sim_tree.specs.declared.stmt.TypeName.{TypeName}
@@ -18,7 +18,6 @@ use Rattle.sim_meaning.specs.Texts.{ProcedureText, kind_named, kind_of_type, tex
 use Rattle.sim_values.specs.declared.kind.Kind.TheVariants as kind
 use Rattle.sim_sound.specs.Held.{IsOfKind, given_by, held_by, reference_to, result_declared, result_holds}
 use Rattle.sim_sound.specs.Typed.{ResultWritten}
-use Rattle.sim_agree.specs.Plain.{Plain}
 use Rattle.sim_agree.specs.TablesOf.{TablesOf}
 use Rattle.sim_agree.proofs.Fine.{Alike, AlikeResults, alike_results}
 use Rattle.sim_agree.proofs.Headings as headings
@@ -66,17 +65,17 @@ procedure_like (entry.Formal f) r n a = absurd a
 procedure_like (entry.Unspecified w) r n a = absurd a
 procedure_like (entry.Attribute name given q) r n a = absurd a
 
-module _ (s : Source) (of : TablesOf s) (plain : Plain s.program) (order : InOrder s.program) where
+module _ (s : Source) (of : TablesOf s) (order : InOrder s.program) where
   -- the block of the text of a procedure belongs to a declaration that has its result
   pub result_written : (k : ℕ) (result : Option TypeName) (h : Heading) (a : Statement) → text s k ≡ Some (ProcedureText result h a) → ResultWritten result (result_holds s k)
   unfolding text result_of
   result_written k result h a at =
-      let q = program_owned s.program plain of.unbroken k (ProcedureText result h a) at in
+      let q = program_owned s.program of.unbroken k (ProcedureText result h a) at in
       let d : DeclNo = q.0 in
-      let new = (tables.completed_tables s of plain order).rows.stays d.0 q.1 q.3 in
+      let new = (tables.completed_tables s of order).rows.stays d.0 q.1 q.3 in
       let like : Alike (entry.Procedure (result_named result) k) new.0.entry =
       alike_new q.1.entry new.0.entry new.2.entry (entry.Procedure (result_named result) k) (subst (Alike (entry.Procedure (result_named result) k)) (sym q.4) (alike_results (result_named result), refl)) in
-      let own : owner_of_level s.tables (Some k) ≡ Some d = headings.owner_at s of plain order k d (tables.same_owner s of plain order k ∙ q.2) in
+      let own : owner_of_level s.tables (Some k) ≡ Some d = headings.owner_at s of order k d (tables.same_owner s of order k ∙ q.2) in
       let there : result_declared s (owner_of_level s.tables (Some k)) ≡ result_in (Some new.0.entry) =
-      ap (result_declared s) own ∙ ap result_in (tables.row_entry s of plain order d new.0 new.1) in
+      ap (result_declared s) own ∙ ap result_in (tables.row_entry s of order d new.0 new.1) in
       subst (λ r. ResultWritten result (given_by s r)) (sym there) (written s result (result_in (Some new.0.entry)) (procedure_like new.0.entry (result_named result) k like))

@@ -19,7 +19,7 @@ use Rattle.sim_meaning.specs.Entries.{numbers_in}
 use Rattle.sim_meaning.specs.Texts.{Text}
 use Rattle.sim_agree.proofs.Completing.{bare_row}
 use Rattle.sim_agree.proofs.Fine.{Alike, AlikeResults, AlikeTypes, KindIs, deeper_in, owner_in}
-use Rattle.sim_agree.proofs.Groups.{AreReferences, IsReference, OfReferences, PlainFormal}
+use Rattle.sim_agree.proofs.Groups.{AreReferences, IsReference, OfReferences, TypedFormal}
 use Rattle.sim_agree.proofs.Steps.{IsParameter, Parametric}
 
 -- ---- of a source
@@ -103,12 +103,12 @@ parametric_to : (old : Entry) (class : DeclNo) → Parametric old → Parametric
 unfolding entry_to
 parametric_to (entry.Formal f) class p = of_kind f.kind f.ty p
   where
-    of_kind : (k : FormalKind) (ty : Option SimType) → PlainFormal k ty → PlainFormal k (type_to class ty)
+    of_kind : (k : FormalKind) (ty : Option SimType) → TypedFormal k ty → TypedFormal k (type_to class ty)
     of_kind shape.Simple (Some ty) q = tt
     of_kind shape.Array (Some ty) q = tt
     of_kind shape.Simple None q = q
     of_kind shape.Array None q = q
-    of_kind shape.Procedure ty q = absurd q
+    of_kind shape.Procedure ty q = tt
 parametric_to (entry.Unspecified w) class p = p
 parametric_to (entry.Variable ty) class p = absurd p
 parametric_to (entry.Constant ty) class p = absurd p

@@ -15,7 +15,6 @@ use Rattle.sim_scope.specs.Tables.{BlockOf, Tables}
 use Rattle.prefix_bind.specs.Prefixes.{breaks_prefix, is_known, is_prefixed_block, prefix_faults, prefixed}
 use Rattle.sim_meaning.specs.Attributes.{is_connection}
 use Rattle.sim_meaning.specs.Texts.{PrefixedText, StandardText, text}
-use Rattle.sim_agree.specs.Plain.{Plain}
 use Rattle.sim_agree.specs.TablesOf.{TablesOf}
 use Rattle.sim_agree.proofs.BlockPrefixes as blocks
 use Rattle.sim_agree.proofs.BlockPrefixes.{HasPrefix}
@@ -71,7 +70,7 @@ kind_bare (Some row) = refl
 some_row : (a b : BlockOf) → Some a ≡ Some b → a ≡ b
 some_row a b e = cc
 
-module _ (s : Source) (of : TablesOf s) (plain : Plain s.program) (order : InOrder s.program) where
+module _ (s : Source) (of : TablesOf s) (order : InOrder s.program) where
   abbrev T : Tables
   T = prefixed (declared_by s.program).tables
 
@@ -79,8 +78,8 @@ module _ (s : Source) (of : TablesOf s) (plain : Plain s.program) (order : InOrd
   set_kind : (u : ℕ) (which : StandardClass) → text s u ≡ Some (StandardText which) → is_kind is_standard_class T u ≡ true
   unfolding text is_kind
   set_kind u which at =
-      let same : kind_in (slice_get T.blocks u) ≡ kind_in (slice_get (declared_by s.program).tables.blocks u) = sym (kind_bare (slice_get T.blocks u)) ∙ ap kind_in ((t.P s of plain order).blocks u) ∙ kind_bare (slice_get (declared_by s.program).tables.blocks u) in
-      ap (is_so is_standard_class) same ∙ go (slice_get (declared_by s.program).tables.blocks u) (subst (λ x. KindIs (slice_get (declared_by s.program).tables.blocks u) x) at ((t.program_agrees s.program plain).fine.kinds u))
+      let same : kind_in (slice_get T.blocks u) ≡ kind_in (slice_get (declared_by s.program).tables.blocks u) = sym (kind_bare (slice_get T.blocks u)) ∙ ap kind_in ((t.P s of order).blocks u) ∙ kind_bare (slice_get (declared_by s.program).tables.blocks u) in
+      ap (is_so is_standard_class) same ∙ go (slice_get (declared_by s.program).tables.blocks u) (subst (λ x. KindIs (slice_get (declared_by s.program).tables.blocks u) x) at ((t.program_agrees s.program).fine.kinds u))
     where
       go : (o : Option BlockOf) → KindIs o (Some (StandardText which)) → is_so is_standard_class (kind_in o) ≡ true
       go None q = absurd q
@@ -96,7 +95,7 @@ module _ (s : Source) (of : TablesOf s) (plain : Plain s.program) (order : InOrd
     rule b based level = go (slice_get T.blocks k) refl
       where
         was : (row : BlockOf) × (slice_get (declared_by s.program).tables.blocks k ≡ Some row) × (row.kind ≡ kind.Prefixed)
-        was = blocks.declared_row s of plain order k class es ds ss is
+        was = blocks.declared_row s of order k class es ds ss is
 
         broken : (row : BlockOf) → slice_get T.blocks k ≡ Some row → (o : Option Identifier) → row.prefix ≡ o → HasPrefix kind.Prefixed o
             → (not (is_known row) || is_prefixed_block row.kind && holds (λ b. some_level T (is_kind is_standard_class T) b) row.base) ≡ false
@@ -104,14 +103,14 @@ module _ (s : Source) (of : TablesOf s) (plain : Plain s.program) (order : InOrd
         broken row at (Some x) e has = sym (ap (breaks_prefix T row) e) ∙ prefix_known T (no_least (prefix_faults T) of.prefixes) k row at
 
         go : (o : Option BlockOf) → slice_get T.blocks k ≡ o → ⊥
-        go None at = absurd (let f : None ≡ Some (record was.0 { base = None; standard = None }) = sym (ap bare_row at) ∙ (t.P s of plain order).blocks k ∙ ap bare_row was.1 in cc)
+        go None at = absurd (let f : None ≡ Some (record was.0 { base = None; standard = None }) = sym (ap bare_row at) ∙ (t.P s of order).blocks k ∙ ap bare_row was.1 in cc)
         go (Some row) at =
-            let same : record row { base = None; standard = None } ≡ record was.0 { base = None; standard = None } = some_row (record row { base = None; standard = None }) (record was.0 { base = None; standard = None }) (sym (ap bare_row at) ∙ (t.P s of plain order).blocks k ∙ ap bare_row was.1) in
+            let same : record row { base = None; standard = None } ≡ record was.0 { base = None; standard = None } = some_row (record row { base = None; standard = None }) (record was.0 { base = None; standard = None }) (sym (ap bare_row at) ∙ (t.P s of order).blocks k ∙ ap bare_row was.1) in
             let written : row.prefix ≡ (was.0).prefix = ap (λ (z : BlockOf). z.prefix) same in
             let kinds : row.kind ≡ kind.Prefixed = ap (λ (z : BlockOf). z.kind) same ∙ was.2 in
-            let bases : row.base ≡ Some b = sym (ap base_in at) ∙ sym (t.own_base_of s of plain order k other) ∙ based in
+            let bases : row.base ≡ Some b = sym (ap base_in at) ∙ sym (t.own_base_of s of order k other) ∙ based in
             clash (not (is_known row)) (is_prefixed_block row.kind) (holds (λ b. some_level T (is_kind is_standard_class T) b) row.base)
-            (broken row at (was.0).prefix written (blocks.has_prefix s of plain order k class es ds ss is)) (ap is_prefixed_block kinds) (ap (holds (λ b. some_level T (is_kind is_standard_class T) b)) bases ∙ level)
+            (broken row at (was.0).prefix written (blocks.has_prefix s of order k class es ds ss is)) (ap is_prefixed_block kinds) (ap (holds (λ b. some_level T (is_kind is_standard_class T) b)) bases ∙ level)
 
     pub no_set_level : (u : ℕ) (which : StandardClass) → has_level s.tables k u ≡ true → text s u ≡ Some (StandardText which) → ⊥
     unfolding has_level some_level_of
@@ -122,10 +121,10 @@ module _ (s : Source) (of : TablesOf s) (plain : Plain s.program) (order : InOrd
 
         above : (n : ℕ) → length s.tables.blocks ≡ suc n → (b : ℕ) → base s.tables k ≡ Some b → some_level_of s.tables n (λ j. nat_eq j u) b ≡ true → ⊥
         above n size b based e =
-            let solid : is_connection (text s b) ≡ false = no_class_connection (text s b) (t.connects s of plain order k b based) in
-            let there : some_level_of T n (λ j. nat_eq j u) b ≡ true = sym (c.same_levels s of plain order n (λ j. nat_eq j u) b solid) ∙ e in
+            let solid : is_connection (text s b) ≡ false = no_class_connection (text s b) (t.connects s of order k b based) in
+            let there : some_level_of T n (λ j. nat_eq j u) b ≡ true = sym (c.same_levels s of order n (λ j. nat_eq j u) b solid) ∙ e in
             let kinds : some_level_of T (suc n) (is_kind is_standard_class T) b ≡ true = levels_more T n (is_kind is_standard_class T) b (levels_are T n (λ j. nat_eq j u) (is_kind is_standard_class T) stands b there) in
-            rule b based (subst (λ m. some_level_of T m (is_kind is_standard_class T) b ≡ true) (sym size ∙ c.sizes s of plain order) kinds)
+            rule b based (subst (λ m. some_level_of T m (is_kind is_standard_class T) b ≡ true) (sym size ∙ c.sizes s of order) kinds)
 
         by_count : (n : ℕ) → length s.tables.blocks ≡ n → some_level_of s.tables n (λ j. nat_eq j u) k ≡ true → ⊥
         by_count zero size e = absurd (cc)

@@ -14,9 +14,10 @@ use Rattle.sim_scope.specs.declared.standard.StandardName.{StandardName}
 use Rattle.sim_scope.specs.declared.types.Entry.TheVariants as entry
 use Rattle.sim_scope.specs.declared.types.SimType.{SimType}
 use Rattle.sim_scope.specs.declared.types.StandardClass.{StandardClass}
+use Rattle.sim_scope.specs.declared.types.StandardClass.TheVariants as standard
 use Rattle.sim_scope.specs.declared.types.StandardPrefix.{StandardPrefix}
 use Rattle.sim_scope.specs.declared.types.StandardPrefix.TheVariants as prefix
-use Rattle.sim_scope.specs.Access.{block_at}
+use Rattle.sim_scope.specs.Access.{block_at, encloser}
 use Rattle.sim_scope.specs.Building.{name_of, typed_or_none}
 use Rattle.sim_scope.specs.Calls.{attribute_in, detach_or_none}
 use Rattle.sim_scope.specs.Levels.{is_simulation, is_simulation_block, standard_in}
@@ -27,12 +28,14 @@ use Rattle.sim_scope.specs.Tables.{BlockOf, Tables}
 use Rattle.sim_code.specs.Sets.{is_attribute_name}
 use Rattle.sim_code.specs.Simulations.{is_simulation_name}
 use Rattle.sim_meaning.specs.Texts.{StandardText, text}
-use Rattle.sim_agree.specs.Plain.{Plain}
+use Rattle.sim_sound.specs.Expressions.{ProcessClassThere}
 use Rattle.sim_agree.specs.TablesOf.{TablesOf}
 use Rattle.sim_agree.proofs.ClassBlocks as blocks
-use Rattle.sim_agree.proofs.ClassBlocks.{brought_standard, from_level, lookup_among, shown_level}
+use Rattle.sim_agree.proofs.ClassBlocks.{brought_standard, from_level, shown_level}
+use Rattle.sim_agree.proofs.Latest.{lookup_among}
 use Rattle.sim_agree.proofs.Fine.{OfSimulation, name_there}
 use Rattle.sim_agree.proofs.StandardPrefixes.{InFront, one_in_front}
+use Rattle.sim_agree.proofs.Headings as headings
 use Rattle.sim_agree.proofs.StandardRows as rows
 use Rattle.sim_agree.proofs.StandardRows.{names_apart}
 use Rattle.sim_agree.proofs.Steps.{found_at}
@@ -64,28 +67,28 @@ brought_name T named k name d e = go (slice_get T.blocks k) refl e
     go None at f = absurd (cc)
     go (Some row) at f = of_row row at row.standard f
 
-module _ (s : Source) (of : TablesOf s) (plain : Plain s.program) (order : InOrder s.program) where
+module _ (s : Source) (of : TablesOf s) (order : InOrder s.program) where
   -- what a level shows, and does not list, is brought into it
   level_brought : (from : Option ℕ) (l : ℕ) (name : List ℕ) (d : DeclNo) → level_shows s.tables from l name ≡ Some d → ((row : Declaration) → slice_get s.tables.declarations d.0 ≡ Some row → row.listed ≡ false) → brought_by s.tables l name ≡ Some d
   unfolding level_shows
   level_brought from l name d e hidden = go (seen s.tables from (lookup s.tables l name)) refl e
     where
       listed : lookup s.tables l name ≡ Some d → ⊥
-      listed at = let q = blocks.listed_there s of plain order l d (lookup_among s.tables l name d at) in let z : true ≡ false = sym q.2 ∙ hidden q.0 q.1 in cc
+      listed at = let q = blocks.listed_there s of order l d (lookup_among s.tables l name d at) in let z : true ≡ false = sym q.2 ∙ hidden q.0 q.1 in cc
 
       go : (o : Option DeclNo) → seen s.tables from (lookup s.tables l name) ≡ o → option_or o (brought_by s.tables l name) ≡ Some d → brought_by s.tables l name ≡ Some d
-      go (Some f) at h = absurd (listed (seen_there s.tables (t.shows s of plain order) from (lookup s.tables l name) d (at ∙ h)))
+      go (Some f) at h = absurd (listed (seen_there s.tables (t.shows s of order) from (lookup s.tables l name) d (at ∙ h)))
       go None at h = h
 
   -- ---- attributes of `simulation`
 
   simulation_row_of : (d : DeclNo) (n : Standard) (given result : Option SimType) → entry_of s.tables d ≡ Some (entry.Attribute n given result) → is_simulation_name n ≡ true
-      → (row : Declaration) × (slice_get s.tables.declarations d.0 ≡ Some row) × OfSimulation (Bs s of plain order) (Ts s of plain order) row
+      → (row : Declaration) × (slice_get s.tables.declarations d.0 ≡ Some row) × OfSimulation (Bs s of order) (Ts s of order) row
   simulation_row_of d n given result e is_name =
-      let r = t.entry_row s of plain order d (entry.Attribute n given result) e in go r.0 r.1 r.2 (rows.attribute_is s of plain order d.0 r.0 r.1 n given result r.2)
+      let r = t.entry_row s of order d (entry.Attribute n given result) e in go r.0 r.1 r.2 (rows.attribute_is s of order d.0 r.0 r.1 n given result r.2)
     where
-      go : (row : Declaration) → slice_get s.tables.declarations d.0 ≡ Some row → row.entry ≡ entry.Attribute n given result → rows.AttributeRow s of plain order row
-          → (found : Declaration) × (slice_get s.tables.declarations d.0 ≡ Some found) × OfSimulation (Bs s of plain order) (Ts s of plain order) found
+      go : (row : Declaration) → slice_get s.tables.declarations d.0 ≡ Some row → row.entry ≡ entry.Attribute n given result → rows.AttributeRow s of order row
+          → (found : Declaration) × (slice_get s.tables.declarations d.0 ≡ Some found) × OfSimulation (Bs s of order) (Ts s of order) found
       go row at is (inr p) = (row, at, p)
       go row at is (inl p) = absurd (names_apart n (subst (λ z. is_attribute_name z ≡ true) (same_name p.name n (typed_or_none (Some p.first) (parameter_of p.name)) given (typed_or_none (Some p.first) (result_of p.name)) result (sym p.entry ∙ is)) p.is_attribute) is_name)
         where
@@ -100,11 +103,11 @@ module _ (s : Source) (of : TablesOf s) (plain : Plain s.program) (order : InOrd
       let p = x.2 in
       let by = level_brought from l name d e (λ row at. ap (λ (z : Declaration). z.listed) (some_same row x.0 (sym at ∙ x.1)) ∙ p.listed) in
       let w = brought_standard s.tables l name d by in
-      let r = (brought_stands s.tables (t.shows s of plain order) l name d by).0 in
+      let r = (brought_stands s.tables (t.shows s of order) l name d by).0 in
       let block : (x.0).block ≡ l = ap (λ (z : Declaration). z.block) (some_same x.0 r.0 (sym x.1 ∙ r.1)) ∙ r.2 in
-      let h = t.headed_now s of plain order l w.0 w.1 in
+      let h = t.headed_now s of order l w.0 w.1 in
       let front = (h.1).host in
-      let same_text : front.0 ≡ (p.group).host.0 = some_same front.0 (p.group).host.0 (sym front.1 ∙ ap (slice_get (Ts s of plain order)) (sym block) ∙ (p.group).host.1) in
+      let same_text : front.0 ≡ (p.group).host.0 = some_same front.0 (p.group).host.0 (sym front.1 ∙ ap (slice_get (Ts s of order)) (sym block) ∙ (p.group).host.1) in
       let one : w.0 ≡ prefix.Simulation = one_in_front w.0 prefix.Simulation (p.group).host.0 (subst (InFront w.0) same_text front.2) (p.group).host.2 in
       ap (λ o. is_simulation (standard_in (slice_get s.tables.blocks (block_of_row o)))) x.1 ∙ ap (λ m. is_simulation (standard_in (slice_get s.tables.blocks m))) block ∙ ap is_simulation (w.1 ∙ ap Some one)
 
@@ -134,8 +137,20 @@ module _ (s : Source) (of : TablesOf s) (plain : Plain s.program) (order : InOrd
   pub found_named : (token : ℕ) (name : List ℕ) (d : DeclNo) (k : ℕ) (which : StandardClass) → binding s.tables token name ≡ Some (denotation.Declared d) → entry_of s.tables d ≡ Some (entry.Class k) → text s k ≡ Some (StandardText which) → name ≡ name_of which
   found_named token name d k which binds is at =
       let l = from_level s.tables (Some token) name d (block_at s.tables token) (declared_is s.tables token name d (ap (entry_is is_virtual) is) binds) in
-      let r = t.entry_row s of plain order d (entry.Class k) is in
-      let own = rows.class_row_of s of plain order d.0 k which r.0 r.1 r.2 at in
+      let r = t.entry_row s of order d (entry.Class k) is in
+      let own = rows.class_row_of s of order d.0 k which r.0 r.1 r.2 at in
       let by = level_brought (Some token) l.0 name d l.1 (λ row there. ap (λ (z : Declaration). z.listed) (some_same row r.0 (sym there ∙ r.1)) ∙ own.0) in
-      let x = brought_name s.tables (t.named_now s of plain order) l.0 name d by in
+      let x = brought_name s.tables (t.named_now s of order) l.0 name d by in
       sym x.2 ∙ ap (λ (z : Declaration). z.name) (some_same x.0 r.0 (sym x.1 ∙ r.1)) ∙ own.1
+
+  -- a class `process` that is found was brought by `simulation`
+  pub process_found : (token : ℕ) (name : List ℕ) (d : DeclNo) (k : ℕ) → binding s.tables token name ≡ Some (denotation.Declared d) → entry_of s.tables d ≡ Some (entry.Class k) → text s k ≡ Some (StandardText standard.Process) → ProcessClassThere s k
+  process_found token name d k binds is at =
+      let l = from_level s.tables (Some token) name d (block_at s.tables token) (declared_is s.tables token name d (ap (entry_is is_virtual) is) binds) in
+      let r = t.entry_row s of order d (entry.Class k) is in
+      let own = rows.class_row_of s of order d.0 k standard.Process r.0 r.1 r.2 at in
+      let by = level_brought (Some token) l.0 name d l.1 (λ row there. ap (λ (z : Declaration). z.listed) (some_same row r.0 (sym there ∙ r.1)) ∙ own.0) in
+      let stands = (brought_stands s.tables (t.shows s of order) l.0 name d by).0 in
+      let block : (r.0).block ≡ l.0 = ap (λ (z : Declaration). z.block) (some_same r.0 stands.0 (sym r.1 ∙ stands.1)) ∙ stands.2 in
+      let around : encloser s.tables k ≡ Some (block_of s d) = (headings.classes s of order d k is).0.around in
+      rows.process_in s of order k at l.0 (around ∙ ap Some (t.block_is s of order d r.0 r.1 ∙ block)) (brought_standard s.tables l.0 name d by)

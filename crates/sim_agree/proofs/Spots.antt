@@ -1,30 +1,35 @@
--- Where the tokens of a plain program are in order, the innermost block around each that is used in a text is the block of that text, each sub-block
+-- Where the tokens of a program are in order, the innermost block around each that is used in a text is the block of that text, each sub-block
 -- and each connection stands in its text, blocks begin at tokens of their own, and declarations stand at tokens of their own.
 use Rattle.std.proofs.Common.{◌≡◌, ◌<◌, ◌≤◌, ◌+◌, ◌-◌, ◌⊎◌, inl, inr, ℕ, zero, suc, Bool, true, false, List, [], ◌∷◌, ◌++◌, length, Option, Some, None, refl, sym, ap, ◌∙◌, subst, arith, append-nil, append_assoc}
 use Rattle.std.specs.Prelude.{nat_eq, nat_lt, replicate, slice_get, slice_set}
 use Rattle.std.proofs.lemmas.List.{length-append, length-replicate, length-set}
 use Rattle.std.proofs.lemmas.Option.{slice_get_within}
 use Rattle.std.proofs.lemmas.Bool.Decides.{nat_tests}
+use Rattle.sim_base.specs.declared.numbering.DeclNo.{DeclNo}
 use Rattle.sim_base.specs.declared.numbering.TokenNo.{TokenNo}
 use Rattle.sim_base.specs.declared.rule.Rule.{Rule}
 use Rattle.sim_base.specs.declared.rule.Rule.TheVariants as r
 use Rattle.sim_tree.specs.declared.expr.Identifier.{Identifier}
 use Rattle.sim_tree.specs.Syntax.{Declarations, Statement, Statements, Expressions}
 use Rattle.sim_scope.specs.declared.scopes.Declaration.{Declaration}
+use Rattle.sim_scope.specs.declared.scopes.Qualification.{Qualification}
 use Rattle.sim_scope.specs.declared.types.BlockKind.{BlockKind}
 use Rattle.sim_scope.specs.declared.types.BlockKind.TheVariants as kind
 use Rattle.sim_scope.specs.declared.types.Entry.{Entry}
 use Rattle.sim_scope.specs.declared.types.Entry.TheVariants as entry
-use Rattle.sim_scope.specs.Building.{BuildingOf, Mark, Opens, block_around, broken_if, changed, closed, closed_at, declared, found_in, holding_class, level_in, marked, most_levels, opened, owner_of, parameter as parameter_of, placed, specified as specified_of, unspecified_at, prefixed_by}
+use Rattle.sim_scope.specs.declared.types.WrittenMode.{WrittenMode}
+use Rattle.sim_scope.specs.Building.{BuildingOf, Mark, Opens, block_around, broken, broken_if, changed, closed, closed_at, counted, counted_in, declared, found_in, guards, headed as headed_of, holding_class, inner as inner_of, level_in, marked, moded as moded_of, most_levels, opened, owner_of, parameter as parameter_of, placed, specified as specified_of, unspecified_at, prefixed_by}
 use Rattle.sim_scope.specs.Declare.{result_named}
 use Rattle.sim_scope.specs.Runs.{run}
 use Rattle.sim_scope.specs.Access.{around}
 use Rattle.sim_meaning.specs.Attributes.{first_in}
+use Rattle.sim_meaning.specs.Entries.{numbers_in}
+use Rattle.sim_sound.specs.Held.{Among}
 use Rattle.sim_scope.specs.Tables.{BlockOf}
 use Rattle.sim_scope.proofs.Kept.{kept_more, kept_set, more_here, more_other, set_here, set_other}
 use Rattle.sim_meaning.specs.Texts.{BlockText, ClassText, ProcedureText, Text, PrefixedText}
 use Rattle.sim_tree.specs.Order.{Ascends, Spot}
-use Rattle.sim_agree.proofs.Laid.{Con, Frame, Held, Joined, Laid, Part, Sub, Use, Whole, block, breaks_rule, closes, connects, declares, declares_class, frame, headed, inner_mark, leaves, moded, nothing, parameter, passes, procedure, program, specified, text_held, used_held, uses, Prefs, prefixed, unprefixed, text_used, guarded, Pre, prefixed_block, Stands, all_held, among, outermost, standard_block, standard_class}
+use Rattle.sim_agree.proofs.Laid.{Con, Frame, Held, Joined, Laid, Part, Sub, Use, Whole, block, breaks_rule, classes, closes, connects, declares, declares_class, frame, headed, inner_mark, leaves, moded, nothing, parameter, passes, procedure, program, specified, text_held, used_held, uses, Prefs, prefixed, unprefixed, text_used, guarded, Pre, prefixed_block, Stands, all_held, among, outermost, standard_block, standard_class}
 use Rattle.sim_agree.proofs.BroughtFine as brought
 use Rattle.sim_agree.proofs.BroughtKnown.{Added, a_class, an_attribute, an_own, row_added}
 use Rattle.sim_agree.proofs.BroughtRows.{added_rows, bringing, with_standard}
@@ -38,128 +43,14 @@ use Rattle.sim_scope.specs.declared.types.StandardPrefix.TheVariants as prefixes
 use Rattle.sim_agree.proofs.Steps as steps
 use Rattle.sim_agree.proofs.Steps.{Becomes, Changed, Fixed, Nothing, Step, fixed}
 use Rattle.sim_agree.proofs.Marks.{Declared, class_step, declared_step, headed_step, inner_step, last_cases, met, moded_step, declarable_unmatched, parameter_step, procedure_unmatched, quals_step, rule_step, specified_met, prefix_step, guards_step}
-use Rattle.sim_agree.proofs.Unprefixed.{Unprefixed, extras_in, no_extras, is_prefixable}
+use Rattle.sim_agree.proofs.Unprefixed.{extras_in, no_extras, is_prefixable}
 use Rattle.sim_agree.proofs.Fine.{same_around}
 use Rattle.sim_agree.proofs.FineBlocks.{fresh}
 use Rattle.sim_agree.proofs.FineRuns.{run_both}
+use Rattle.sim_agree.proofs.Clean.{declared_refs, guards_quiet, holding_same, inner_quiet, moded_quiet, prefix_quiet, specified_quiet}
 use Rattle.sim_agree.proofs.Groups.{AreReferences, OfReferences, whole_prefix}
-
--- ---- the open texts
-
-abbrev first_of_fixed : Fixed → ℕ
-first_of_fixed None = 0
-first_of_fixed (Some x) = x.first
-
-first_is_fixed : (o : Option BlockOf) → first_of_fixed (fixed o) ≡ first_in o
-first_is_fixed None = refl
-first_is_fixed (Some row) = refl
-
-same_first : (o p : Option BlockOf) → fixed o ≡ fixed p → first_in o ≡ first_in p
-same_first o p e = sym (first_is_fixed o) ∙ ap first_of_fixed e ∙ first_is_fixed p
-
-abbrev pub Stack : List BlockOf → List Held → (current : Option ℕ) → List Frame → Type 0
-Stack bs hs current [] = current ≡ None
-Stack bs hs current (o ∷ os) = (n : ℕ) × (current ≡ Some n) × ((h : Held) × (slice_get hs n ≡ Some h) × (text_held h ≡ o.text)) × Stack bs hs (around (slice_get bs n)) os
-
-abbrev Keeps : List BlockOf → List BlockOf → List Held → List Held → Type 0
-Keeps bs cs hs us = (n : ℕ) (x : Held) → slice_get hs n ≡ Some x → (around (slice_get cs n) ≡ around (slice_get bs n)) × (slice_get us n ≡ Some x) × (first_in (slice_get cs n) ≡ first_in (slice_get bs n))
-
-stack_kept : (bs cs : List BlockOf) (hs us : List Held) → Keeps bs cs hs us → (os : List Frame) (current : Option ℕ) → Stack bs hs current os → Stack cs us current os
-stack_kept bs cs hs us keep [] current h = h
-stack_kept bs cs hs us keep (o ∷ os) current h =
-    let k = keep h.0 h.2.0 h.2.1 in
-    (h.0, h.1, (h.2.0, k.1, h.2.2), subst (λ z. Stack cs us z os) (sym k.0) (stack_kept bs cs hs us keep os (around (slice_get bs h.0)) h.3))
-
-pub data Has (p : Part) : List Part → Type 0 where
-  here : {ps : List Part} → Has p (p ∷ ps)
-  there : {q : Part} {ps : List Part} → Has p ps → Has p (q ∷ ps)
-
-has_cases : {p q : Part} {ps : List Part} → Has p (q ∷ ps) → (p ≡ q) ⊎ Has p ps
-has_cases here = inl refl
-has_cases (there h) = inr h
-
-abbrev pub out : List BlockOf → Option ℕ → Option ℕ
-out bs None = None
-out bs (Some k) = around (slice_get bs k)
-
-abbrev pub LeftAt : List BlockOf → (current : Option ℕ) → List Frame → (block : ℕ) → Part → Type 0
-LeftAt bs current [] n p = ⊥
-LeftAt bs current (o ∷ os) n p = ((current ≡ Some n) × Has p o.left) ⊎ LeftAt bs (out bs current) os n p
-
-left_kept : (bs cs : List BlockOf) (ts us : List Held) → Keeps bs cs ts us → (os : List Frame) (current : Option ℕ) (n : ℕ) (p : Part) → Stack bs ts current os → LeftAt bs current os n p → LeftAt cs current os n p
-left_kept bs cs ts us keep [] current n p s q = absurd q
-left_kept bs cs ts us keep (o ∷ os) current n p s (inl q) = inl q
-left_kept bs cs ts us keep (o ∷ os) current n p s (inr q) =
-    let e : out bs current ≡ around (slice_get bs s.0) = ap (out bs) s.1 in
-    let f : out cs current ≡ around (slice_get bs s.0) = ap (out cs) s.1 ∙ (keep s.0 s.2.0 s.2.1).0 in
-    inr (subst (λ z. LeftAt cs z os n p) (sym f) (left_kept bs cs ts us keep os (around (slice_get bs s.0)) n p s.3 (subst (λ z. LeftAt bs z os n p) e q)))
-
--- ---- what is known of a token
-
--- The block around a token is this one; or the token has no place yet, and this block is the innermost one.
-abbrev pub Here : BuildingOf → (from block token : ℕ) → Type 0
-Here b from n i = (slice_get b.tables.places i ≡ Some (Some n)) ⊎ ((length b.tables.places ≤ i) × (i < from) × (b.current ≡ Some n))
-
--- a sub-block or a connection stands in the block
-pub record Inner (b : BuildingOf) (hs : List Held) (from n i : ℕ) (x : Held) : Type 0 where
-  pub number : ℕ
-  pub text : slice_get hs number ≡ Some x
-  pub around : around (slice_get b.tables.blocks number) ≡ Some n
-  pub there : Here b from number i
-  pub begins : first_in (slice_get b.tables.blocks number) ≡ i
-
-abbrev pub Fact : BuildingOf → List Held → (from block : ℕ) → Part → Type 0
-Fact b hs from n (Use i) = Here b from n i
-Fact b hs from n (Sub i) = (ds : Declarations) × (ss : Statements) × Inner b hs from n i (Whole (BlockText i ds ss))
-Fact b hs from n (Pre i) = (class : Identifier) × (es : Expressions) × (ds : Declarations) × (ss : Statements) × Inner b hs from n i (Whole (PrefixedText class es ds ss))
-Fact b hs from n (Con i a) = Inner b hs from n i (Joined i a)
-
--- a block begins at its first token, but for the classes of SIMSET, which have no text
-abbrev pub Firsts : BuildingOf → (from : ℕ) → Type 0
-Firsts b from = (k : ℕ) (row : BlockOf) → slice_get b.tables.blocks k ≡ Some row → is_standard_class row.kind ≡ false → Here b from k row.first
-
-own_was : (old row : Declaration) → Changed old row → IsOwn row → IsOwn old
-own_was old row c o = (sym c.listed ∙ o.0, go c.entry)
-  where
-    go : Becomes old.entry row.entry → is_attribute old.entry ≡ false
-    go (inl e) = ap is_attribute (sym e) ∙ o.1
-    go (inr (inl q)) = ap is_attribute q.1
-    go (inr (inr q)) = ap is_attribute q.2
-
--- a connection begins at its first token, and stands in a text
-abbrev pub JoinsAt : List BlockOf → List Held → Type 0
-JoinsAt bs hs = (n i : ℕ) (a : Statement) → slice_get hs n ≡ Some (Joined i a) → (first_in (slice_get bs n) ≡ i) × ((u : ℕ) × (around (slice_get bs n) ≡ Some u))
-
-joins_kept : (bs cs : List BlockOf) (hs us : List Held) → Keeps bs cs hs us → JoinsAt bs hs → (n i : ℕ) (a : Statement) → slice_get hs n ≡ Some (Joined i a) → (first_in (slice_get cs n) ≡ i) × ((u : ℕ) × (around (slice_get cs n) ≡ Some u))
-joins_kept bs cs hs us keep j n i a is = let k = keep n (Joined i a) is in let q = j n i a is in (k.2 ∙ q.0, (q.1.0, k.0 ∙ q.1.1))
-
--- The places reach to the one number, the tokens of declarations to the other.
-pub record Lays (b : BuildingOf) (hs : List Held) (os : List Frame) (from high : ℕ) : Type 0 where
-  pub size : length b.tables.blocks ≡ length hs
-  pub stack : Stack b.tables.blocks hs b.current os
-  pub reach : length b.tables.places ≤ from
-  pub done : (n : ℕ) (x : Held) (p : Part) → slice_get hs n ≡ Some x → Has p (used_held x) → Fact b hs from n p ⊎ LeftAt b.tables.blocks b.current os n p
-  pub firsts : Firsts b from
-  pub joins : JoinsAt b.tables.blocks hs
-  pub below : (d : ℕ) (row : Declaration) → slice_get b.tables.declarations d ≡ Some row → row.token.0 < high
-  pub rising : (d e : ℕ) (row other : Declaration) → slice_get b.tables.declarations d ≡ Some row → slice_get b.tables.declarations e ≡ Some other → d < e → IsOwn other → row.token.0 < other.token.0
-  pub bare : Unprefixed b.tables
-
-abbrev pub Lay : BuildingOf → List Held → List Frame → ℕ → Type 0
-Lay b hs os from = Lays b hs os from from
-
--- from one state to a later one
-abbrev Moves : BuildingOf → BuildingOf → (from to : ℕ) → Type 0
-Moves b c from to = (n i : ℕ) → Here b from n i → Here c to n i
-
-inner_moves : (b c : BuildingOf) (ts us : List Held) (from to : ℕ) → Keeps b.tables.blocks c.tables.blocks ts us → Moves b c from to → (n i : ℕ) (x : Held) → Inner b ts from n i x → Inner c us to n i x
-inner_moves b c ts us from to keep m n i x f = let k = keep f.number x f.text in record { number = f.number; text = k.1; around = k.0 ∙ f.around; there = m f.number i f.there; begins = k.2 ∙ f.begins }
-
-fact_moves : (b c : BuildingOf) (ts us : List Held) (from to : ℕ) → Keeps b.tables.blocks c.tables.blocks ts us → Moves b c from to → (n : ℕ) (p : Part) → Fact b ts from n p → Fact c us to n p
-fact_moves b c ts us from to keep m n (Use i) f = m n i f
-fact_moves b c ts us from to keep m n (Sub i) f = (f.0, f.1, inner_moves b c ts us from to keep m n i (Whole (BlockText i f.0 f.1)) f.2)
-fact_moves b c ts us from to keep m n (Pre i) f = (f.0, f.1, f.2, f.3, inner_moves b c ts us from to keep m n i (Whole (PrefixedText f.0 f.1 f.2 f.3)) f.4)
-fact_moves b c ts us from to keep m n (Con i v) f = inner_moves b c ts us from to keep m n i (Joined i v) f
+use Rattle.sim_agree.proofs.Latest.{InBlock, declared_latest, parameter_latest, step_block}
+use Rattle.sim_agree.proofs.TokenBlocks.{AreRecent, Fact, Has, Here, Keeps, Lay, Lays, LeftAt, Stack, WrittenBy, fact_moves, has_cases, joins_kept, later_recent, left_kept, none_recent, one_recent, out, own_was, same_first, stack_kept, written_here, written_none}
 
 -- ---- a use
 
@@ -174,6 +65,7 @@ use_laid b ts x u i os from le l = record {
   below = λ d row at. (let lt : row.token.0 < from = l.below d row at in omega arith);
   rising = l.rising;
   bare = l.bare;
+  written = λ k q at. (let w = l.written k q at in (w.0, later w.0 q.class.token.0 w.1, w.2));
 }
   where
     later : (n j : ℕ) → Here b from n j → Here b (i + 1) n j
@@ -201,6 +93,7 @@ later_laid b ts os from high to le up l = record {
   below = λ d row at. (let lt : row.token.0 < high = l.below d row at in omega arith);
   rising = l.rising;
   bare = l.bare;
+  written = λ k q at. (let w = l.written k q at in (w.0, later w.0 q.class.token.0 w.1, w.2));
 }
   where
     later : (n j : ℕ) → Here b from n j → Here b to n j
@@ -226,8 +119,8 @@ row_is b c New s from to new d row at = go (s.rows d row at)
     go (inr q) = inr (new d row q.0)
 
 step_laid : (b c : BuildingOf) (New : ℕ → Declaration → Type 0) (s : Step b c New) (ts : List Held) (os : List Frame) (from to : ℕ) → from ≤ to
-    → ((d : ℕ) (row : Declaration) → New d row → (d ≡ length b.tables.declarations) × (from ≤ row.token.0) × (row.token.0 < to)) → Lay b ts os from → Lays c ts os from to
-step_laid b c New s ts os from to le new l = record {
+    → ((d : ℕ) (row : Declaration) → New d row → (d ≡ length b.tables.declarations) × (from ≤ row.token.0) × (row.token.0 < to)) → WrittenBy b c from → Lay b ts os from → Lays c ts os from to
+step_laid b c New s ts os from to le new by l = record {
   size = s.size ∙ l.size;
   stack = subst (λ z. Stack c.tables.blocks ts z os) (sym s.current) (stack_kept b.tables.blocks c.tables.blocks ts ts keep os b.current l.stack);
   reach = (let q : length b.tables.places ≤ from = l.reach in let e : length c.tables.places ≡ length b.tables.places = ap length s.places in omega arith);
@@ -237,6 +130,7 @@ step_laid b c New s ts os from to le new l = record {
   below = λ d row at. below row (row_of d row at);
   rising = λ d e row other at at' lt o. rising d e row other lt o (row_of d row at) (row_of e other at');
   bare = s.bare l.bare;
+  written = λ i q at. written i q (by i q at);
 }
   where
     keep : Keeps b.tables.blocks c.tables.blocks ts ts
@@ -264,6 +158,10 @@ step_laid b c New s ts os from to le new l = record {
         first_of : Fixed → ℕ
         first_of None = 0
         first_of (Some x) = x.first
+
+    written : (i : ℕ) (q : Qualification) → (slice_get b.tables.qualifications i ≡ Some q) ⊎ ((n : ℕ) × Here c from n q.class.token.0 × InBlock c.tables q.declaration n) → (n : ℕ) × Here c from n q.class.token.0 × InBlock c.tables q.declaration n
+    written i q (inl at) = let w = l.written i q at in (w.0, later w.0 q.class.token.0 w.1, step_block b c New s q.declaration w.0 w.2)
+    written i q (inr w) = w
 
     row_of : (d : ℕ) (row : Declaration) → slice_get c.tables.declarations d ≡ Some row → RowIs b from to d row
     row_of d row at = row_is b c New s from to new d row at
@@ -350,6 +248,7 @@ begun_laid b new first ts x os ps from high own le up around_is first_is without
   below = λ d row is. (let lt : row.token.0 < high = l.below d row is in omega arith);
   rising = l.rising;
   bare = record { blocks = λ k. kept_more extras_in bs new without k ∙ l.bare.blocks k };
+  written = λ i q is. (let w = l.written i q is in (w.0, later w.0 q.class.token.0 w.1, in_block q.declaration w.0 w.2));
 }
   where
     bs : List BlockOf
@@ -385,6 +284,14 @@ begun_laid b new first ts x os ps from high own le up around_is first_is without
 
     later : (n j : ℕ) → Here b from n j → Here c (first + 1) n j
     later n j h = inl (filled_here b from first n j le l.reach h)
+
+    in_block : (d : DeclNo) (n : ℕ) → InBlock b.tables d n → InBlock c.tables d n
+    in_block d n (inr q) = inr q
+    in_block d n (inl a) = go (slice_get bs n) refl a
+      where
+        go : (o : Option BlockOf) → slice_get bs n ≡ o → Among d (numbers_in o) → InBlock c.tables d n
+        go None is a = elim a [ ]
+        go (Some row) is a = inl (subst (λ o. Among d (numbers_in o)) (sym (more_at bs (new ∷ []) n row is)) a)
 
     -- the new block is where its first token stands
     new_here : Here c (first + 1) (length bs) first
@@ -440,6 +347,7 @@ if_laid true b token rule ts os from l = record {
   below = l.below;
   rising = l.rising;
   bare = l.bare;
+  written = l.written;
 }
   where
     done : (n : ℕ) (p : Part) → Fact b ts from n p ⊎ LeftAt b.tables.blocks b.current os n p → Fact (broken_if true b token rule) ts from n p ⊎ LeftAt b.tables.blocks b.current os n p
@@ -479,6 +387,7 @@ closed_row b end n (Some row) ts x os from le cur at found is l = record {
   below = λ d r is. (let lt : r.token.0 < from = l.below d r is in omega arith);
   rising = l.rising;
   bare = record { blocks = λ j. kept_set extras_in bs n row new at refl j ∙ l.bare.blocks j };
+  written = λ i q is. (let w = l.written i q is in (w.0, later w.0 q.class.token.0 w.1, in_block q.declaration w.0 w.2));
 }
   where
     bs : List BlockOf
@@ -498,6 +407,10 @@ closed_row b end n (Some row) ts x os from le cur at found is l = record {
 
     later : (m j : ℕ) → Here b from m j → Here c end m j
     later m j h = inl (filled_here b from end m j le l.reach h)
+
+    in_block : (d : DeclNo) (m : ℕ) → InBlock b.tables d m → InBlock c.tables d m
+    in_block d m (inl a) = inl (subst (Among d) (sym (kept_set numbers_in bs n row new at refl m)) a)
+    in_block d m (inr q) = inr q
 
     first_stays : (k : ℕ) (found : BlockOf) → is_standard_class found.kind ≡ false → (z : Bool) → nat_eq n k ≡ z → slice_get (slice_set b.tables.blocks n (record row { end = end })) k ≡ Some found → Here c end k found.first
     first_stays k found other true e is =
@@ -535,6 +448,7 @@ standard_laid p front spelt b n token r able last at ts x u os from token_lt l =
   below = λ d row is. below row (brought.row_part p front spelt b n token r last at [] d row is);
   rising = λ d e row other is to lt o. rising d e row other lt o (brought.row_part p front spelt b n token r last at [] d row is) (brought.row_part p front spelt b n token r last at [] e other to);
   bare = brought.standard_bare p front spelt b n token r last at [] able l.bare;
+  written = λ i q is. (let w = l.written i q is in (w.0, later w.0 q.class.token.0 w.1, in_block q.declaration w.0 w.2));
 }
   where
     bs : List BlockOf
@@ -555,6 +469,14 @@ standard_laid p front spelt b n token r able last at ts x u os from token_lt l =
 
     later : (m j : ℕ) → Here b from m j → Here (with_standard p b n token (prefixed_by front r)) from m j
     later m j h = h
+
+    in_block : (d : DeclNo) (m : ℕ) → InBlock b.tables d m → InBlock (with_standard p b n token (prefixed_by front r)).tables d m
+    in_block d m (inr q) = inr (q.0, brought.old_row p front spelt b n token r last at [] d.0 q.0 q.1, q.2)
+    in_block d m (inl a) = go (slice_get b.tables.blocks m) refl a
+      where
+        go : (o : Option BlockOf) → slice_get b.tables.blocks m ≡ o → Among d (numbers_in o) → InBlock (with_standard p b n token (prefixed_by front r)).tables d m
+        go None is a = elim a [ ]
+        go (Some row) is a = inl (subst (Among d) (sym (brought.old_same p front spelt b n token r last at [] numbers_in refl m (slice_get_within b.tables.blocks m row is) ∙ ap numbers_in is)) a)
 
     as_many : (c : StandardPrefix) → length (added_rows n (length b.tables.declarations) r.level c) ≡ length (all_held (brought_texts c))
     as_many prefixes.Simset = refl
@@ -641,13 +563,13 @@ pub record Final (b : BuildingOf) (ts : List Held) : Type 0 where
   pub laid : Lay b ts [] to
 
 -- an identifier is declared
-named_laid : (b c : BuildingOf) (x : Identifier) (e : Entry) (n : ℕ) (ts : List Held) (o : Frame) (os : List Frame) (from : ℕ) → Step b c (Declared (length b.tables.declarations) x e n) → from ≤ x.token.0 → Lay b ts (o ∷ os) from → Lays c ts (o ∷ os) from (x.token.0 + 1)
-named_laid b c x e n ts o os from s le f =
+named_laid : (b c : BuildingOf) (x : Identifier) (e : Entry) (n : ℕ) (ts : List Held) (o : Frame) (os : List Frame) (from : ℕ) → Step b c (Declared (length b.tables.declarations) x e n) → from ≤ x.token.0 → WrittenBy b c from → Lay b ts (o ∷ os) from → Lays c ts (o ∷ os) from (x.token.0 + 1)
+named_laid b c x e n ts o os from s le by f =
     step_laid b c (Declared (length b.tables.declarations) x e n) s ts (o ∷ os) from (x.token.0 + 1) (omega arith)
-    (λ d row q. (q.0, (let t : row.token.0 ≡ x.token.0 = ap (λ (z : TokenNo). z.0) q.1.1 in omega arith), (let t : row.token.0 ≡ x.token.0 = ap (λ (z : TokenNo). z.0) q.1.1 in omega arith))) f
+    (λ d row q. (q.0, (let t : row.token.0 ≡ x.token.0 = ap (λ (z : TokenNo). z.0) q.1.1 in omega arith), (let t : row.token.0 ≡ x.token.0 = ap (λ (z : TokenNo). z.0) q.1.1 in omega arith))) by f
 
-quiet_laid : (b c : BuildingOf) (ts : List Held) (os : List Frame) (from : ℕ) → Step b c Nothing → Lay b ts os from → Lay c ts os from
-quiet_laid b c ts os from s f = step_laid b c Nothing s ts os from from (let z : from ≤ from = omega arith in z) (λ d row q. absurd q) f
+quiet_laid : (b c : BuildingOf) (ts : List Held) (os : List Frame) (from : ℕ) → Step b c Nothing → WrittenBy b c from → Lay b ts os from → Lay c ts os from
+quiet_laid b c ts os from s by f = step_laid b c Nothing s ts os from from (let z : from ≤ from = omega arith in z) (λ d row q. absurd q) by f
 
 -- the block that begins
 opened_kind : (b : BuildingOf) (k : BlockKind) (text first n : ℕ) (row : BlockOf) → (opened b k text first).current ≡ Some n → slice_get (opened b k text first).tables.blocks n ≡ Some row → row.kind ≡ k
@@ -666,10 +588,26 @@ opened_kind b k text first n row = go (nat_lt most_levels (level_in k (block_aro
     go true cur at = at_end cur at
     go false cur at = at_end cur at
 
+-- classes that are written stay where a parameter is declared, and where a heading ends
+parameter_refs : (b : BuildingOf) (x : Identifier) (n : ℕ) → b.current ≡ Some n → (parameter_of b x).tables.qualifications ≡ b.tables.qualifications
+parameter_refs b x n cur = go (declared b x (entry.Unspecified None)) (declared b x (entry.Unspecified None)).current ∙ declared_refs b x (entry.Unspecified None) n cur
+  where
+    go : (c : BuildingOf) (o : Option ℕ) → (counted_in c o).tables.qualifications ≡ c.tables.qualifications
+    go c None = refl
+    go c (Some m) = row (slice_get c.tables.blocks m)
+      where
+        row : (o : Option BlockOf) → (counted c m o).tables.qualifications ≡ c.tables.qualifications
+        row None = refl
+        row (Some found) = refl
+
+headed_refs : (b : BuildingOf) (token : TokenNo) (o : Option (Option WrittenMode)) → (headed_of b token o).tables.qualifications ≡ b.tables.qualifications
+headed_refs b token None = refl
+headed_refs b token (Some written) = refl
+
 prefs_laid : (b : BuildingOf) (prefs : List Mark) (ts : List Held) (os : List Frame) (from : ℕ) → Prefs prefs → (n : ℕ) → b.current ≡ Some n → ((row : BlockOf) → slice_get b.tables.blocks n ≡ Some row → is_prefixable row.kind ≡ true) → Lay b ts os from → Lay (run marked b prefs) ts os from
 unfolding run marked
 prefs_laid b [] ts os from unprefixed n cur class l = l
-prefs_laid b ms ts os from (prefixed y p) n cur class l = quiet_laid b _ ts os from (prefix_step b y n cur p class) l
+prefs_laid b ms ts os from (prefixed y p) n cur class l = quiet_laid b (changed b (prefixed_by y) b.current) ts os from (prefix_step b y n cur p class) (written_none b (changed b (prefixed_by y) b.current) from (prefix_quiet b y b.current).0) l
 
 -- a block with a prefix is a part of the text around, or the program
 stands_stack : (bs : List BlockOf) (hs : List Held) (current : Option ℕ) (i : ℕ) (ps os : List Frame) → Stands i ps os → Stack bs hs current ps → Stack bs hs current os
@@ -687,65 +625,88 @@ standard_run p c top token y ts x u os from spelt lt class l =
     subst (λ d. Lay d (ts ++ all_held (brought_texts p)) (frame x u ∷ os) from) (sym (brought_is p c top token y))
     (standard_laid p y spelt c top.number token top.row (class top.row top.at) top.last top.at ts x u os from lt l)
 
-pub run_laid : {os : List Frame} {ms : List Mark} {l : List Spot} {xs : List Held} (b : BuildingOf) (ts : List Held) (from : ℕ) → Laid os ms l xs → Ascends from l → Lay b ts os from → Final (run marked b ms) (ts ++ xs)
+pub run_laid : {r : List ℕ} {os : List Frame} {ms : List Mark} {l : List Spot} {xs : List Held} (b : BuildingOf) (ts : List Held) (from : ℕ) → Laid r os ms l xs → AreRecent b r from → Ascends from l → Lay b ts os from → Final (run marked b ms) (ts ++ xs)
 unfolding run marked
-run_laid {os = os} b ts from (nothing e) a f = record { to = from; laid = subst (λ z. Lay b z [] from) (sym (append-nil ts)) (subst (λ z. Lay b ts z from) e f) }
-run_laid b ts from (uses {os = os} x u i g) a f = run_laid b ts (i + 1) g a.1 (use_laid b ts x u i os from a.0 f)
-run_laid {os = os} b ts from (passes i g) a f = run_laid b ts (i + 1) g a.1 (later_laid b ts os from from (i + 1) (let le : from ≤ i = a.0 in omega arith) (let le : from ≤ i = a.0 in omega arith) f)
-run_laid {os = os} b ts from (leaves i g) a f = run_laid b ts i g a.1 (later_laid b ts os from from i a.0 a.0 f)
-run_laid b ts from (declares {o = o} {os = os} {ms = ms} {hs = xs} quals x e may q g) a f =
+run_laid {os = os} b ts from (nothing e) w a f = record { to = from; laid = subst (λ z. Lay b z [] from) (sym (append-nil ts)) (subst (λ z. Lay b ts z from) e f) }
+run_laid b ts from (uses {os = os} x u i g) w a f = run_laid b ts (i + 1) g (later_recent b b _ from (i + 1) refl (let le : from ≤ i = a.0 in let z : from ≤ i + 1 = omega arith in z) w) a.1 (use_laid b ts x u i os from a.0 f)
+run_laid {os = os} b ts from (passes i g) w a f = run_laid b ts (i + 1) g (later_recent b b _ from (i + 1) refl (let le : from ≤ i = a.0 in let z : from ≤ i + 1 = omega arith in z) w) a.1 (later_laid b ts os from from (i + 1) (let le : from ≤ i = a.0 in omega arith) (let le : from ≤ i = a.0 in omega arith) f)
+run_laid {os = os} b ts from (classes i g) w a f = run_laid b ts (i + 1) g (one_recent b _ from i f.reach a.0 w) a.1 (later_laid b ts os from from (i + 1) (let le : from ≤ i = a.0 in omega arith) (let le : from ≤ i = a.0 in omega arith) f)
+run_laid {os = os} b ts from (leaves i g) w a f = run_laid b ts i g (later_recent b b _ from i refl a.0 w) a.1 (later_laid b ts os from from i a.0 a.0 f)
+run_laid b ts from (declares {r = r} {o = o} {os = os} {ms = ms} {hs = xs} quals x e may q now g) w a f =
     let n : ℕ = f.stack.0 in
     let c : BuildingOf = run marked (declared b x e) quals in
     let s : Step b c (Declared (length b.tables.declarations) x e n) = quals_step b (declared b x e) (Declared (length b.tables.declarations) x e n) (OfReferences e) quals q (declared_step b x e n (declarable_unmatched e may) f.stack.1) in
+    let row = row_of_text b ts (o ∷ os) from f n f.stack.2.0 f.stack.2.1 in
+    let by = written_here b (declared b x e) c r (OfReferences e) quals n from q now w (declared_latest b x e n row.0 f.stack.1 row.1) (declared_refs b x e n f.stack.1) refl s.places (s.current ∙ f.stack.1) in
     subst (λ z. Final z (ts ++ xs)) (sym (run_both (declared b x e) quals ms))
-    (run_laid c ts (x.token.0 + 1) g a.1
+    (run_laid c ts (x.token.0 + 1) g (later_recent b c r from (x.token.0 + 1) s.places (let le : from ≤ x.token.0 = a.0 in let z : from ≤ x.token.0 + 1 = omega arith in z) w) a.1
     (later_laid c ts (o ∷ os) from (x.token.0 + 1) (x.token.0 + 1) (let le : from ≤ x.token.0 = a.0 in omega arith) (let z : x.token.0 + 1 ≤ x.token.0 + 1 = omega arith in z)
-    (named_laid b c x e n ts o os from s a.0 f)))
-run_laid b ts from (parameter {o = o} {os = os} x g) a f =
+    (named_laid b c x e n ts o os from s a.0 by f)))
+run_laid b ts from (parameter {o = o} {os = os} x g) w a f =
     let n : ℕ = f.stack.0 in
-    run_laid (parameter_of b x) ts (x.token.0 + 1) g a.1
+    let s = parameter_step b x n f.stack.1 in
+    run_laid (parameter_of b x) ts (x.token.0 + 1) g (later_recent b (parameter_of b x) _ from (x.token.0 + 1) s.places (let le : from ≤ x.token.0 = a.0 in let z : from ≤ x.token.0 + 1 = omega arith in z) w) a.1
     (later_laid (parameter_of b x) ts (o ∷ os) from (x.token.0 + 1) (x.token.0 + 1) (let le : from ≤ x.token.0 = a.0 in omega arith) (let z : x.token.0 + 1 ≤ x.token.0 + 1 = omega arith in z)
-    (named_laid b (parameter_of b x) x (entry.Unspecified None) n ts o os from (parameter_step b x n f.stack.1) a.0 f))
-run_laid {os = os} b ts from (moded x m g) a f = run_laid _ ts from g a (quiet_laid b _ ts os from (moded_step b x.token m (found_in b.tables b.current x.name)) f)
-run_laid {os = os} b ts from (specified {ms = ms} {hs = xs} quals x k ty p q g) a f =
+    (named_laid b (parameter_of b x) x (entry.Unspecified None) n ts o os from s a.0 (written_none b (parameter_of b x) from (parameter_refs b x n f.stack.1)) f))
+run_laid {os = os} b ts from (moded x m g) w a f = (
+    let c : BuildingOf = moded_of b x.token m (found_in b.tables b.current x.name) in
+    let s = moded_step b x.token m (found_in b.tables b.current x.name) in
+    run_laid c ts from g (later_recent b c _ from from s.places (let z : from ≤ from = omega arith in z) w) a (quiet_laid b c ts os from s (written_none b c from (moded_quiet b x.token m (found_in b.tables b.current x.name)).0) f))
+run_laid b ts from (specified {r = r} {o = o} {os = os} {ms = ms} {hs = xs} quals x k ty p q now g) w a f =
     let c : BuildingOf = specified_of (met b (found_in b.tables b.current x.name)) x.token k ty (found_in b.tables b.current x.name) in
+    let n : ℕ = f.stack.0 in
+    let s = quals_step b c Nothing (AreReferences ty) quals q (specified_met b x.token k ty (found_in b.tables b.current x.name) p) in
+    let same = (specified_quiet (met b (found_in b.tables b.current x.name)) x.token k ty (found_in b.tables b.current x.name)).0 in
+    let by = written_here b c (run marked c quals) r (AreReferences ty) quals n from q now w (parameter_latest b x x.token k ty n p f.stack.1) same refl s.places (s.current ∙ f.stack.1) in
     subst (λ z. Final z (ts ++ xs)) (sym (run_both c quals ms))
-    (run_laid (run marked c quals) ts from g a (quiet_laid b (run marked c quals) ts os from (quals_step b c Nothing (AreReferences ty) quals q (specified_met b x.token k ty (found_in b.tables b.current x.name) p)) f))
-run_laid {os = os} b ts from (headed x g) a f = run_laid _ ts from g a (quiet_laid b _ ts os from (headed_step b x.token (unspecified_at b.tables (found_in b.tables b.current x.name))) f)
-run_laid {os = os} b ts from (inner_mark token g) a f = run_laid _ ts from g a (quiet_laid b _ ts os from (inner_step b token b.current refl) f)
-run_laid {os = os} b ts from (guarded hides keeps y g) a f = run_laid _ ts from g a (quiet_laid b _ ts os from (guards_step b hides keeps y b.current refl) f)
-run_laid {os = os} b ts from (breaks_rule token rule g) a f = run_laid _ ts from g a (quiet_laid b _ ts os from (rule_step b token rule) f)
-run_laid b ts from (program {ms = ms} {hs = xs} text i ds ss g) a f =
+    (run_laid (run marked c quals) ts from g (later_recent b (run marked c quals) r from from s.places (let z : from ≤ from = omega arith in z) w) a (quiet_laid b (run marked c quals) ts (o ∷ os) from s by f))
+run_laid {os = os} b ts from (headed x g) w a f = (
+    let c : BuildingOf = headed_of b x.token (unspecified_at b.tables (found_in b.tables b.current x.name)) in
+    let s = headed_step b x.token (unspecified_at b.tables (found_in b.tables b.current x.name)) in
+    run_laid c ts from g (later_recent b c _ from from s.places (let z : from ≤ from = omega arith in z) w) a (quiet_laid b c ts os from s (written_none b c from (headed_refs b x.token (unspecified_at b.tables (found_in b.tables b.current x.name)))) f))
+run_laid {os = os} b ts from (inner_mark token g) w a f = (
+    let c : BuildingOf = inner_of b token b.current in
+    let s = inner_step b token b.current refl in
+    run_laid c ts from g (later_recent b c _ from from s.places (let z : from ≤ from = omega arith in z) w) a (quiet_laid b c ts os from s (written_none b c from (inner_quiet b token b.current).0) f))
+run_laid {os = os} b ts from (guarded hides keeps y g) w a f = (
+    let c : BuildingOf = guards b hides keeps y b.current in
+    let s = guards_step b hides keeps y b.current refl in
+    run_laid c ts from g (later_recent b c _ from from s.places (let z : from ≤ from = omega arith in z) w) a (quiet_laid b c ts os from s (written_none b c from (guards_quiet b hides keeps y b.current).0) f))
+run_laid {os = os} b ts from (breaks_rule token rule g) w a f = (
+    let c : BuildingOf = broken b token rule in
+    let s = rule_step b token rule in
+    run_laid c ts from g (later_recent b c _ from from s.places (let z : from ≤ from = omega arith in z) w) a (quiet_laid b c ts os from s (written_none b c from refl) f))
+run_laid b ts from (program {ms = ms} {hs = xs} text i ds ss g) w a f =
     let x : Held = Whole (BlockText i ds ss) in
-    let q = run_laid (opened b kind.Program text i) (ts ++ x ∷ []) (i + 1) g a.1 (opened_laid b kind.Program text i ts x [] [] from from tt a.0 (let le : from ≤ i = a.0 in omega arith) f f.stack (pop_none b x i [])) in
+    let q = run_laid (opened b kind.Program text i) (ts ++ x ∷ []) (i + 1) g (none_recent (opened b kind.Program text i) (i + 1)) a.1 (opened_laid b kind.Program text i ts x [] [] from from tt a.0 (let le : from ≤ i = a.0 in omega arith) f f.stack (pop_none b x i [])) in
     record { to = q.to; laid = subst (λ z. Lay (run marked (opened b kind.Program text i) ms) z [] q.to) (append_assoc ts (x ∷ []) xs) q.laid }
-run_laid b ts from (block {os = os} {ms = ms} {hs = xs} text i ds ss y u g) a f =
+run_laid b ts from (block {os = os} {ms = ms} {hs = xs} text i ds ss y u g) w a f =
     let x : Held = Whole (BlockText i ds ss) in
-    let q = run_laid (opened b kind.SubBlock text i) (ts ++ x ∷ []) (i + 1) g a.1 (opened_laid b kind.SubBlock text i ts x (frame y (Sub i ∷ u) ∷ os) (frame y u ∷ os) from from tt a.0 (let le : from ≤ i = a.0 in omega arith) f f.stack (pop_part b x i (Sub i) (refl, (ds, ss, refl)) y u os)) in
+    let q = run_laid (opened b kind.SubBlock text i) (ts ++ x ∷ []) (i + 1) g (none_recent (opened b kind.SubBlock text i) (i + 1)) a.1 (opened_laid b kind.SubBlock text i ts x (frame y (Sub i ∷ u) ∷ os) (frame y u ∷ os) from from tt a.0 (let le : from ≤ i = a.0 in omega arith) f f.stack (pop_part b x i (Sub i) (refl, (ds, ss, refl)) y u os)) in
     record { to = q.to; laid = subst (λ z. Lay (run marked (opened b kind.SubBlock text i) ms) z [] q.to) (append_assoc ts (x ∷ []) xs) q.laid }
-run_laid b ts from (prefixed_block {os = os} {ms = ms} {hs = xs} text i class es ds ss {ps = ps} w stands g) a f =
+run_laid b ts from (prefixed_block {os = os} {ms = ms} {hs = xs} text i class es ds ss {ps = ps} plain stands g) w a f =
     let x : Held = Whole (PrefixedText class es ds ss) in
     let o : BuildingOf = opened b kind.Prefixed text i in
     let c : BuildingOf = changed o (prefixed_by class) o.current in
     let l = opened_laid b kind.Prefixed text i ts x ps os from from tt a.0 (let le : from ≤ i = a.0 in omega arith) f (stands_stack b.tables.blocks ts b.current i ps os stands f.stack) (stands_pops b class es ds ss i ps os stands) in
-    let q = run_laid c (ts ++ x ∷ []) (i + 1) g a.1
-    (quiet_laid o c (ts ++ x ∷ []) (frame (PrefixedText class es ds ss) (text_used (PrefixedText class es ds ss)) ∷ os) (i + 1) (prefix_step o class l.stack.0 l.stack.1 w (λ row at. ap is_prefixable (opened_kind b kind.Prefixed text i l.stack.0 row l.stack.1 at))) l) in
+    let q = run_laid c (ts ++ x ∷ []) (i + 1) g (none_recent c (i + 1)) a.1
+    (quiet_laid o c (ts ++ x ∷ []) (frame (PrefixedText class es ds ss) (text_used (PrefixedText class es ds ss)) ∷ os) (i + 1) (prefix_step o class l.stack.0 l.stack.1 plain (λ row at. ap is_prefixable (opened_kind b kind.Prefixed text i l.stack.0 row l.stack.1 at))) (written_none o c (i + 1) (prefix_quiet o class o.current).0) l) in
     record { to = q.to; laid = subst (λ z. Lay (run marked c ms) z [] q.to) (append_assoc ts (x ∷ []) xs) q.laid }
-run_laid b ts from (standard_block {os = os} {ms = ms} {hs = xs} p text i class es ds ss {ps = ps} e stands g) a f =
+run_laid b ts from (standard_block {os = os} {ms = ms} {hs = xs} p text i class es ds ss {ps = ps} e stands g) w a f =
     let x : Held = Whole (PrefixedText class es ds ss) in
     let o : BuildingOf = opened b kind.Prefixed text i in
     let top = opened_top b kind.Prefixed text i in
     let k : BuildingOf = run marked o (whole_prefix p i class) in
     let l = opened_laid b kind.Prefixed text i ts x ps os from from tt a.0 (let le : from ≤ i = a.0 in omega arith) f (stands_stack b.tables.blocks ts b.current i ps os stands f.stack) (stands_pops b class es ds ss i ps os stands) in
-    let q = run_laid k ((ts ++ x ∷ []) ++ all_held (brought_texts p)) (i + 1) g a.1
+    let q = run_laid k ((ts ++ x ∷ []) ++ all_held (brought_texts p)) (i + 1) g (none_recent k (i + 1)) a.1
     (standard_run p o top i class (ts ++ x ∷ []) (PrefixedText class es ds ss) (text_used (PrefixedText class es ds ss)) os (i + 1) e (let z : i < i + 1 = omega arith in z) (λ row at. ap is_prefixable (opened_kind b kind.Prefixed text i top.number row top.current at)) l) in
     subst (λ z. Final z (ts ++ (x ∷ (all_held (brought_texts p) ++ xs)))) (sym (run_both o (whole_prefix p i class) ms))
     (record { to = q.to; laid = subst (λ z. Lay (run marked k ms) z [] q.to) (append_assoc (ts ++ x ∷ []) (all_held (brought_texts p)) xs ∙ append_assoc ts (x ∷ []) (all_held (brought_texts p) ++ xs)) q.laid })
-run_laid b ts from (connects {os = os} {ms = ms} {hs = xs} text i v y u g) a f =
+run_laid b ts from (connects {os = os} {ms = ms} {hs = xs} text i v y u g) w a f =
     let x : Held = Joined i v in
-    let q = run_laid (opened b kind.Connection text i) (ts ++ x ∷ []) (i + 1) g a.1 (opened_laid b kind.Connection text i ts x (frame y (Con i v ∷ u) ∷ os) (frame y u ∷ os) from from (refl, (f.stack.0, f.stack.1)) a.0 (let le : from ≤ i = a.0 in omega arith) f f.stack (pop_part b x i (Con i v) (refl, refl) y u os)) in
+    let q = run_laid (opened b kind.Connection text i) (ts ++ x ∷ []) (i + 1) g (none_recent (opened b kind.Connection text i) (i + 1)) a.1 (opened_laid b kind.Connection text i ts x (frame y (Con i v ∷ u) ∷ os) (frame y u ∷ os) from from (refl, (f.stack.0, f.stack.1)) a.0 (let le : from ≤ i = a.0 in omega arith) f f.stack (pop_part b x i (Con i v) (refl, refl) y u os)) in
     record { to = q.to; laid = subst (λ z. Lay (run marked (opened b kind.Connection text i) ms) z [] q.to) (append_assoc ts (x ∷ []) xs) q.laid }
-run_laid b ts from (procedure {o = o} {os = os} {ms = ms} {hs = xs} text quals result h body q g) a f =
+run_laid b ts from (procedure {r = r} {o = o} {os = os} {ms = ms} {hs = xs} text quals result h body q now g) w a f =
     let x : Held = Whole (ProcedureText result h body) in
     let n : ℕ = f.stack.0 in
     let i : ℕ = h.name.token.0 in
@@ -753,25 +714,28 @@ run_laid b ts from (procedure {o = o} {os = os} {ms = ms} {hs = xs} text quals r
     let c0 : BuildingOf = declared b h.name (entry.Procedure (result_named result) (length b.tables.blocks)) in
     let c : BuildingOf = run marked c0 quals in
     let s : Step b c (Declared (length b.tables.declarations) h.name e n) = quals_step b c0 (Declared (length b.tables.declarations) h.name e n) (AreReferences (result_named result)) quals q (declared_step b h.name e n (procedure_unmatched (result_named result) (length b.tables.blocks)) f.stack.1) in
-    let k = named_laid b c h.name e n ts o os from s a.0 f in
-    let p = run_laid (opened c kind.Procedure text i) (ts ++ x ∷ []) (i + 1) g a.1
+    let row = row_of_text b ts (o ∷ os) from f n f.stack.2.0 f.stack.2.1 in
+    let by = written_here b c0 c r (AreReferences (result_named result)) quals n from q now w (declared_latest b h.name e n row.0 f.stack.1 row.1) (declared_refs b h.name e n f.stack.1) refl s.places (s.current ∙ f.stack.1) in
+    let k = named_laid b c h.name e n ts o os from s a.0 by f in
+    let p = run_laid (opened c kind.Procedure text i) (ts ++ x ∷ []) (i + 1) g (none_recent (opened c kind.Procedure text i) (i + 1)) a.1
     (opened_laid c kind.Procedure text i ts x (o ∷ os) (o ∷ os) from (i + 1) tt a.0 (let z : i + 1 ≤ i + 1 = omega arith in z) k k.stack (pop_none c x i (o ∷ os))) in
     subst (λ z. Final z (ts ++ (x ∷ xs))) (sym (run_both c0 quals (Opens kind.Procedure text i ∷ ms)))
     (record { to = p.to; laid = subst (λ z. Lay (run marked (opened c kind.Procedure text i) ms) z [] p.to) (append_assoc ts (x ∷ []) xs) p.laid })
-run_laid b ts from (declares_class {o = o} {os = os} {ms = ms} {hs = xs} text prefs prefix h ds ss w g) a f =
+run_laid b ts from (declares_class {o = o} {os = os} {ms = ms} {hs = xs} text prefs prefix h ds ss plain g) w a f =
     let x : Held = Whole (ClassText prefix h ds ss) in
     let n : ℕ = f.stack.0 in
     let i : ℕ = h.name.token.0 in
     let e : Entry = entry.Class (length b.tables.blocks) in
     let c0 : BuildingOf = changed (declared b h.name (entry.Class (length b.tables.blocks))) holding_class b.current in
     let c : BuildingOf = opened c0 kind.Class text i in
-    let k = named_laid b c0 h.name e n ts o os from (class_step b h.name (length b.tables.blocks) n f.stack.1) a.0 f in
+    let same = (holding_same (declared b h.name e) b.current).1 ∙ declared_refs b h.name e n f.stack.1 in
+    let k = named_laid b c0 h.name e n ts o os from (class_step b h.name (length b.tables.blocks) n f.stack.1) a.0 (written_none b c0 from same) f in
     let l = opened_laid c0 kind.Class text i ts x (o ∷ os) (o ∷ os) from (i + 1) tt a.0 (let z : i + 1 ≤ i + 1 = omega arith in z) k k.stack (pop_none c0 x i (o ∷ os)) in
-    let p = run_laid (run marked c prefs) (ts ++ x ∷ []) (i + 1) g a.1
-    (prefs_laid c prefs (ts ++ x ∷ []) (frame (ClassText prefix h ds ss) (text_used (ClassText prefix h ds ss)) ∷ o ∷ os) (i + 1) w l.stack.0 l.stack.1 (λ row at. ap is_prefixable (opened_kind c0 kind.Class text i l.stack.0 row l.stack.1 at)) l) in
+    let p = run_laid (run marked c prefs) (ts ++ x ∷ []) (i + 1) g (none_recent (run marked c prefs) (i + 1)) a.1
+    (prefs_laid c prefs (ts ++ x ∷ []) (frame (ClassText prefix h ds ss) (text_used (ClassText prefix h ds ss)) ∷ o ∷ os) (i + 1) plain l.stack.0 l.stack.1 (λ row at. ap is_prefixable (opened_kind c0 kind.Class text i l.stack.0 row l.stack.1 at)) l) in
     subst (λ z. Final z (ts ++ (x ∷ xs))) (sym (run_both c prefs ms))
     (record { to = p.to; laid = subst (λ z. Lay (run marked (run marked c prefs) ms) z [] p.to) (append_assoc ts (x ∷ []) xs) p.laid })
-run_laid b ts from (standard_class {o = o} {os = os} {ms = ms} {hs = xs} p text y h ds ss e g) a f =
+run_laid b ts from (standard_class {o = o} {os = os} {ms = ms} {hs = xs} p text y h ds ss e g) w a f =
     let x : Held = Whole (ClassText (Some y) h ds ss) in
     let n : ℕ = f.stack.0 in
     let i : ℕ = h.name.token.0 in
@@ -779,11 +743,13 @@ run_laid b ts from (standard_class {o = o} {os = os} {ms = ms} {hs = xs} p text 
     let c : BuildingOf = opened c0 kind.Class text i in
     let top = opened_top c0 kind.Class text i in
     let j : BuildingOf = run marked c (whole_prefix p i y) in
-    let k = named_laid b c0 h.name (entry.Class (length b.tables.blocks)) n ts o os from (class_step b h.name (length b.tables.blocks) n f.stack.1) a.0 f in
+    let e' : Entry = entry.Class (length b.tables.blocks) in
+    let same = (holding_same (declared b h.name e') b.current).1 ∙ declared_refs b h.name e' n f.stack.1 in
+    let k = named_laid b c0 h.name e' n ts o os from (class_step b h.name (length b.tables.blocks) n f.stack.1) a.0 (written_none b c0 from same) f in
     let l = opened_laid c0 kind.Class text i ts x (o ∷ os) (o ∷ os) from (i + 1) tt a.0 (let z : i + 1 ≤ i + 1 = omega arith in z) k k.stack (pop_none c0 x i (o ∷ os)) in
-    let q = run_laid j ((ts ++ x ∷ []) ++ all_held (brought_texts p)) (i + 1) g a.1
+    let q = run_laid j ((ts ++ x ∷ []) ++ all_held (brought_texts p)) (i + 1) g (none_recent j (i + 1)) a.1
     (standard_run p c top i y (ts ++ x ∷ []) (ClassText (Some y) h ds ss) (text_used (ClassText (Some y) h ds ss)) (o ∷ os) (i + 1) e (let z : i < i + 1 = omega arith in z) (λ row at. ap is_prefixable (opened_kind c0 kind.Class text i top.number row top.current at)) l) in
     subst (λ z. Final z (ts ++ (x ∷ (all_held (brought_texts p) ++ xs)))) (sym (run_both c (whole_prefix p i y) ms))
     (record { to = q.to; laid = subst (λ z. Lay (run marked j ms) z [] q.to) (append_assoc (ts ++ x ∷ []) (all_held (brought_texts p)) xs ∙ append_assoc ts (x ∷ []) (all_held (brought_texts p) ++ xs)) q.laid })
-run_laid b ts from (closes {os = os} x end g) a f =
-    let row = row_of_text b ts (frame x [] ∷ os) from f f.stack.0 f.stack.2.0 f.stack.2.1 in run_laid (closed b end b.current) ts end g a.1 (closed_laid b end ts x os from a.0 f row.0 row.1)
+run_laid b ts from (closes {os = os} x end g) w a f =
+    let row = row_of_text b ts (frame x [] ∷ os) from f f.stack.0 f.stack.2.0 f.stack.2.1 in run_laid (closed b end b.current) ts end g (none_recent (closed b end b.current) end) a.1 (closed_laid b end ts x os from a.0 f row.0 row.1)

@@ -33,9 +33,9 @@ use Rattle.sim_meaning.specs.Entries.{numbers_in}
 use Rattle.sim_meaning.specs.Levels.{class_text, has_levels, is_class, qualification}
 use Rattle.sim_meaning.specs.Texts.{BlockText, ClassText, ConnectionText, PrefixedText, ProcedureText, StandardText, Text, program_texts, text}
 use Rattle.sim_sound.specs.Held.{Among, Refers, held_by, reference_to}
-use Rattle.sim_sound.specs.Typed.{ProcessClassThere, SetClassThere, SetClasses, SetProcedureThere, SetType, SimulationClasses, SimulationProcedureThere, owner_place}
+use Rattle.sim_sound.specs.Expressions.{ProcessClassThere}
+use Rattle.sim_sound.specs.Typed.{SetClassThere, SetClasses, SetProcedureThere, SetType, SimulationClasses, SimulationProcedureThere, owner_place}
 use Rattle.sim_agree.specs.Facts.{IsAttribute}
-use Rattle.sim_agree.specs.Plain.{Plain}
 use Rattle.sim_agree.specs.TablesAgree.{ProcessBrought, is_attribute}
 use Rattle.sim_agree.specs.TablesOf.{TablesOf}
 use Rattle.sim_agree.proofs.ArrayNames.{own_no_attribute}
@@ -121,26 +121,26 @@ front_levels p (ProcedureText result h a) i = absurd i
 front_levels p ConnectionText i = absurd i
 front_levels p (StandardText which) i = absurd i
 
-module _ (s : Source) (of : TablesOf s) (plain : Plain s.program) (order : InOrder s.program) where
+module _ (s : Source) (of : TablesOf s) (order : InOrder s.program) where
   abbrev GroupNow : StandardPrefix → (block : ℕ) (first : DeclNo) → Type 0
-  GroupNow p n first = StandardGroup p (Bs s of plain order) (Ts s of plain order) n first
+  GroupNow p n first = StandardGroup p (Bs s of order) (Ts s of order) n first
 
   -- the group that a text belongs to
-  group_of : (k : ℕ) (which : StandardClass) → text s k ≡ Some (StandardText which) → InGroup (Bs s of plain order) (Ts s of plain order) k which
+  group_of : (k : ℕ) (which : StandardClass) → text s k ≡ Some (StandardText which) → InGroup (Bs s of order) (Ts s of order) k which
   unfolding text
   group_of k which at =
-      let q = (t.program_agrees s.program plain).fine.standards k which at in
-      record { prefix = q.prefix; block = q.block; first = q.first; group = t.group_now s of plain order q.prefix q.block q.first q.group; is = q.is; place = q.place }
+      let q = (t.program_agrees s.program).fine.standards k which at in
+      record { prefix = q.prefix; block = q.block; first = q.first; group = t.group_now s of order q.prefix q.block q.first q.group; is = q.is; place = q.place }
 
-  module _ (p : StandardPrefix) (n : ℕ) (first : DeclNo) (g : StandardGroup p (Bs s of plain order) (Ts s of plain order) n first) where
+  module _ (p : StandardPrefix) (n : ℕ) (first : DeclNo) (g : StandardGroup p (Bs s of order) (Ts s of order) n first) where
     -- the declaration of a class
     class_entry_of : (which : StandardClass) → IsBrought p which → entry_of s.tables (record { 0 = first.0 + place_of which }) ≡ Some (entry.Class (n + 1 + place_of which))
     class_entry_of which is =
-        let o = t.program_owned s.program plain of.unbroken (n + 1 + place_of which) (StandardText which) (g.texts which is) in
-        let same : o.0 ≡ record { 0 = first.0 + place_of which } = some_same o.0 (record { 0 = first.0 + place_of which }) (sym o.2 ∙ sym (t.same_owner s of plain order (n + 1 + place_of which)) ∙ g.owners which is) in
-        let new = (t.completed_tables s of plain order).rows.stays o.0.0 o.1 o.3 in
+        let o = t.program_owned s.program of.unbroken (n + 1 + place_of which) (StandardText which) (g.texts which is) in
+        let same : o.0 ≡ record { 0 = first.0 + place_of which } = some_same o.0 (record { 0 = first.0 + place_of which }) (sym o.2 ∙ sym (t.same_owner s of order (n + 1 + place_of which)) ∙ g.owners which is) in
+        let new = (t.completed_tables s of order).rows.stays o.0.0 o.1 o.3 in
         subst (λ z. entry_of s.tables z ≡ Some (entry.Class (n + 1 + place_of which))) same
-        (t.row_entry s of plain order o.0 new.0 new.1 ∙ ap Some (class_new o.1.entry new.0.entry new.2.entry (n + 1 + place_of which) o.4))
+        (t.row_entry s of order o.0 new.0 new.1 ∙ ap Some (class_new o.1.entry new.0.entry new.2.entry (n + 1 + place_of which) o.4))
 
     pub class_block_of : (which : StandardClass) → IsBrought p which → class_block s.tables (record { 0 = first.0 + place_of which }) ≡ Some (n + 1 + place_of which)
     unfolding class_block entry_of
@@ -192,7 +192,7 @@ module _ (s : Source) (of : TablesOf s) (plain : Plain s.program) (order : InOrd
     unfolding text
     host_there = let q = front_levels p g.host.0 g.host.2 in (ap has_levels g.host.1 ∙ q.0, ap is_connection g.host.1 ∙ q.1)
 
-    around_of : (which : StandardClass) → IsBrought p which → encloser s.tables (n + 1 + place_of which) ≡ Some n
+    pub around_of : (which : StandardClass) → IsBrought p which → encloser s.tables (n + 1 + place_of which) ≡ Some n
     unfolding encloser
     around_of which is = g.around which is
 
@@ -217,7 +217,7 @@ module _ (s : Source) (of : TablesOf s) (plain : Plain s.program) (order : InOrd
   pub class_there : (k : ℕ) (which : StandardClass) → text s k ≡ Some (StandardText which) → SetClassThere s k which
   class_there k which at = go which (group_of k which at)
     where
-      go : (w : StandardClass) → InGroup (Bs s of plain order) (Ts s of plain order) k w → SetClassThere s k w
+      go : (w : StandardClass) → InGroup (Bs s of order) (Ts s of order) k w → SetClassThere s k w
       go standard.Linkage q = record { linkage = q.block + 1; classes = set_classes q.prefix q.block q.first q.group; place = 0; placed = refl; is = q.place }
       go standard.Link q = record { linkage = q.block + 1; classes = set_classes q.prefix q.block q.first q.group; place = 1; placed = refl; is = q.place }
       go standard.Head q = record { linkage = q.block + 1; classes = set_classes q.prefix q.block q.first q.group; place = 2; placed = refl; is = q.place }
@@ -232,12 +232,12 @@ module _ (s : Source) (of : TablesOf s) (plain : Plain s.program) (order : InOrd
   parametric_none f n given result same p = subst Parametric same p
 
   abbrev pub AttributeRow : Declaration → Type 0
-  AttributeRow row = OfAttribute (Bs s of plain order) (Ts s of plain order) row ⊎ OfSimulation (Bs s of plain order) (Ts s of plain order) row
+  AttributeRow row = OfAttribute (Bs s of order) (Ts s of order) row ⊎ OfSimulation (Bs s of order) (Ts s of order) row
 
   pub attribute_is : (d : ℕ) (row : Declaration) → slice_get s.tables.declarations d ≡ Some row → (n : Standard) (given result : Option SimType) → row.entry ≡ entry.Attribute n given result → AttributeRow row
-  attribute_is d row at n given result is = let w = t.text_of_row s of plain order d row at in go w.0 w.2
+  attribute_is d row at n given result is = let w = t.text_of_row s of order d row at in go w.0 w.2
     where
-      go : (x : Text) → RowIn (Bs s of plain order) (Ts s of plain order) x d row → AttributeRow row
+      go : (x : Text) → RowIn (Bs s of order) (Ts s of order) x d row → AttributeRow row
       go x (own_row y p) = absurd (no_attribute p.entry row.entry n given result is p.alike (own_no_attribute p.entry n given result p.fits))
       go x (procedure_row y p) = absurd (no_attribute (entry.Procedure (result_named p.result) p.number) row.entry n given result is p.entry (λ a. a))
       go x (class_row y p) = absurd (let z : entry.Class p.number ≡ entry.Attribute n given result = sym p.entry ∙ is in cc)
@@ -251,7 +251,7 @@ module _ (s : Source) (of : TablesOf s) (plain : Plain s.program) (order : InOrd
 
   pub attribute_names : (d : DeclNo) (n : Standard) (given result : Option SimType) → entry_of s.tables d ≡ Some (entry.Attribute n given result) → IsAttribute n
   attribute_names d n given result e =
-      let r = t.entry_row s of plain order d (entry.Attribute n given result) e in go r.0 r.2 (attribute_is d.0 r.0 r.1 n given result r.2)
+      let r = t.entry_row s of order d (entry.Attribute n given result) e in go r.0 r.2 (attribute_is d.0 r.0 r.1 n given result r.2)
     where
       go : (row : Declaration) → row.entry ≡ entry.Attribute n given result → AttributeRow row → IsAttribute n
       go row is (inl p) = inl (subst (λ z. is_attribute_name z ≡ true) (entries p.name n (typed_or_none (Some p.first) (parameter_of p.name)) given (typed_or_none (Some p.first) (result_of p.name)) result (sym p.entry ∙ is)).0 p.is_attribute)
@@ -261,7 +261,7 @@ module _ (s : Source) (of : TablesOf s) (plain : Plain s.program) (order : InOrd
   pub procedure_there : (d : DeclNo) (n : Standard) (given result : Option SimType) → entry_of s.tables d ≡ Some (entry.Attribute n given result) → is_attribute_name n ≡ true → SetProcedureThere s d n given result
   unfolding block_of
   procedure_there d n given result e is_name =
-      let r = t.entry_row s of plain order d (entry.Attribute n given result) e in go r.0 r.1 r.2 (attribute_is d.0 r.0 r.1 n given result r.2)
+      let r = t.entry_row s of order d (entry.Attribute n given result) e in go r.0 r.1 r.2 (attribute_is d.0 r.0 r.1 n given result r.2)
     where
       go : (row : Declaration) → slice_get s.tables.declarations d.0 ≡ Some row → row.entry ≡ entry.Attribute n given result → AttributeRow row → SetProcedureThere s d n given result
       go row at is (inl p) =
@@ -285,7 +285,7 @@ module _ (s : Source) (of : TablesOf s) (plain : Plain s.program) (order : InOrd
   pub simulation_there : (d : DeclNo) (n : Standard) (given result : Option SimType) → entry_of s.tables d ≡ Some (entry.Attribute n given result) → is_simulation_name n ≡ true → SimulationProcedureThere s d n given result
   unfolding block_of
   simulation_there d n given result e is_name =
-      let r = t.entry_row s of plain order d (entry.Attribute n given result) e in go r.0 r.1 r.2 (attribute_is d.0 r.0 r.1 n given result r.2)
+      let r = t.entry_row s of order d (entry.Attribute n given result) e in go r.0 r.1 r.2 (attribute_is d.0 r.0 r.1 n given result r.2)
     where
       go : (row : Declaration) → slice_get s.tables.declarations d.0 ≡ Some row → row.entry ≡ entry.Attribute n given result → AttributeRow row → SimulationProcedureThere s d n given result
       go row at is (inl p) =
@@ -313,12 +313,12 @@ module _ (s : Source) (of : TablesOf s) (plain : Plain s.program) (order : InOrd
 
   -- what is not listed is a class, an attribute, or a procedure
   pub unlisted : (d : DeclNo) (row : Declaration) → slice_get s.tables.declarations d.0 ≡ Some row → row.listed ≡ false → ((k : ℕ) × (row.entry ≡ entry.Class k)) ⊎ ((is_attribute row.entry ≡ true) ⊎ (is_procedure_entry row.entry ≡ true))
-  unlisted d row at hidden = let w = t.text_of_row s of plain order d.0 row at in go w.0 w.2
+  unlisted d row at hidden = let w = t.text_of_row s of order d.0 row at in go w.0 w.2
     where
       shown : row.listed ≡ true → ⊥
       shown e = let z : true ≡ false = sym e ∙ hidden in cc
 
-      go : (x : Text) → RowIn (Bs s of plain order) (Ts s of plain order) x d.0 row → ((k : ℕ) × (row.entry ≡ entry.Class k)) ⊎ ((is_attribute row.entry ≡ true) ⊎ (is_procedure_entry row.entry ≡ true))
+      go : (x : Text) → RowIn (Bs s of order) (Ts s of order) x d.0 row → ((k : ℕ) × (row.entry ≡ entry.Class k)) ⊎ ((is_attribute row.entry ≡ true) ⊎ (is_procedure_entry row.entry ≡ true))
       go x (own_row y p) = absurd (shown p.listed)
       go x (procedure_row y p) = inr (inr (procedure_alike (result_named p.result) p.number row.entry p.entry))
       go x (class_row y p) = inl (p.number, p.entry)
@@ -330,9 +330,9 @@ module _ (s : Source) (of : TablesOf s) (plain : Plain s.program) (order : InOrd
   -- a standard class declares nothing but attributes
   pub bare : (d : DeclNo) (row : Declaration) (which : StandardClass) → slice_get s.tables.declarations d.0 ≡ Some row → text s row.block ≡ Some (StandardText which) → is_attribute row.entry ≡ true
   unfolding text
-  bare d row which at is = let w = t.text_of_row s of plain order d.0 row at in go w.0 (some_same w.0 (StandardText which) (sym w.1 ∙ is)) w.2
+  bare d row which at is = let w = t.text_of_row s of order d.0 row at in go w.0 (some_same w.0 (StandardText which) (sym w.1 ∙ is)) w.2
     where
-      in_class : RowIn (Bs s of plain order) (Ts s of plain order) (StandardText which) d.0 row → is_attribute row.entry ≡ true
+      in_class : RowIn (Bs s of order) (Ts s of order) (StandardText which) d.0 row → is_attribute row.entry ≡ true
       in_class (own_row y p) = absurd y
       in_class (procedure_row y p) = absurd y
       in_class (class_row y p) = absurd y
@@ -341,8 +341,8 @@ module _ (s : Source) (of : TablesOf s) (plain : Plain s.program) (order : InOrd
       in_class (attribute_row y p) = ap is_attribute p.entry
       in_class (simulation_row y p) = absurd y
 
-      go : (x : Text) → x ≡ StandardText which → RowIn (Bs s of plain order) (Ts s of plain order) x d.0 row → is_attribute row.entry ≡ true
-      go x e r = in_class (subst (λ z. RowIn (Bs s of plain order) (Ts s of plain order) z d.0 row) e r)
+      go : (x : Text) → x ≡ StandardText which → RowIn (Bs s of order) (Ts s of order) x d.0 row → is_attribute row.entry ≡ true
+      go x e r = in_class (subst (λ z. RowIn (Bs s of order) (Ts s of order) z d.0 row) e r)
 
   -- ---- simulations
 
@@ -361,7 +361,7 @@ module _ (s : Source) (of : TablesOf s) (plain : Plain s.program) (order : InOrd
   -- a block or a class with `simulation` in front
   pub simulation_classes : (k : ℕ) → is_simulation_block s.tables k ≡ true → SimulationClasses s k
   unfolding is_simulation_block
-  simulation_classes k e = go (t.headed_now s of plain order k prefix.Simulation (known (standard_in (slice_get s.tables.blocks k)) e))
+  simulation_classes k e = go (t.headed_now s of order k prefix.Simulation (known (standard_in (slice_get s.tables.blocks k)) e))
     where
       known : (o : Option StandardPrefix) → is_simulation o ≡ true → o ≡ Some prefix.Simulation
       known None f = absurd (cc)
@@ -374,7 +374,7 @@ module _ (s : Source) (of : TablesOf s) (plain : Plain s.program) (order : InOrd
       no_base : is_connection (text s k) ≡ false → (o : Option ℕ) → base s.tables k ≡ o → o ≡ None
       no_base other None is = refl
       no_base other (Some b) is =
-          let none : standard_in (slice_get s.tables.blocks k) ≡ None = (t.completed_tables s of plain order).standards k ∙ (t.P s of plain order).apart k b (sym (t.own_base_of s of plain order k other) ∙ is) in
+          let none : standard_in (slice_get s.tables.blocks k) ≡ None = (t.completed_tables s of order).standards k ∙ (t.P s of order).apart k b (sym (t.own_base_of s of order k other) ∙ is) in
           absurd (let z : None ≡ Some prefix.Simulation = sym none ∙ simulates in cc)
 
       go : (first : DeclNo) × GroupNow prefix.Simulation k first → SimulationClasses s k
@@ -390,15 +390,15 @@ module _ (s : Source) (of : TablesOf s) (plain : Plain s.program) (order : InOrd
   -- no block lists a standard class, which has its name
   pub class_row_of : (d : ℕ) (k : ℕ) (which : StandardClass) (row : Declaration) → slice_get s.tables.declarations d ≡ Some row → row.entry ≡ entry.Class k → text s k ≡ Some (StandardText which) → (row.listed ≡ false) × (row.name ≡ name_of which)
   unfolding text
-  class_row_of d k which row at is_entry is = let w = t.text_of_row s of plain order d row at in go w.0 w.2
+  class_row_of d k which row at is_entry is = let w = t.text_of_row s of order d row at in go w.0 w.2
     where
-      of_class : OfClass (Bs s of plain order) (Ts s of plain order) d row → (row.listed ≡ false) × (row.name ≡ name_of which)
+      of_class : OfClass (Bs s of order) (Ts s of order) d row → (row.listed ≡ false) × (row.name ≡ name_of which)
       of_class p =
           let number : p.number ≡ k = (let z : entry.Class p.number ≡ entry.Class k = sym p.entry ∙ is_entry in cc) in
           let class : p.class ≡ StandardText which = some_same p.class (StandardText which) (sym p.text ∙ ap (slice_get (program_texts s.program.prefix s.program.block)) number ∙ is) in
           (p.hidden (subst (λ z. IsStandard z) (sym class) tt), p.named which class)
 
-      go : (x : Text) → RowIn (Bs s of plain order) (Ts s of plain order) x d row → (row.listed ≡ false) × (row.name ≡ name_of which)
+      go : (x : Text) → RowIn (Bs s of order) (Ts s of order) x d row → (row.listed ≡ false) × (row.name ≡ name_of which)
       go x (class_row y p) = of_class p
       go x (own_row y p) = absurd (own_no_class p.entry k p.fits (subst (Alike p.entry) is_entry p.alike))
       go x (procedure_row y p) = absurd (subst (Alike (entry.Procedure (result_named p.result) p.number)) is_entry p.entry)
@@ -410,7 +410,7 @@ module _ (s : Source) (of : TablesOf s) (plain : Plain s.program) (order : InOrd
   class_hidden : (d : DeclNo) (k : ℕ) (which : StandardClass) → class_block (declared_by s.program).tables d ≡ Some k → text s k ≡ Some (StandardText which) → (row : Declaration) → slice_get (declared_by s.program).tables.declarations d.0 ≡ Some row → row.listed ≡ false
   unfolding class_block
   class_hidden d k which declares is row at =
-      let new = (t.completed_tables s of plain order).rows.stays d.0 row at in
+      let new = (t.completed_tables s of order).rows.stays d.0 row at in
       sym new.2.listed ∙ (class_row_of d.0 k which new.0 new.1 (class_new row.entry new.0.entry new.2.entry k (class_of row.entry (sym (ap (λ o. class_block_in (elim o [ None ↦ None | Some row ↦ Some row.entry ])) at) ∙ declares))) is).0
     where
       class_of : (e : Entry) → class_block_in (Some e) ≡ Some k → e ≡ entry.Class k
@@ -421,40 +421,47 @@ module _ (s : Source) (of : TablesOf s) (plain : Plain s.program) (order : InOrd
   no_process_above : (c k : ℕ) → base (declared_by s.program).tables c ≡ Some k → text s k ≡ Some (StandardText standard.Process) → ⊥
   unfolding base text
   no_process_above c k was at =
-      let b = standard_base_of (declared_by s.program) (program_texts s.program.prefix s.program.block) [] (t.program_agrees s.program plain).fine c k was in
+      let b = standard_base_of (declared_by s.program) (program_texts s.program.prefix s.program.block) [] (t.program_agrees s.program).fine c k was in
       b.2.no_process (let z : Some (StandardText b.2.above) ≡ Some (StandardText standard.Process) = sym b.2.above_text ∙ at in cc)
 
-  -- a class `process` that something has for its prefix was found in the block into which it was brought, which knows its standard prefix
-  pub process_there : (c k : ℕ) → is_connection (text s c) ≡ false → base s.tables c ≡ Some k → text s k ≡ Some (StandardText standard.Process) → ProcessClassThere s k
-  unfolding is_simulation_block text
-  process_there c k other e at = go (t.prefix_is s of plain order c k other e)
-    where
-      q : InGroup (Bs s of plain order) (Ts s of plain order) k standard.Process
-      q = group_of k standard.Process at
+  -- a class `process` is in the block into which it was brought, where that knows its standard prefix
+  process_of : (k : ℕ) (at : text s k ≡ Some (StandardText standard.Process)) (block : ℕ) → block ≡ (group_of k standard.Process at).block → HasStandard s.tables block → ProcessClassThere s k
+  unfolding is_simulation_block
+  process_of k at block same h =
+      let q = group_of k standard.Process at in
+      let g = t.headed_now s of order block h.0 h.1 in
+      let front = (g.1).host in
+      let same_text : front.0 ≡ (q.group).host.0 = some_same front.0 (q.group).host.0 (sym front.1 ∙ ap (slice_get (program_texts s.program.prefix s.program.block)) same ∙ (q.group).host.1) in
+      let one : h.0 ≡ prefix.Simulation = one_in_front h.0 q.prefix (q.group).host.0 (subst (InFront h.0) same_text front.2) (q.group).host.2 ∙ q.is in
+      record { block = block; is = q.place ∙ ap (λ m. m + 1 + 3) (sym same) ∙ fourth_place block; simulates = ap is_simulation (h.1 ∙ ap Some one) }
 
-      of_standard : (block : ℕ) → block ≡ q.block → HasStandard s.tables block → ProcessClassThere s k
-      of_standard block same h =
-          let g = t.headed_now s of plain order block h.0 h.1 in
-          let front = (g.1).host in
-          let same_text : front.0 ≡ (q.group).host.0 = some_same front.0 (q.group).host.0 (sym front.1 ∙ ap (slice_get (program_texts s.program.prefix s.program.block)) same ∙ (q.group).host.1) in
-          let one : h.0 ≡ prefix.Simulation = one_in_front h.0 q.prefix (q.group).host.0 (subst (InFront h.0) same_text front.2) (q.group).host.2 ∙ q.is in
-          record { block = block; is = q.place ∙ ap (λ m. m + 1 + 3) (sym same) ∙ fourth_place block; simulates = ap is_simulation (h.1 ∙ ap Some one) }
+  pub process_in : (k : ℕ) → text s k ≡ Some (StandardText standard.Process) → (block : ℕ) → encloser s.tables k ≡ Some block → HasStandard s.tables block → ProcessClassThere s k
+  unfolding group_of process_brought
+  process_in k at block out h = let b = process_brought k at in process_of k at block (some_same block b.block (sym out ∙ b.around)) h
+
+  -- so is one that something has for its prefix
+  pub process_there : (c k : ℕ) → is_connection (text s c) ≡ false → base s.tables c ≡ Some k → text s k ≡ Some (StandardText standard.Process) → ProcessClassThere s k
+  unfolding text
+  process_there c k other e at = go (t.prefix_is s of order c k other e)
+    where
+      q : InGroup (Bs s of order) (Ts s of order) k standard.Process
+      q = group_of k standard.Process at
 
       of_prefix : PrefixOf (declared_by s.program).tables s.tables c k → ProcessClassThere s k
       of_prefix p =
-          let row = t.class_at s.program plain p.class k p.declares in
+          let row = t.class_at s.program p.class k p.declares in
           let same_row : row.0 ≡ p.stands.0 = some_same row.0 p.stands.0 (sym row.1 ∙ p.stands.1) in
           let here : around (slice_get (declared_by s.program).tables.blocks k) ≡ Some p.level = row.2 ∙ ap Some (ap (λ (z : Declaration). z.block) same_row ∙ p.stands.2) in
-          let there : around (slice_get (declared_by s.program).tables.blocks k) ≡ Some q.block = sym (t.same_around s of plain order k) ∙ ap (λ m. around (slice_get s.tables.blocks m)) q.place ∙ q.group.around standard.Process q.is in
+          let there : around (slice_get (declared_by s.program).tables.blocks k) ≡ Some q.block = sym (t.same_around s of order k) ∙ ap (λ m. around (slice_get s.tables.blocks m)) q.place ∙ q.group.around standard.Process q.is in
           let block : p.level ≡ q.block = some_same p.level q.block (sym here ∙ there) in
           let hidden : (row.0).listed ≡ false = class_hidden p.class k standard.Process p.declares at row.0 row.1 in
           by_listed p.level p.class row.0 row.1 hidden block p.listed
         where
           by_listed : (level : ℕ) (class : DeclNo) (row : Declaration) → slice_get (declared_by s.program).tables.declarations class.0 ≡ Some row → row.listed ≡ false → level ≡ q.block
               → Among class (numbers_in (slice_get (declared_by s.program).tables.blocks level)) ⊎ HasStandard s.tables level → ProcessClassThere s k
-          by_listed level class row is hidden same (inr h) = of_standard level same h
+          by_listed level class row is hidden same (inr h) = process_of k at level same h
           by_listed level class row is hidden same (inl a) =
-              let o = (t.program_agrees s.program plain).fine.own level class a in
+              let o = (t.program_agrees s.program).fine.own level class a in
               let one : o.0 ≡ row = some_same o.0 row (sym o.1 ∙ is) in
               absurd (let z : true ≡ false = sym o.3 ∙ ap (λ (z : Declaration). z.listed) one ∙ hidden in cc)
 

@@ -23,7 +23,7 @@ use Rattle.sim_scope.specs.Tables.{BlockOf, Tables}
 use Rattle.sim_scope.proofs.Kept.{kept_set, more_here, more_other, set_here, set_other}
 use Rattle.sim_meaning.specs.Entries.{numbers_in}
 use Rattle.sim_sound.specs.Held.{Among, first, later}
-use Rattle.sim_agree.proofs.Groups.{PlainFormal}
+use Rattle.sim_agree.proofs.Groups.{TypedFormal}
 use Rattle.sim_agree.proofs.Unprefixed.{Known, MatchOf, NamesFound, Unprefixed, extras_in, brings_of, spelt_before}
 
 -- ---- lists of numbers
@@ -73,7 +73,7 @@ fixed (Some row) = Some (record { kind = row.kind; encloser = row.encloser; leve
 -- a parameter that is not specified yet, and one that is specified as something plain
 abbrev pub Parametric : Entry → Type 0
 Parametric (entry.Unspecified w) = Unit {0}
-Parametric (entry.Formal f) = PlainFormal f.kind f.ty
+Parametric (entry.Formal f) = TypedFormal f.kind f.ty
 Parametric _ = ⊥
 
 -- ---- the declaration of an identifier in a block

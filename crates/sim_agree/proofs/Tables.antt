@@ -1,4 +1,4 @@
--- What the tables of an allowed plain program are.
+-- What the tables of an allowed program are.
 use Rattle.std.proofs.Common.{◌≡◌, ◌<◌, ◌≤◌, ◌+◌, ◌⊎◌, inl, inr, ℕ, suc, true, false, List, [], ◌∷◌, length, Option, Some, None, refl, sym, ap, ◌∙◌, subst, arith}
 use Rattle.std.specs.Prelude.{slice_get}
 use Rattle.std.proofs.lemmas.Option.{slice_get_within}
@@ -31,22 +31,23 @@ use Rattle.sim_meaning.specs.Attributes.{first_in, is_connection}
 use Rattle.sim_meaning.specs.Entries.{numbers_in, numbers_of}
 use Rattle.sim_meaning.specs.Texts.{BlockText, ClassText, ConnectionText, PrefixedText, ProcedureText, StandardText, Text, program_texts, text}
 use Rattle.sim_sound.specs.Held.{Among}
-use Rattle.sim_agree.specs.Plain.{Plain}
 use Rattle.prefix_bind.specs.Prefixes.{prefixed}
 use Rattle.sim_agree.specs.TablesOf.{TablesOf}
-use Rattle.sim_agree.proofs.ByNames.{ByNames, InHeading, OfName, OfProcedure as of_procedure}
+use Rattle.sim_agree.proofs.ByNames.{ByNames, OfName, OfProcedure as of_procedure}
 use Rattle.sim_agree.proofs.Clean.{Clean, Counts}
 use Rattle.sim_agree.proofs.Covered.{Covered}
 use Rattle.sim_agree.proofs.Owned.{Owned}
 use Rattle.sim_agree.proofs.CleanRuns.{run_clean}
 use Rattle.sim_agree.proofs.Completing.{AllReferences, Completes, HasNext, Retyped, bare_row, entry_is_class, has_base, kind_in, prefixable_base}
 use Rattle.sim_agree.proofs.Prefixing.{Based, PrefixOf, complete, prefix_more, prefixed_tables, showing_kept}
-use Rattle.sim_agree.proofs.Fine.{Agree, Headed, IsStandard, StandardGroup, attribute_row, simulation_row, first_or_none, own_base, KindIs, Rising, RowIn, RowOf, names_found, class_row, deeper_in, formal_row, own_row, owner_in, procedure_row, virtual_row}
+use Rattle.sim_agree.proofs.Steps.{fixed}
+use Rattle.sim_agree.proofs.Fine.{Agree, Headed, IsStandard, StandardGroup, attribute_row, simulation_row, first_or_none, own_base, KindIs, Rising, RowIn, TopFixed, RowOf, names_found, class_row, deeper_in, formal_row, own_row, owner_in, procedure_row, virtual_row}
 use Rattle.sim_agree.proofs.FineRuns.{run_agrees}
 use Rattle.sim_agree.proofs.Groups.{NoBreaks, OfReferences, PlainKind, program_grouped, Declaring}
 use Rattle.sim_agree.proofs.Laid.{program_held, program_laid}
 use Rattle.sim_agree.proofs.Openings.{Opened, program_opened}
-use Rattle.sim_agree.proofs.Spots.{Final, Here, Lay, run_laid}
+use Rattle.sim_agree.proofs.Spots.{Final, run_laid}
+use Rattle.sim_agree.proofs.TokenBlocks.{Here, Lay, none_recent}
 use Rattle.sim_agree.proofs.StandardBlocks.{no_base, no_standard, showing, standard_base_of}
 use Rattle.sim_agree.proofs.Unprefixed.{Brings, Known, Named, NamesFound, Showing, brings_of, StandsIn, is_prefixable, nothing_bare}
 use Rattle.sim_agree.proofs.ClassRows.{class_entry, class_of_kind, class_stands, levels_of_kind, no_connection}
@@ -68,6 +69,7 @@ nothing_agrees = record {
     stack = refl;
     nested = λ t u is. absurd (cc);
     levels = λ t u is. absurd (cc);
+    tops = λ t. tt;
     kinds = λ t. tt;
     listed = λ d row is l. absurd (cc);
     evens = λ j. tt;
@@ -107,54 +109,55 @@ nothing_laid = record {
   below = λ d row is. absurd (cc);
   rising = λ d e row other is at lt own. absurd (cc);
   bare = nothing_bare;
+  written = λ i q at. absurd (cc);
 }
 
-pub program_agrees : (p : Program) → Plain p → Agree (declared_by p) (program_texts p.prefix p.block) []
+pub program_agrees : (p : Program) → Agree (declared_by p) (program_texts p.prefix p.block) []
 unfolding declared_by
-program_agrees p q = run_agrees empty [] (program_grouped p q) tt nothing_agrees
+program_agrees p = run_agrees empty [] (program_grouped p) tt nothing_agrees
 
-pub program_clean : (p : Program) → Plain p → (declared_by p).least ≡ None → Clean (declared_by p) (program_texts p.prefix p.block) []
+pub program_clean : (p : Program) → (declared_by p).least ≡ None → Clean (declared_by p) (program_texts p.prefix p.block) []
 unfolding declared_by
-program_clean p q clean = (run_clean empty [] (program_grouped p q) tt nothing_agrees clean).1 nothing_clean
+program_clean p clean = (run_clean empty [] (program_grouped p) tt nothing_agrees clean).1 nothing_clean
 
-pub program_unbroken : (p : Program) → Plain p → (declared_by p).least ≡ None → NoBreaks (program_events declaring p)
+pub program_unbroken : (p : Program) → (declared_by p).least ≡ None → NoBreaks (program_events declaring p)
 unfolding declared_by
-program_unbroken p q clean = (run_clean empty [] (program_grouped p q) tt nothing_agrees clean).2
+program_unbroken p clean = (run_clean empty [] (program_grouped p) tt nothing_agrees clean).2
 
 nothing_owned : Owned empty []
 nothing_owned n x is = absurd (cc)
 
 -- the block of each procedure and of each class is that of a declaration
-pub program_owned : (p : Program) → Plain p → (declared_by p).least ≡ None → Owned (declared_by p) (program_texts p.prefix p.block)
+pub program_owned : (p : Program) → (declared_by p).least ≡ None → Owned (declared_by p) (program_texts p.prefix p.block)
 unfolding declared_by
-program_owned p q clean = (run_clean empty [] (program_grouped p q) tt nothing_agrees clean).4 nothing_owned
+program_owned p clean = (run_clean empty [] (program_grouped p) tt nothing_agrees clean).4 nothing_owned
 
 nothing_covered : Covered empty
 nothing_covered d row at refs = absurd (cc)
 
 -- each declaration of references has a qualification
-pub program_covered : (p : Program) → Plain p → (declared_by p).least ≡ None → Covered (declared_by p)
+pub program_covered : (p : Program) → (declared_by p).least ≡ None → Covered (declared_by p)
 unfolding declared_by
-program_covered p q clean = (run_clean empty [] (program_grouped p q) tt nothing_agrees clean).3 nothing_covered
+program_covered p clean = (run_clean empty [] (program_grouped p) tt nothing_agrees clean).3 nothing_covered
 
 nothing_by_name : ByNames empty []
 nothing_by_name d row at q = absurd (cc)
 
 -- what is passed by name is a parameter of a procedure, and no array
-pub program_by_name : (p : Program) → Plain p → (declared_by p).least ≡ None → ByNames (declared_by p) (program_texts p.prefix p.block)
+pub program_by_name : (p : Program) → (declared_by p).least ≡ None → ByNames (declared_by p) (program_texts p.prefix p.block)
 unfolding declared_by
-program_by_name p q clean = (run_clean empty [] (program_grouped p q) tt nothing_agrees clean).5 nothing_by_name
+program_by_name p clean = (run_clean empty [] (program_grouped p) tt nothing_agrees clean).5 nothing_by_name
 
-pub program_final : (p : Program) → Plain p → InOrder p → Final (declared_by p) (program_held p.prefix p.block)
+pub program_final : (p : Program) → InOrder p → Final (declared_by p) (program_held p.prefix p.block)
 unfolding declared_by
-program_final p q order = run_laid empty [] 0 (program_laid p q) order nothing_laid
+program_final p order = run_laid empty [] 0 (program_laid p) (none_recent empty 0) order nothing_laid
 
 -- a block begins at its first token
-pub first_place : (p : Program) → Plain p → InOrder p → (k : ℕ) (row : BlockOf) → slice_get (declared_by p).tables.blocks k ≡ Some row → is_standard_class row.kind ≡ false → slice_get (declared_by p).tables.places row.first ≡ Some (Some k)
-first_place p q order k row at other = go (f.laid.firsts k row at other)
+pub first_place : (p : Program) → InOrder p → (k : ℕ) (row : BlockOf) → slice_get (declared_by p).tables.blocks k ≡ Some row → is_standard_class row.kind ≡ false → slice_get (declared_by p).tables.places row.first ≡ Some (Some k)
+first_place p order k row at other = go (f.laid.firsts k row at other)
   where
     f : Final (declared_by p) (program_held p.prefix p.block)
-    f = program_final p q order
+    f = program_final p order
 
     go : Here (declared_by p) f.to k row.first → slice_get (declared_by p).tables.places row.first ≡ Some (Some k)
     go (inl h) = h
@@ -181,8 +184,8 @@ pub record ClassStands (p : Program) (k : ℕ) : Type 0 where
   pub is : slice_get (program_texts p.prefix p.block) row.block ≡ Some text
   pub declaring : Declaring text
 
-stands_by : (p : Program) → Plain p → (d : DeclNo) (row : Declaration) (k : ℕ) → slice_get (declared_by p).tables.declarations d.0 ≡ Some row → row.entry ≡ entry.Class k → ClassStands p k
-stands_by p plain d row k at e = go (slice_get (program_texts p.prefix p.block) row.block) refl ((program_agrees p plain).rows d.0 row at)
+stands_by : (p : Program) → (d : DeclNo) (row : Declaration) (k : ℕ) → slice_get (declared_by p).tables.declarations d.0 ≡ Some row → row.entry ≡ entry.Class k → ClassStands p k
+stands_by p d row k at e = go (slice_get (program_texts p.prefix p.block) row.block) refl ((program_agrees p).rows d.0 row at)
   where
     go : (o : Option Text) → slice_get (program_texts p.prefix p.block) row.block ≡ o → RowOf (declared_by p).tables.blocks (program_texts p.prefix p.block) o d.0 row → ClassStands p k
     go None is q = absurd q
@@ -191,44 +194,44 @@ stands_by p plain d row k at e = go (slice_get (program_texts p.prefix p.block) 
         record { declaration = d; row = row; at = at; entry = e; around = s.1; text = x; is = is; declaring = s.0 }
 
 -- each declared class, with its row
-pub class_at : (p : Program) → Plain p → (d : DeclNo) (k : ℕ) → class_block (declared_by p).tables d ≡ Some k → (row : Declaration) × (slice_get (declared_by p).tables.declarations d.0 ≡ Some row) × (around (slice_get (declared_by p).tables.blocks k) ≡ Some row.block)
+pub class_at : (p : Program) → (d : DeclNo) (k : ℕ) → class_block (declared_by p).tables d ≡ Some k → (row : Declaration) × (slice_get (declared_by p).tables.declarations d.0 ≡ Some row) × (around (slice_get (declared_by p).tables.blocks k) ≡ Some row.block)
 unfolding class_block
-class_at p plain d k e = go (slice_get (declared_by p).tables.declarations d.0) refl e
+class_at p d k e = go (slice_get (declared_by p).tables.declarations d.0) refl e
   where
     go : (o : Option Declaration) → slice_get (declared_by p).tables.declarations d.0 ≡ o → class_block_in (elim o [ None ↦ None | Some row ↦ Some row.entry ]) ≡ Some k
         → (row : Declaration) × (o ≡ Some row) × (around (slice_get (declared_by p).tables.blocks k) ≡ Some row.block)
     go None at f = absurd (cc)
-    go (Some row) at f = (row, refl, around_of (slice_get (program_texts p.prefix p.block) row.block) ((program_agrees p plain).rows d.0 row at))
+    go (Some row) at f = (row, refl, around_of (slice_get (program_texts p.prefix p.block) row.block) ((program_agrees p).rows d.0 row at))
       where
         around_of : (o : Option Text) → RowOf (declared_by p).tables.blocks (program_texts p.prefix p.block) o d.0 row → around (slice_get (declared_by p).tables.blocks k) ≡ Some row.block
         around_of None q = absurd q
         around_of (Some x) q = (class_stands x (declared_by p).tables.blocks (program_texts p.prefix p.block) d.0 row k (entry_is_class k row.entry f) q).1
 
 -- each block of the kind of a class
-pub class_block_at : (p : Program) → Plain p → (declared_by p).least ≡ None → (k : ℕ) (row : BlockOf) → slice_get (declared_by p).tables.blocks k ≡ Some row → row.kind ≡ kind.Class → ClassStands p k
-class_block_at p plain clean k row at e =
-    let x = class_of_kind row (slice_get (program_texts p.prefix p.block) k) (subst (λ o. KindIs o (slice_get (program_texts p.prefix p.block) k)) at ((program_agrees p plain).fine.kinds k)) e in
-    let q = program_owned p plain clean k (ClassText x.0 x.1 x.2 x.3) x.4 in
-    stands_by p plain q.0 q.1 k q.3 q.4
+pub class_block_at : (p : Program) → (declared_by p).least ≡ None → (k : ℕ) (row : BlockOf) → slice_get (declared_by p).tables.blocks k ≡ Some row → row.kind ≡ kind.Class → ClassStands p k
+class_block_at p clean k row at e =
+    let x = class_of_kind row (slice_get (program_texts p.prefix p.block) k) (subst (λ o. KindIs o (slice_get (program_texts p.prefix p.block) k)) at ((program_agrees p).fine.kinds k)) e in
+    let q = program_owned p clean k (ClassText x.0 x.1 x.2 x.3) x.4 in
+    stands_by p q.0 q.1 k q.3 q.4
 
 -- the tables with the prefixes of classes and blocks
-pub program_prefixed : (p : Program) → Plain p → Based (declared_by p).tables (prefixed (declared_by p).tables)
+pub program_prefixed : (p : Program) → Based (declared_by p).tables (prefixed (declared_by p).tables)
 unfolding base
-program_prefixed p plain =
-    let f = (program_agrees p plain).fine in
+program_prefixed p =
+    let f = (program_agrees p).fine in
     prefixed_tables (declared_by p).tables (showing (declared_by p) (program_texts p.prefix p.block) [] f) (no_base (declared_by p) (program_texts p.prefix p.block) [] f) (no_standard (declared_by p) (program_texts p.prefix p.block) [] f)
 
-pub completes : (s : Source) → TablesOf s → Plain s.program → InOrder s.program → Completes (declared_by s.program).tables s.tables (IsClassText s.program)
+pub completes : (s : Source) → TablesOf s → InOrder s.program → Completes (declared_by s.program).tables s.tables (IsClassText s.program)
 unfolding base
-completes s of plain order =
+completes s of order =
     subst (λ z. Completes D z (IsClassText s.program)) (sym of.tables)
-    (complete D s.program (IsClassText s.program) (program_prefixed s.program plain) (all_references D D.qualifications (program_clean s.program plain of.unbroken).refs) classes standard_bases conn (program_opened s.program plain))
+    (complete D s.program (IsClassText s.program) (program_prefixed s.program) (all_references D D.qualifications (program_clean s.program of.unbroken).refs) classes standard_bases conn (program_opened s.program))
   where
     D : Tables
     D = (declared_by s.program).tables
 
     agree : Agree (declared_by s.program) (program_texts s.program.prefix s.program.block) []
-    agree = program_agrees s.program plain
+    agree = program_agrees s.program
 
     classes : (d n : ℕ) (row : Declaration) → slice_get D.declarations d ≡ Some row → row.entry ≡ entry.Class n → IsClassText s.program n
     classes d n row at e = go (slice_get (program_texts s.program.prefix s.program.block) row.block) (agree.rows d row at)
@@ -244,14 +247,14 @@ completes s of plain order =
 
     conn : (i k : ℕ) → Opened D.blocks i → joined (slice_get D.places i) ≡ Some k → (row : BlockOf) × (slice_get D.blocks k ≡ Some row) × (row.kind ≡ kind.Connection)
     conn i k o at =
-        let e : slice_get D.places i ≡ Some (Some o.number) = ap (slice_get D.places) (sym o.begins) ∙ first_place s.program plain order o.number o.row o.at (ap is_standard_class o.is) in
+        let e : slice_get D.places i ≡ Some (Some o.number) = ap (slice_get D.places) (sym o.begins) ∙ first_place s.program order o.number o.row o.at (ap is_standard_class o.is) in
         let same : o.number ≡ k = some_number o.number k (sym (ap joined e) ∙ at) in
         (o.row, subst (λ z. slice_get D.blocks z ≡ Some o.row) same o.at, o.is)
       where
         some_number : (m n : ℕ) → Some m ≡ Some n → m ≡ n
         some_number m n q = cc
 
-module _ (s : Source) (of : TablesOf s) (plain : Plain s.program) (order : InOrder s.program) where
+module _ (s : Source) (of : TablesOf s) (order : InOrder s.program) where
   abbrev pub Bs : List BlockOf
   Bs = s.tables.blocks
 
@@ -262,16 +265,16 @@ module _ (s : Source) (of : TablesOf s) (plain : Plain s.program) (order : InOrd
   D = (declared_by s.program).tables
 
   agree : Agree (declared_by s.program) (program_texts s.program.prefix s.program.block) []
-  agree = program_agrees s.program plain
+  agree = program_agrees s.program
 
   pub clean : Clean (declared_by s.program) (program_texts s.program.prefix s.program.block) []
-  clean = program_clean s.program plain of.unbroken
+  clean = program_clean s.program of.unbroken
 
   pub completed_tables : Completes (declared_by s.program).tables s.tables (IsClassText s.program)
-  completed_tables = completes s of plain order
+  completed_tables = completes s of order
 
   C : Completes (declared_by s.program).tables s.tables (IsClassText s.program)
-  C = completes s of plain order
+  C = completes s of order
 
   -- what is the same of a block
   pub same_around : (k : ℕ) → around (slice_get s.tables.blocks k) ≡ around (slice_get (declared_by s.program).tables.blocks k)
@@ -305,7 +308,7 @@ module _ (s : Source) (of : TablesOf s) (plain : Plain s.program) (order : InOrd
           some_row a b q = cc
 
   pub P : Based (declared_by s.program).tables (prefixed (declared_by s.program).tables)
-  P = program_prefixed s.program plain
+  P = program_prefixed s.program
 
   pub stands_now : (k : ℕ) (d : DeclNo) → StandsIn (declared_by s.program).tables k d → StandsIn s.tables k d
   stands_now k d q = let n = C.rows.stays d.0 q.0 q.1 in (n.0, n.1, n.2.block ∙ q.2)
@@ -408,6 +411,15 @@ module _ (s : Source) (of : TablesOf s) (plain : Plain s.program) (order : InOrd
       go : (o : Option BlockOf) → slice_get s.tables.blocks t ≡ o → around o ≡ Some u → deeper_in o (level_of s u) ≡ suc (level_of s u)
       go None at f = absurd (cc)
       go (Some row) at f = (connection_of (slice_get s.tables.blocks t) (slice_get Ts t) (kind_at t) (level_of s u)).0 other row at
+
+  -- what is around none is on the first level
+  pub top_level : (t : ℕ) (row : BlockOf) → slice_get s.tables.blocks t ≡ Some row → encloser s.tables t ≡ None → level_of s t ≡ 1
+  unfolding encloser level_of
+  top_level t row at none = go (slice_get (declared_by s.program).tables.blocks t) refl (agree.fine.tops t)
+    where
+      go : (o : Option BlockOf) → slice_get (declared_by s.program).tables.blocks t ≡ o → TopFixed (fixed o) → level_in (slice_get s.tables.blocks t) ≡ 1
+      go None is top = absurd (let old = row_was t row at in let z : None ≡ Some old.0 = sym is ∙ old.1 in cc)
+      go (Some old) is top = same_level t ∙ ap level_in is ∙ top (sym (ap around is) ∙ sym (same_around t) ∙ none)
 
   pub levels_of_connections : (t u : ℕ) → is_connection (text s t) ≡ true → encloser s.tables t ≡ Some u → level_of s t ≡ level_of s u
   unfolding text
@@ -683,7 +695,7 @@ module _ (s : Source) (of : TablesOf s) (plain : Plain s.program) (order : InOrd
   pub begun : (k : ℕ) (row : BlockOf) → slice_get s.tables.blocks k ≡ Some row → is_standard_class row.kind ≡ false → slice_get s.tables.places row.first ≡ Some (Some k)
   begun k row at other =
       let w = row_was k row at in
-      ap (λ z. slice_get z row.first) C.places ∙ ap (λ (z : BlockOf). slice_get (declared_by s.program).tables.places z.first) w.2 ∙ first_place s.program plain order k w.0 w.1 (ap (λ (z : BlockOf). is_standard_class z.kind) (sym w.2) ∙ other)
+      ap (λ z. slice_get z row.first) C.places ∙ ap (λ (z : BlockOf). slice_get (declared_by s.program).tables.places z.first) w.2 ∙ first_place s.program order k w.0 w.1 (ap (λ (z : BlockOf). is_standard_class z.kind) (sym w.2) ∙ other)
 
   -- what is known of parameters: the first declarations of a block, as many as it has
   pub counts : (k : ℕ) (row : BlockOf) → slice_get s.tables.blocks k ≡ Some row → Counts s.tables.declarations row
@@ -697,13 +709,17 @@ module _ (s : Source) (of : TablesOf s) (plain : Plain s.program) (order : InOrd
         back = λ n d r p t param. (let o = C.rows.was d.0 r t in let lt : n < w.0.formals = c.back n d o.0 (ap (λ z. slice_get z n) (sym numbers) ∙ p) o.1 (param_was o.0.entry r.entry o.2.entry param) in omega (arith, formals));
       }
 
-  pub by_name_row : (d : ℕ) (row : Declaration) (f : Formal) → slice_get s.tables.declarations d ≡ Some row → row.entry ≡ entry.Formal f → f.mode ≡ mode.ByName → (has_levels (slice_get Ts row.block) ≡ false) × (f.kind ≡ shape.Array → ⊥)
-  by_name_row d row f at is by_name =
+  pub by_name_row : (d : ℕ) (row : Declaration) (f : Formal) → slice_get s.tables.declarations d ≡ Some row → row.entry ≡ entry.Formal f → (f.mode ≡ mode.ByName) ⊎ (f.kind ≡ shape.Procedure) → has_levels (slice_get Ts row.block) ≡ false
+  by_name_row d row f at is passed =
       let o = C.rows.was d row at in
       let g = formal_was o.0.entry row.entry o.2.entry f is in
-      let p = program_by_name s.program plain of.unbroken d o.0 o.1 (subst OfName (sym g.1) (g.2 ∙ by_name)) in
-      (ap (λ n. has_levels (slice_get Ts n)) o.2.block ∙ ap has_levels p.at ∙ without_levels p.text p.procedure, λ array. subst (InHeading p.text o.0.name) g.1 p.heading (g.3 ∙ array))
+      let p = program_by_name s.program of.unbroken d o.0 o.1 (subst OfName (sym g.1) (same_passed g.0 f g.2 g.3 passed)) in
+      ap (λ n. has_levels (slice_get Ts n)) o.2.block ∙ ap has_levels p.at ∙ without_levels p.text p.procedure
     where
+      same_passed : (old new : Formal) → old.mode ≡ new.mode → old.kind ≡ new.kind → (new.mode ≡ mode.ByName) ⊎ (new.kind ≡ shape.Procedure) → (old.mode ≡ mode.ByName) ⊎ (old.kind ≡ shape.Procedure)
+      same_passed old new modes kinds (inl by_name) = inl (modes ∙ by_name)
+      same_passed old new modes kinds (inr procedure) = inr (kinds ∙ procedure)
+
       without_levels : (x : Text) → of_procedure x → has_levels (Some x) ≡ false
       without_levels (ProcedureText result h a) q = refl
       without_levels (BlockText i ds ss) q = absurd q
@@ -712,12 +728,12 @@ module _ (s : Source) (of : TablesOf s) (plain : Plain s.program) (order : InOrd
       without_levels (PrefixedText class es ds ss) q = absurd q
       without_levels (StandardText which) q = absurd q
 
-  -- a parameter by name stands in the text of a procedure
-  pub by_name_outside : (d : DeclNo) (f : Formal) → entry_of s.tables d ≡ Some (entry.Formal f) → f.mode ≡ mode.ByName → has_levels (text s (block_of s d)) ≡ false
+  -- a parameter by name, or one that is a procedure, stands in the text of a procedure
+  pub by_name_outside : (d : DeclNo) (f : Formal) → entry_of s.tables d ≡ Some (entry.Formal f) → (f.mode ≡ mode.ByName) ⊎ (f.kind ≡ shape.Procedure) → has_levels (text s (block_of s d)) ≡ false
   unfolding text
-  by_name_outside d f e by_name =
+  by_name_outside d f e passed =
       let r = entry_row d (entry.Formal f) e in
-      ap (λ n. has_levels (slice_get Ts n)) (block_is d r.0 r.1) ∙ (by_name_row d.0 r.0 f r.1 r.2 by_name).0
+      ap (λ n. has_levels (slice_get Ts n)) (block_is d r.0 r.1) ∙ by_name_row d.0 r.0 f r.1 r.2 passed
 
   -- each parameter is specified
   pub specified_row : (d : ℕ) (row : Declaration) → slice_get s.tables.declarations d ≡ Some row → (w : Option WrittenMode) → row.entry ≡ entry.Unspecified w → ⊥

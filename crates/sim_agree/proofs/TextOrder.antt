@@ -8,7 +8,7 @@ use Rattle.sim_tree.specs.declared.stmt.TypeName.{TypeName}
 use Rattle.sim_tree.specs.declared.stmt.TypeName.TheVariants as type_name
 use Rattle.sim_tree.specs.declared.stmt.Variable.{Variable}
 use Rattle.sim_tree.specs.Named.{named}
-use Rattle.sim_tree.specs.Syntax.{Also, Arms, Arrayed, Arrays, Begin, Block, BoundPair, Declarations, DeclareClass, DeclareProcedure, Element, Expression, Heading, Interface, NoArm, NoDeclaration, NoStatement, Prefix, Schedule, Statement, Statements, Variables, Virtual, When, With, Expressions}
+use Rattle.sim_tree.specs.Syntax.{Also, Arms, Arrayed, Arrays, Begin, Block, BoundPair, Declarations, DeclareClass, DeclareProcedure, Element, Expression, Heading, Interface, NoArm, NoDeclaration, NoStatement, Prefix, Schedule, Specification, Specified, Statement, Statements, Variables, Virtual, When, With, Expressions}
 use Rattle.sim_tree.specs.Syntax as syntax
 use Rattle.sim_scope.specs.declared.types.StandardPrefix.{StandardPrefix}
 use Rattle.sim_scope.specs.declared.types.StandardPrefix.TheVariants as prefixes
@@ -18,8 +18,7 @@ use Rattle.sim_meaning.specs.Texts.{BlockText, ClassText, Text, arms_texts, bloc
 use Rattle.sim_sound.specs.Held.{Among, first, later}
 use Rattle.sim_sound.specs.Typed.{Distinct, arrays_in_segments, arrays_named, arrays_of_block, of_option}
 use Rattle.sim_tree.specs.Order.{Ascends, Behind, Spot, Token, in_bounds, in_each, in_element, in_expression, in_name, in_result, in_schedule, in_segment, in_side, in_type, in_variable, tokens, in_prefix}
-use Rattle.sim_agree.specs.Order.{InOrder, in_arms, in_block, in_declarations, in_statement, in_statements, in_virtual}
-use Rattle.sim_agree.specs.Plain.{Plain, PlainArms, PlainBlock, PlainDeclarations, PlainStatement, PlainStatements, PlainStart}
+use Rattle.sim_agree.specs.Order.{InOrder, in_arms, in_block, in_declarations, in_heading, in_specification, in_specified, in_statement, in_statements, in_virtual}
 use Rattle.sim_agree.proofs.StandardPrefixes.{behind_prefix, brought_texts}
 
 -- ---- tokens between two
@@ -150,9 +149,26 @@ name_past x i l a = (x.token.0 + 1, (let lo : i ≤ x.token.0 = a.0 in omega ari
 virtual_past : (v : Virtual) → Past (in_virtual v)
 virtual_past v = two_past (in_result v.result) (in_each in_name v.names) (result_past v.result) (each_past in_name name_past v.names)
 
+specification_past : (x : Specification) → Past (in_specification x)
+specification_past x = go x.kind
+  where
+    go : (k : Specified) → Past (in_specified k)
+    go (syntax.Simple type) = type_past type
+    go (syntax.Array type i) = type_past type
+    go (syntax.Procedure result i) = result_past result
+
 names_between : (xs : List Identifier) (i : ℕ) (l : List Spot) → Ascends i (in_each in_name xs l) → (j : ℕ) × Between i (name_tokens xs) j × Ascends j l
 names_between [] i l a = (i, (let z : i ≤ i = omega arith in z), a)
 names_between (x ∷ xs) i l a = let q = names_between xs (x.token.0 + 1) l a.1 in (q.0, (a.0, q.1), q.2)
+
+heading_past : (h : Heading) (i : ℕ) (l : List Spot) → Ascends i (in_heading h l) → (j : ℕ) × (i ≤ j) × Ascends j l
+unfolding Past
+heading_past h i l a =
+    let q = names_between h.formals i (in_each in_specification h.specifications l) a in
+    let r = each_past in_specification specification_past h.specifications q.0 l q.2 in
+    let one : i ≤ q.0 = between_le (name_tokens h.formals) i q.0 q.1 in
+    let two : q.0 ≤ r.0 = r.1 in
+    (r.0, omega arith, r.2)
 
 variables_between : (vs : List Variable) (i : ℕ) (l : List Spot) → Ascends i (in_each in_variable vs l) → (j : ℕ) × Between i (variable_tokens vs) j × Ascends j l
 variables_between [] i l a = (i, (let z : i ≤ i = omega arith in z), a)
@@ -174,61 +190,61 @@ segments_between (x ∷ xs) i l a =
 mutual
   unfolding Past
 
-  statement_past : (st : Statement) → PlainStatement st → (i : ℕ) (l : List Spot) → Ascends i (in_statement st l) → (j : ℕ) × (i ≤ j) × Ascends j l × AllInOrder (statement_texts st)
-  statement_past (syntax.Empty n) p i l a = (i, (let z : i ≤ i = omega arith in z), a, tt)
-  statement_past (syntax.Compound b) p i l a = block_past b p i l a
-  statement_past (syntax.Call e) p i l a = let q = expression_past e i l a in (q.0, q.1, q.2, tt)
-  statement_past (syntax.Assign e sides) p i l a = let q = two_past (in_expression e) (in_each in_side sides) (expression_past e) (each_past in_side (λ x. expression_past x.value) sides) i l a in (q.0, q.1, q.2, tt)
-  statement_past (syntax.Choose n c x rest) p i l a =
+  statement_past : (st : Statement) → (i : ℕ) (l : List Spot) → Ascends i (in_statement st l) → (j : ℕ) × (i ≤ j) × Ascends j l × AllInOrder (statement_texts st)
+  statement_past (syntax.Empty n) i l a = (i, (let z : i ≤ i = omega arith in z), a, tt)
+  statement_past (syntax.Compound b) i l a = block_past b i l a
+  statement_past (syntax.Call e) i l a = let q = expression_past e i l a in (q.0, q.1, q.2, tt)
+  statement_past (syntax.Assign e sides) i l a = let q = two_past (in_expression e) (in_each in_side sides) (expression_past e) (each_past in_side (λ x. expression_past x.value) sides) i l a in (q.0, q.1, q.2, tt)
+  statement_past (syntax.Choose n c x rest) i l a =
       let q = expression_past c i (in_statement x (in_statements rest l)) a in
-      let r = statement_past x p.1 q.0 (in_statements rest l) q.2 in
-      let t = statements_past rest p.2 r.0 l r.2 in
+      let r = statement_past x q.0 (in_statements rest l) q.2 in
+      let t = statements_past rest r.0 l r.2 in
       let one : i ≤ q.0 = q.1 in let two : q.0 ≤ r.0 = r.1 in let three : r.0 ≤ t.0 = t.1 in
       (t.0, omega arith, t.2, all_both (statement_texts x) (statements_texts rest) r.3 t.3)
-  statement_past (syntax.Repeat n c x) p i l a =
+  statement_past (syntax.Repeat n c x) i l a =
       let q = expression_past c i (in_statement x l) a in
-      let r = statement_past x p.1 q.0 l q.2 in let one : i ≤ q.0 = q.1 in let two : q.0 ≤ r.0 = r.1 in (r.0, omega arith, r.2, r.3)
-  statement_past (syntax.For n y sign m es x) p i l a =
+      let r = statement_past x q.0 l q.2 in let one : i ≤ q.0 = q.1 in let two : q.0 ≤ r.0 = r.1 in (r.0, omega arith, r.2, r.3)
+  statement_past (syntax.For n y sign m es x) i l a =
       let q = each_past in_element element_past es (y.token.0 + 1) (in_statement x l) a.1 in
-      let r = statement_past x p.1 q.0 l q.2 in
+      let r = statement_past x q.0 l q.2 in
       let zero_ : i ≤ y.token.0 = a.0 in let one : y.token.0 + 1 ≤ q.0 = q.1 in let two : q.0 ≤ r.0 = r.1 in (r.0, omega arith, r.2, r.3)
-  statement_past (syntax.Prefixed y args b) p i l a = prefixed_past y args b p.1 i l a
-  statement_past (syntax.Inner n) p i l a = (n + 1, (let le : i ≤ n = a.0 in omega arith), a.1, tt)
-  statement_past (syntax.Inspect n object d x e rest) p i l a =
+  statement_past (syntax.Prefixed y args b) i l a = prefixed_past y args b i l a
+  statement_past (syntax.Inner n) i l a = (n + 1, (let le : i ≤ n = a.0 in omega arith), a.1, tt)
+  statement_past (syntax.Inspect n object d x e rest) i l a =
       let q = expression_past object i (Token d ∷ in_statement x (Behind e ∷ in_statements rest l)) a in
-      let r = statement_past x p.1 (d + 1) (Behind e ∷ in_statements rest l) q.2.1 in
-      let t = statements_past rest p.2 e l r.2.1 in
+      let r = statement_past x (d + 1) (Behind e ∷ in_statements rest l) q.2.1 in
+      let t = statements_past rest e l r.2.1 in
       let one : i ≤ q.0 = q.1 in let two : q.0 ≤ d = q.2.0 in let three : d + 1 ≤ r.0 = r.1 in let four : r.0 ≤ e = r.2.0 in let five : e ≤ t.0 = t.1 in
       (t.0, omega arith, t.2, (tt, all_both (statement_texts x) (statements_texts rest) r.3 t.3))
-  statement_past (syntax.InspectWhen n object whens rest) p i l a =
+  statement_past (syntax.InspectWhen n object whens rest) i l a =
       let q = expression_past object i (in_arms whens (in_statements rest l)) a in
-      let r = arms_past whens p.1 q.0 (in_statements rest l) q.2 in
-      let t = statements_past rest p.2 r.0 l r.2 in
+      let r = arms_past whens q.0 (in_statements rest l) q.2 in
+      let t = statements_past rest r.0 l r.2 in
       let one : i ≤ q.0 = q.1 in let two : q.0 ≤ r.0 = r.1 in let three : r.0 ≤ t.0 = t.1 in
       (t.0, omega arith, t.2, all_both (arms_texts whens) (statements_texts rest) r.3 t.3)
-  statement_past (syntax.Activate n word process schedule) p i l a =
+  statement_past (syntax.Activate n word process schedule) i l a =
       let q = two_past (in_expression process) (in_schedule schedule) (expression_past process) (schedule_past schedule) (n + 1) l a.1 in
       let zero_ : i ≤ n = a.0 in let one : n + 1 ≤ q.0 = q.1 in (q.0, omega arith, q.2, tt)
 
-  arms_past : (arms : Arms) → PlainArms arms → (i : ℕ) (l : List Spot) → Ascends i (in_arms arms l) → (j : ℕ) × (i ≤ j) × Ascends j l × AllInOrder (arms_texts arms)
-  arms_past NoArm p i l a = (i, (let z : i ≤ i = omega arith in z), a, tt)
-  arms_past (When n class d x e more) p i l a =
-      let r = statement_past x p.0 (d + 1) (Behind e ∷ in_arms more l) a.1.1 in
-      let t = arms_past more p.1 e l r.2.1 in
+  arms_past : (arms : Arms) → (i : ℕ) (l : List Spot) → Ascends i (in_arms arms l) → (j : ℕ) × (i ≤ j) × Ascends j l × AllInOrder (arms_texts arms)
+  arms_past NoArm i l a = (i, (let z : i ≤ i = omega arith in z), a, tt)
+  arms_past (When n class d x e more) i l a =
+      let r = statement_past x (d + 1) (Behind e ∷ in_arms more l) a.1.1 in
+      let t = arms_past more e l r.2.1 in
       let one : i ≤ class.token.0 = a.0 in let two : class.token.0 + 1 ≤ d = a.1.0 in let three : d + 1 ≤ r.0 = r.1 in let four : r.0 ≤ e = r.2.0 in let five : e ≤ t.0 = t.1 in
       (t.0, omega arith, t.2, (tt, all_both (statement_texts x) (arms_texts more) r.3 t.3))
 
-  statements_past : (ss : Statements) → PlainStatements ss → (i : ℕ) (l : List Spot) → Ascends i (in_statements ss l) → (j : ℕ) × (i ≤ j) × Ascends j l × AllInOrder (statements_texts ss)
-  statements_past NoStatement p i l a = (i, (let z : i ≤ i = omega arith in z), a, tt)
-  statements_past (Also x more) p i l a =
-      let q = statement_past x p.0 i (in_statements more l) a in
-      let r = statements_past more p.1 q.0 l q.2 in let one : i ≤ q.0 = q.1 in let two : q.0 ≤ r.0 = r.1 in (r.0, omega arith, r.2, all_both (statement_texts x) (statements_texts more) q.3 r.3)
+  statements_past : (ss : Statements) → (i : ℕ) (l : List Spot) → Ascends i (in_statements ss l) → (j : ℕ) × (i ≤ j) × Ascends j l × AllInOrder (statements_texts ss)
+  statements_past NoStatement i l a = (i, (let z : i ≤ i = omega arith in z), a, tt)
+  statements_past (Also x more) i l a =
+      let q = statement_past x i (in_statements more l) a in
+      let r = statements_past more q.0 l q.2 in let one : i ≤ q.0 = q.1 in let two : q.0 ≤ r.0 = r.1 in (r.0, omega arith, r.2, all_both (statement_texts x) (statements_texts more) q.3 r.3)
 
-  prefixed_past : (class : Identifier) (args : Expressions) (b : Block) → PlainBlock b → (i : ℕ) (l : List Spot) → Ascends i (in_expression (syntax.Named class args) (in_block b l)) → (j : ℕ) × (i ≤ j) × Ascends j l × AllInOrder (prefixed_texts class args b)
-  prefixed_past class args (Begin m ds ss e) p i l a =
+  prefixed_past : (class : Identifier) (args : Expressions) (b : Block) → (i : ℕ) (l : List Spot) → Ascends i (in_expression (syntax.Named class args) (in_block b l)) → (j : ℕ) × (i ≤ j) × Ascends j l × AllInOrder (prefixed_texts class args b)
+  prefixed_past class args (Begin m ds ss e) i l a =
       let u = expression_past (syntax.Named class args) i (in_block (Begin m ds ss e) l) a in
-      let q = declarations_past ds p.0 (m + 1) (in_statements ss (Behind e ∷ l)) u.2.1 in
-      let r = statements_past ss p.1 q.0 (Behind e ∷ l) q.2 in
+      let q = declarations_past ds (m + 1) (in_statements ss (Behind e ∷ l)) u.2.1 in
+      let r = statements_past ss q.0 (Behind e ∷ l) q.2 in
       let zero_ : i ≤ u.0 = u.1 in
       let first_ : u.0 ≤ m = u.2.0 in
       let one : m + 1 ≤ q.0 = between_le (own_tokens ds) (m + 1) q.0 q.1 in
@@ -236,96 +252,96 @@ mutual
       let three : r.0 ≤ e = r.2.0 in
       (e, omega arith, r.2.1, ((m + 1, q.0, q.1), past_prefix (Some class) (declarations_texts ds ++ statements_texts ss) (all_both (declarations_texts ds) (statements_texts ss) q.3 r.3)))
 
-  block_past : (b : Block) → PlainBlock b → (i : ℕ) (l : List Spot) → Ascends i (in_block b l) → (j : ℕ) × (i ≤ j) × Ascends j l × AllInOrder (block_texts b)
-  block_past (Begin n NoDeclaration ss e) p i l a =
-      let q = statements_past ss p.1 (n + 1) (Behind e ∷ l) a.1 in
+  block_past : (b : Block) → (i : ℕ) (l : List Spot) → Ascends i (in_block b l) → (j : ℕ) × (i ≤ j) × Ascends j l × AllInOrder (block_texts b)
+  block_past (Begin n NoDeclaration ss e) i l a =
+      let q = statements_past ss (n + 1) (Behind e ∷ l) a.1 in
       let zero_ : i ≤ n = a.0 in let one : n + 1 ≤ q.0 = q.1 in let two : q.0 ≤ e = q.2.0 in (e, omega arith, q.2.1, q.3)
-  block_past (Begin n (With d ds) ss e) p i l a =
-      let q = declarations_past (With d ds) p.0 (n + 1) (in_statements ss (Behind e ∷ l)) a.1 in
-      let r = statements_past ss p.1 q.0 (Behind e ∷ l) q.2 in
+  block_past (Begin n (With d ds) ss e) i l a =
+      let q = declarations_past (With d ds) (n + 1) (in_statements ss (Behind e ∷ l)) a.1 in
+      let r = statements_past ss q.0 (Behind e ∷ l) q.2 in
       let zero_ : i ≤ n = a.0 in
       let one : n + 1 ≤ q.0 = between_le (own_tokens (With d ds)) (n + 1) q.0 q.1 in
       let two : q.0 ≤ r.0 = r.1 in
       let three : r.0 ≤ e = r.2.0 in
       (e, omega arith, r.2.1, ((n + 1, q.0, q.1), subst AllInOrder (append_assoc (declaration_texts d) (declarations_texts ds) (statements_texts ss)) (all_both (declarations_texts (With d ds)) (statements_texts ss) q.3 r.3)))
 
-  declarations_past : (ds : Declarations) → PlainDeclarations ds → (i : ℕ) (l : List Spot) → Ascends i (in_declarations ds l) → (j : ℕ) × Between i (own_tokens ds) j × Ascends j l × AllInOrder (declarations_texts ds)
-  declarations_past NoDeclaration p i l a = (i, (let z : i ≤ i = omega arith in z), a, tt)
-  declarations_past (With (Variables type vs) ds) p i l a =
+  declarations_past : (ds : Declarations) → (i : ℕ) (l : List Spot) → Ascends i (in_declarations ds l) → (j : ℕ) × Between i (own_tokens ds) j × Ascends j l × AllInOrder (declarations_texts ds)
+  declarations_past NoDeclaration i l a = (i, (let z : i ≤ i = omega arith in z), a, tt)
+  declarations_past (With (Variables type vs) ds) i l a =
       let t = type_past type i (in_each in_variable vs (in_declarations ds l)) a in
       let q = variables_between vs t.0 (in_declarations ds l) t.2 in
-      let r = declarations_past ds p.1 q.0 l q.2 in
+      let r = declarations_past ds q.0 l q.2 in
       (r.0, between_both (variable_tokens vs) (own_tokens ds) i q.0 r.0 (between_lower (variable_tokens vs) i t.0 q.0 t.1 q.1) r.1, r.2, r.3)
-  declarations_past (With (Arrays type n segments) ds) p i l a =
+  declarations_past (With (Arrays type n segments) ds) i l a =
       let t = type_past type i (in_each in_segment segments (in_declarations ds l)) a in
       let q = segments_between segments t.0 (in_declarations ds l) t.2 in
-      let r = declarations_past ds p.1 q.0 l q.2 in
+      let r = declarations_past ds q.0 l q.2 in
       (r.0, between_both (segment_tokens segments) (own_tokens ds) i q.0 r.0 (between_lower (segment_tokens segments) i t.0 q.0 t.1 q.1) r.1, r.2, r.3)
-  declarations_past (With (DeclareProcedure result n h x e) ds) p i l a =
-      let u = result_past result i (Token h.name.token.0 ∷ in_each in_name h.formals (in_statement x (Behind e ∷ in_declarations ds l))) a in
-      let q = names_between h.formals (h.name.token.0 + 1) (in_statement x (Behind e ∷ in_declarations ds l)) u.2.1 in
-      let r = statement_past x p.0.1 q.0 (Behind e ∷ in_declarations ds l) q.2 in
-      let t = declarations_past ds p.1 e l r.2.1 in
+  declarations_past (With (DeclareProcedure result n h x e) ds) i l a =
+      let u = result_past result i (Token h.name.token.0 ∷ in_heading h (in_statement x (Behind e ∷ in_declarations ds l))) a in
+      let q = heading_past h (h.name.token.0 + 1) (in_statement x (Behind e ∷ in_declarations ds l)) u.2.1 in
+      let r = statement_past x q.0 (Behind e ∷ in_declarations ds l) q.2 in
+      let t = declarations_past ds e l r.2.1 in
       let first_ : i ≤ u.0 = u.1 in
       let zero_ : u.0 ≤ h.name.token.0 = u.2.0 in
-      let one : h.name.token.0 + 1 ≤ q.0 = between_le (name_tokens h.formals) (h.name.token.0 + 1) q.0 q.1 in
+      let one : h.name.token.0 + 1 ≤ q.0 = q.1 in
       let two : q.0 ≤ r.0 = r.1 in
       let three : r.0 ≤ e = r.2.0 in
       (t.0, between_lower (own_tokens ds) i e t.0 (omega arith) t.1, t.2, (tt, all_both (statement_texts x) (declarations_texts ds) r.3 t.3))
-  declarations_past (With (DeclareClass prefix n h interface x e) ds) p i l a =
-      let u = prefix_past prefix i (in_name h.name (in_each in_name h.formals (in_each in_virtual interface.virtuals (in_statement x (Behind e ∷ in_declarations ds l))))) a in
-      let q = names_between h.formals (h.name.token.0 + 1) (in_each in_virtual interface.virtuals (in_statement x (Behind e ∷ in_declarations ds l))) u.2.1 in
+  declarations_past (With (DeclareClass prefix n h interface x e) ds) i l a =
+      let u = prefix_past prefix i (in_name h.name (in_heading h (in_each in_virtual interface.virtuals (in_statement x (Behind e ∷ in_declarations ds l))))) a in
+      let q = heading_past h (h.name.token.0 + 1) (in_each in_virtual interface.virtuals (in_statement x (Behind e ∷ in_declarations ds l))) u.2.1 in
       let v = each_past in_virtual virtual_past interface.virtuals q.0 (in_statement x (Behind e ∷ in_declarations ds l)) q.2 in
-      let r = class_past prefix n h interface x e p.0.1 v.0 (Behind e ∷ in_declarations ds l) v.2 (λ j m b. statement_past x p.0.1 j m b) in
-      let t = declarations_past ds p.1 e l r.2.1 in
+      let r = class_past prefix n h interface x e v.0 (Behind e ∷ in_declarations ds l) v.2 (λ j m b. statement_past x j m b) in
+      let t = declarations_past ds e l r.2.1 in
       let first_ : i ≤ u.0 = u.1 in
       let zero_ : u.0 ≤ h.name.token.0 = u.2.0 in
-      let one : h.name.token.0 + 1 ≤ q.0 = between_le (name_tokens h.formals) (h.name.token.0 + 1) q.0 q.1 in
+      let one : h.name.token.0 + 1 ≤ q.0 = q.1 in
       let past : q.0 ≤ v.0 = v.1 in
       let two : v.0 ≤ r.0 = r.1 in
       let three : r.0 ≤ e = r.2.0 in
       (t.0, between_lower (own_tokens ds) i e t.0 (omega arith) t.1, t.2, all_both (declaration_texts (DeclareClass prefix n h interface x e)) (declarations_texts ds) r.3 t.3)
 
   -- the body of a class
-  class_past : (prefix : Option Identifier) (n : ℕ) (h : Heading) (interface : Interface) (x : Statement) (e : ℕ) → PlainStatement x → (i : ℕ) (l : List Spot) → Ascends i (in_statement x l)
+  class_past : (prefix : Option Identifier) (n : ℕ) (h : Heading) (interface : Interface) (x : Statement) (e : ℕ) → (i : ℕ) (l : List Spot) → Ascends i (in_statement x l)
       → ((i : ℕ) (l : List Spot) → Ascends i (in_statement x l) → (j : ℕ) × (i ≤ j) × Ascends j l × AllInOrder (statement_texts x)) → (j : ℕ) × (i ≤ j) × Ascends j l × AllInOrder (declaration_texts (DeclareClass prefix n h interface x e))
-  class_past prefix n h interface (syntax.Compound (Begin m ds ss k)) e p i l a one =
-      let q = declarations_past ds p.0 (m + 1) (in_statements ss (Behind k ∷ l)) a.1 in
-      let r = statements_past ss p.1 q.0 (Behind k ∷ l) q.2 in
+  class_past prefix n h interface (syntax.Compound (Begin m ds ss k)) e i l a one =
+      let q = declarations_past ds (m + 1) (in_statements ss (Behind k ∷ l)) a.1 in
+      let r = statements_past ss q.0 (Behind k ∷ l) q.2 in
       let zero_ : i ≤ m = a.0 in
       let first_ : m + 1 ≤ q.0 = between_le (own_tokens ds) (m + 1) q.0 q.1 in
       let two : q.0 ≤ r.0 = r.1 in
       let three : r.0 ≤ k = r.2.0 in
       (k, omega arith, r.2.1, ((m + 1, q.0, q.1), past_prefix prefix (declarations_texts ds ++ statements_texts ss) (all_both (declarations_texts ds) (statements_texts ss) q.3 r.3)))
-  class_past prefix n h interface (syntax.Empty m) e p i l a one = let q = one i l a in (q.0, q.1, q.2, ((0, 0, (let z : 0 ≤ 0 = omega arith in z)), past_prefix prefix (statement_texts (syntax.Empty m)) q.3))
-  class_past prefix n h interface (syntax.Inner m) e p i l a one = let q = one i l a in (q.0, q.1, q.2, ((0, 0, (let z : 0 ≤ 0 = omega arith in z)), past_prefix prefix (statement_texts (syntax.Inner m)) q.3))
-  class_past prefix n h interface (syntax.Call c) e p i l a one = let q = one i l a in (q.0, q.1, q.2, ((0, 0, (let z : 0 ≤ 0 = omega arith in z)), past_prefix prefix (statement_texts (syntax.Call c)) q.3))
-  class_past prefix n h interface (syntax.Assign c sides) e p i l a one = let q = one i l a in (q.0, q.1, q.2, ((0, 0, (let z : 0 ≤ 0 = omega arith in z)), past_prefix prefix (statement_texts (syntax.Assign c sides)) q.3))
-  class_past prefix n h interface (syntax.Choose m c y rest) e p i l a one = let q = one i l a in (q.0, q.1, q.2, ((0, 0, (let z : 0 ≤ 0 = omega arith in z)), past_prefix prefix (statement_texts (syntax.Choose m c y rest)) q.3))
-  class_past prefix n h interface (syntax.Repeat m c y) e p i l a one = let q = one i l a in (q.0, q.1, q.2, ((0, 0, (let z : 0 ≤ 0 = omega arith in z)), past_prefix prefix (statement_texts (syntax.Repeat m c y)) q.3))
-  class_past prefix n h interface (syntax.For m y sign o es z) e p i l a one = let q = one i l a in (q.0, q.1, q.2, ((0, 0, (let z : 0 ≤ 0 = omega arith in z)), past_prefix prefix (statement_texts (syntax.For m y sign o es z)) q.3))
-  class_past prefix n h interface (syntax.Inspect m object d y k rest) e p i l a one = let q = one i l a in (q.0, q.1, q.2, ((0, 0, (let z : 0 ≤ 0 = omega arith in z)), past_prefix prefix (statement_texts (syntax.Inspect m object d y k rest)) q.3))
-  class_past prefix n h interface (syntax.InspectWhen m object arms rest) e p i l a one = let q = one i l a in (q.0, q.1, q.2, ((0, 0, (let z : 0 ≤ 0 = omega arith in z)), past_prefix prefix (statement_texts (syntax.InspectWhen m object arms rest)) q.3))
-  class_past prefix n h interface (syntax.Prefixed y args b) e p i l a one = let q = one i l a in (q.0, q.1, q.2, ((0, 0, (let z : 0 ≤ 0 = omega arith in z)), past_prefix prefix (statement_texts (syntax.Prefixed y args b)) q.3))
-  class_past prefix n h interface (syntax.Activate m word process schedule) e p i l a one = let q = one i l a in (q.0, q.1, q.2, ((0, 0, (let z : 0 ≤ 0 = omega arith in z)), past_prefix prefix (statement_texts (syntax.Activate m word process schedule)) q.3))
+  class_past prefix n h interface (syntax.Empty m) e i l a one = let q = one i l a in (q.0, q.1, q.2, ((0, 0, (let z : 0 ≤ 0 = omega arith in z)), past_prefix prefix (statement_texts (syntax.Empty m)) q.3))
+  class_past prefix n h interface (syntax.Inner m) e i l a one = let q = one i l a in (q.0, q.1, q.2, ((0, 0, (let z : 0 ≤ 0 = omega arith in z)), past_prefix prefix (statement_texts (syntax.Inner m)) q.3))
+  class_past prefix n h interface (syntax.Call c) e i l a one = let q = one i l a in (q.0, q.1, q.2, ((0, 0, (let z : 0 ≤ 0 = omega arith in z)), past_prefix prefix (statement_texts (syntax.Call c)) q.3))
+  class_past prefix n h interface (syntax.Assign c sides) e i l a one = let q = one i l a in (q.0, q.1, q.2, ((0, 0, (let z : 0 ≤ 0 = omega arith in z)), past_prefix prefix (statement_texts (syntax.Assign c sides)) q.3))
+  class_past prefix n h interface (syntax.Choose m c y rest) e i l a one = let q = one i l a in (q.0, q.1, q.2, ((0, 0, (let z : 0 ≤ 0 = omega arith in z)), past_prefix prefix (statement_texts (syntax.Choose m c y rest)) q.3))
+  class_past prefix n h interface (syntax.Repeat m c y) e i l a one = let q = one i l a in (q.0, q.1, q.2, ((0, 0, (let z : 0 ≤ 0 = omega arith in z)), past_prefix prefix (statement_texts (syntax.Repeat m c y)) q.3))
+  class_past prefix n h interface (syntax.For m y sign o es z) e i l a one = let q = one i l a in (q.0, q.1, q.2, ((0, 0, (let z : 0 ≤ 0 = omega arith in z)), past_prefix prefix (statement_texts (syntax.For m y sign o es z)) q.3))
+  class_past prefix n h interface (syntax.Inspect m object d y k rest) e i l a one = let q = one i l a in (q.0, q.1, q.2, ((0, 0, (let z : 0 ≤ 0 = omega arith in z)), past_prefix prefix (statement_texts (syntax.Inspect m object d y k rest)) q.3))
+  class_past prefix n h interface (syntax.InspectWhen m object arms rest) e i l a one = let q = one i l a in (q.0, q.1, q.2, ((0, 0, (let z : 0 ≤ 0 = omega arith in z)), past_prefix prefix (statement_texts (syntax.InspectWhen m object arms rest)) q.3))
+  class_past prefix n h interface (syntax.Prefixed y args b) e i l a one = let q = one i l a in (q.0, q.1, q.2, ((0, 0, (let z : 0 ≤ 0 = omega arith in z)), past_prefix prefix (statement_texts (syntax.Prefixed y args b)) q.3))
+  class_past prefix n h interface (syntax.Activate m word process schedule) e i l a one = let q = one i l a in (q.0, q.1, q.2, ((0, 0, (let z : 0 ≤ 0 = omega arith in z)), past_prefix prefix (statement_texts (syntax.Activate m word process schedule)) q.3))
 
 -- each text of a program
-pub text_in_order : (s : Source) → Plain s.program → InOrder s.program → (k : ℕ) (x : Text) → text s k ≡ Some x → TextInOrder x
+pub text_in_order : (s : Source) → InOrder s.program → (k : ℕ) (x : Text) → text s k ≡ Some x → TextInOrder x
 unfolding text
-text_in_order s plain order k x at = among (program_texts s.program.prefix s.program.block) k (all s.program.prefix s.program.block plain.start plain.block order) at
+text_in_order s order k x at = among (program_texts s.program.prefix s.program.block) k (all s.program.prefix s.program.block order) at
   where
     among : (xs : List Text) (k : ℕ) → AllInOrder xs → slice_get xs k ≡ Some x → TextInOrder x
     among [] k a at = absurd (cc)
     among (y ∷ xs) zero a at = subst TextInOrder (let e : y ≡ x = cc in e) a.0
     among (y ∷ xs) (suc k) a at = among xs k a.1 at
 
-    all : (prefix : Option Prefix) (b : Block) → PlainStart prefix → PlainBlock b → Ascends 0 (in_block b []) → AllInOrder (program_texts prefix b)
-    all (Some p) (Begin i ds ss end) e q a =
-        let d = declarations_past ds q.0 (i + 1) (in_statements ss (Behind end ∷ [])) a.1 in
-        let r = statements_past ss q.1 d.0 (Behind end ∷ []) d.2 in ((i + 1, d.0, d.1), past_prefix (Some p.class) (declarations_texts ds ++ statements_texts ss) (all_both (declarations_texts ds) (statements_texts ss) d.3 r.3))
-    all None (Begin i ds ss end) e q a =
-        let d = declarations_past ds q.0 (i + 1) (in_statements ss (Behind end ∷ [])) a.1 in
-        let r = statements_past ss q.1 d.0 (Behind end ∷ []) d.2 in ((i + 1, d.0, d.1), all_both (declarations_texts ds) (statements_texts ss) d.3 r.3)
+    all : (prefix : Option Prefix) (b : Block) → Ascends 0 (in_block b []) → AllInOrder (program_texts prefix b)
+    all (Some p) (Begin i ds ss end) a =
+        let d = declarations_past ds (i + 1) (in_statements ss (Behind end ∷ [])) a.1 in
+        let r = statements_past ss d.0 (Behind end ∷ []) d.2 in ((i + 1, d.0, d.1), past_prefix (Some p.class) (declarations_texts ds ++ statements_texts ss) (all_both (declarations_texts ds) (statements_texts ss) d.3 r.3))
+    all None (Begin i ds ss end) a =
+        let d = declarations_past ds (i + 1) (in_statements ss (Behind end ∷ [])) a.1 in
+        let r = statements_past ss d.0 (Behind end ∷ []) d.2 in ((i + 1, d.0, d.1), all_both (declarations_texts ds) (statements_texts ss) d.3 r.3)
 
 -- ---- the arrays of a block are distinct
 
@@ -403,11 +419,11 @@ module _ (s : Source) where
   block_apart (With (DeclareProcedure result n h x e) ds) i j b = block_apart ds i j b
   block_apart (With (DeclareClass prefix n h interface x e) ds) i j b = block_apart ds i j b
 
-  pub distinct : Plain s.program → InOrder s.program → (k i : ℕ) (ds : Declarations) (ss : Statements) → text s k ≡ Some (BlockText i ds ss) → Distinct (arrays_of_block s ds)
-  distinct plain order k i ds ss at = let q = text_in_order s plain order k (BlockText i ds ss) at in (block_apart ds q.0 q.1 q.2).0
+  pub distinct : InOrder s.program → (k i : ℕ) (ds : Declarations) (ss : Statements) → text s k ≡ Some (BlockText i ds ss) → Distinct (arrays_of_block s ds)
+  distinct order k i ds ss at = let q = text_in_order s order k (BlockText i ds ss) at in (block_apart ds q.0 q.1 q.2).0
 
-  pub distinct_class : Plain s.program → InOrder s.program → (k : ℕ) (prefix : Option Identifier) (h : Heading) (ds : Declarations) (ss : Statements) → text s k ≡ Some (ClassText prefix h ds ss) → Distinct (arrays_of_block s ds)
-  distinct_class plain order k prefix h ds ss at = let q = text_in_order s plain order k (ClassText prefix h ds ss) at in (block_apart ds q.0 q.1 q.2).0
+  pub distinct_class : InOrder s.program → (k : ℕ) (prefix : Option Identifier) (h : Heading) (ds : Declarations) (ss : Statements) → text s k ≡ Some (ClassText prefix h ds ss) → Distinct (arrays_of_block s ds)
+  distinct_class order k prefix h ds ss at = let q = text_in_order s order k (ClassText prefix h ds ss) at in (block_apart ds q.0 q.1 q.2).0
 
-  pub distinct_prefixed : Plain s.program → InOrder s.program → (k : ℕ) (class : Identifier) (es : Expressions) (ds : Declarations) (ss : Statements) → text s k ≡ Some (PrefixedText class es ds ss) → Distinct (arrays_of_block s ds)
-  distinct_prefixed plain order k class es ds ss at = let q = text_in_order s plain order k (PrefixedText class es ds ss) at in (block_apart ds q.0 q.1 q.2).0
+  pub distinct_prefixed : InOrder s.program → (k : ℕ) (class : Identifier) (es : Expressions) (ds : Declarations) (ss : Statements) → text s k ≡ Some (PrefixedText class es ds ss) → Distinct (arrays_of_block s ds)
+  distinct_prefixed order k class es ds ss at = let q = text_in_order s order k (PrefixedText class es ds ss) at in (block_apart ds q.0 q.1 q.2).0

@@ -1,4 +1,4 @@
--- Each declaration of an allowed plain program is found by the token of its identifier.
+-- Each declaration of an allowed program is found by the token of its identifier.
 use Rattle.std.proofs.Common.{◌≡◌, ◌<◌, ◌+◌, ◌⊎◌, inl, inr, ℕ, zero, suc, true, false, List, [], ◌∷◌, Some, refl, sym, ap, ◌∙◌, arith}
 use Rattle.std.specs.Prelude.{◌==◌, if◌then◌else◌, slice_get}
 use Rattle.std.proofs.lemmas.Bool.Decides.{nat_tests}
@@ -8,7 +8,6 @@ use Rattle.sim_agree.specs.Order.{InOrder}
 use Rattle.sim_scope.specs.declared.scopes.Declaration.{Declaration}
 use Rattle.sim_scope.specs.Source.{Source}
 use Rattle.sim_meaning.specs.Texts.{declared_at, number_from}
-use Rattle.sim_agree.specs.Plain.{Plain}
 use Rattle.sim_agree.specs.TablesOf.{TablesOf}
 use Rattle.sim_scope.specs.declared.types.Entry.{Entry}
 use Rattle.sim_scope.specs.declared.types.Entry.TheVariants as entry
@@ -51,13 +50,13 @@ own_before old new r o = (sym r.listed ∙ o.0, go r.entry)
     go (inl e) = ap is_attribute (sym e) ∙ o.1
     go (inr q) = back old.entry q.1.0 q.0
 
-module _ (s : Source) (of : TablesOf s) (plain : Plain s.program) (order : InOrder s.program) where
+module _ (s : Source) (of : TablesOf s) (order : InOrder s.program) where
   -- the tokens of declarations ascend
   ascending : (d e : ℕ) (row other : Declaration) → slice_get s.tables.declarations d ≡ Some row → slice_get s.tables.declarations e ≡ Some other → d < e → IsOwn other → row.token.0 < other.token.0
   ascending d e row other at to lt own =
-      let v = (t.completed_tables s of plain order).rows.was d row at in
-      let w = (t.completed_tables s of plain order).rows.was e other to in
-      let r : v.0.token.0 < w.0.token.0 = (program_final s.program plain order).laid.rising d e v.0 w.0 v.1 w.1 lt (own_before w.0 other w.2 own) in
+      let v = (t.completed_tables s of order).rows.was d row at in
+      let w = (t.completed_tables s of order).rows.was e other to in
+      let r : v.0.token.0 < w.0.token.0 = (program_final s.program order).laid.rising d e v.0 w.0 v.1 w.1 lt (own_before w.0 other w.2 own) in
       let x : row.token.0 ≡ v.0.token.0 = ap (λ (z : TokenNo). z.0) v.2.token in
       let y : other.token.0 ≡ w.0.token.0 = ap (λ (z : TokenNo). z.0) w.2.token in
       omega (arith, r, x, y)

@@ -1,4 +1,4 @@
--- What is known of the tables of an allowed program without arrays by name and formal procedures.
+-- What is known of the tables of an allowed program.
 use Rattle.std.specs.Prelude.{◌≡◌, ◌<◌, ◌⊎◌, ℕ, Bool, true, false, List, [], length, Option, Some, None, slice_get}
 use Rattle.sim_base.specs.declared.numbering.DeclNo.{DeclNo}
 use Rattle.sim_scope.specs.declared.scopes.Denotation.TheVariants as denotation
@@ -7,11 +7,10 @@ use Rattle.sim_scope.specs.declared.types.Entry.{Entry}
 use Rattle.sim_scope.specs.declared.types.Entry.TheVariants as entry
 use Rattle.sim_scope.specs.declared.types.FormalKind.{FormalKind}
 use Rattle.sim_scope.specs.declared.types.FormalKind.TheVariants as shape
-use Rattle.sim_scope.specs.declared.types.Mode.{Mode}
-use Rattle.sim_scope.specs.declared.types.Mode.TheVariants as mode
 use Rattle.sim_scope.specs.declared.types.SimType.{SimType}
 use Rattle.sim_scope.specs.declared.types.SimType.TheVariants as t
 use Rattle.sim_scope.specs.declared.types.StandardClass.{StandardClass}
+use Rattle.sim_scope.specs.declared.types.StandardClass.TheVariants as standard_class
 use Rattle.sim_scope.specs.declared.types.StandardPrefix.{StandardPrefix}
 use Rattle.sim_scope.specs.Building.{name_of}
 use Rattle.sim_scope.specs.Calls.{attribute_in, is_inside, match_seen}
@@ -30,6 +29,7 @@ use Rattle.sim_meaning.specs.Entries.{formals_of, numbers_of}
 use Rattle.sim_meaning.specs.Levels.{is_class, has_levels}
 use Rattle.sim_meaning.specs.Texts.{constant_of, kind_of_type, text, PrefixedText, StandardText}
 use Rattle.sim_sound.specs.Held.{Around}
+use Rattle.sim_sound.specs.Expressions.{ProcessClassThere}
 use Rattle.sim_sound.specs.Typed.{FormalsAre, Prefixes}
 use Rattle.sim_scope.specs.Statements.{prefix_in}
 use Rattle.sim_tree.specs.declared.expr.Identifier.{Identifier}
@@ -79,11 +79,11 @@ abbrev pub ProperResult : Source → Option SimType → Type 0
 ProperResult s None = Unit {0}
 ProperResult s (Some type) = ProperType s type
 
-abbrev pub ProperFormal : Source → Mode → FormalKind → Option SimType → Type 0
-ProperFormal s mode.ByName shape.Array type = ⊥
-ProperFormal s m shape.Procedure type = ⊥
-ProperFormal s m k None = ⊥
-ProperFormal s m k (Some type) = ProperType s type
+abbrev pub ProperFormal : Source → FormalKind → Option SimType → Type 0
+ProperFormal s shape.Procedure type = ProperResult s type
+ProperFormal s shape.Simple None = ⊥
+ProperFormal s shape.Array None = ⊥
+ProperFormal s k (Some type) = ProperType s type
 
 -- an attribute of a standard class, or of `simulation` itself
 abbrev pub IsAttribute : Standard → Type 0
@@ -97,7 +97,7 @@ ProperEntry s (entry.Array element dimensions) = ProperType s element
 ProperEntry s (entry.Procedure result k) = ProperResult s result
 ProperEntry s (entry.Class k) = Unit {0}
 ProperEntry s (entry.Virtual result own) = ProperResult s result
-ProperEntry s (entry.Formal f) = ProperFormal s f.mode f.kind f.ty
+ProperEntry s (entry.Formal f) = ProperFormal s f.kind f.ty
 ProperEntry s (entry.Attribute name parameter result) = IsAttribute name × ProperResult s parameter × ProperResult s result
 ProperEntry s _ = ⊥
 
@@ -158,6 +158,8 @@ pub record Tabled (s : Source) : Type 0 where
   pub simulation_levels : (k : ℕ) → is_simulation_block s.tables k ≡ true → has_levels (text s k) ≡ true
   -- a standard class is found by its name
   pub class_named : (token : ℕ) (name : List ℕ) (d : DeclNo) (k : ℕ) (which : StandardClass) → binding s.tables token name ≡ Some (denotation.Declared d) → entry_of s.tables d ≡ Some (entry.Class k) → text s k ≡ Some (StandardText which) → name ≡ name_of which
+  -- and a class `process` was brought by `simulation`
+  pub processes_found : (token : ℕ) (name : List ℕ) (d : DeclNo) (k : ℕ) → binding s.tables token name ≡ Some (denotation.Declared d) → entry_of s.tables d ≡ Some (entry.Class k) → text s k ≡ Some (StandardText standard_class.Process) → ProcessClassThere s k
   -- the prefix of a block is a declared class, or a standard one
   pub block_prefixes : (k : ℕ) (class : Identifier) (es : Expressions) (ds : Declarations) (ss : Statements) → text s k ≡ Some (PrefixedText class es ds ss) → BlockPrefix s k ⊎ StandardPrefixed s k
   -- a class has levels, and so has a block of the kind of a class or of one with a prefix

@@ -1,4 +1,3 @@
-pub mod Plain
 pub mod Places
 pub mod Facts
 pub mod Inners

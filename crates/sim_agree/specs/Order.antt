@@ -1,11 +1,24 @@
--- The tokens of a program stand in the order of its text, those of the names in its virtual parts too.
+-- The tokens of a program stand in the order of its text, those of the names in its virtual parts and of the classes in its specifications too.
 use Rattle.std.specs.Prelude.{List, [], ◌∷◌}
 use Rattle.sim_tree.specs.Order.{Ascends, Behind, Spot, Token, in_each, in_element, in_expression, in_name, in_prefix, in_result, in_schedule, in_segment, in_side, in_type, in_variable}
 use Rattle.sim_tree.specs.Syntax as s
-use Rattle.sim_tree.specs.Syntax.{Statement, Statements, Arms, Block, Declarations, Declaration, Program, Virtual}
+use Rattle.sim_tree.specs.Syntax.{Statement, Statements, Arms, Block, Declarations, Declaration, Heading, Program, Specification, Specified, Virtual}
 
 abbrev pub in_virtual : Virtual → List Spot → List Spot
 in_virtual v l = in_result v.result (in_each in_name v.names l)
+
+-- the class of a specification
+abbrev pub in_specified : Specified → List Spot → List Spot
+in_specified (s.Simple type) l = in_type type l
+in_specified (s.Array type i) l = in_type type l
+in_specified (s.Procedure result i) l = in_result result l
+
+abbrev pub in_specification : Specification → List Spot → List Spot
+in_specification x l = in_specified x.kind l
+
+-- the parameters of a heading, and the classes of its specifications
+abbrev pub in_heading : Heading → List Spot → List Spot
+in_heading h l = in_each in_name h.formals (in_each in_specification h.specifications l)
 
 abbrev mutual
   pub in_statement : Statement → List Spot → List Spot
@@ -41,9 +54,9 @@ abbrev mutual
   in_declaration (s.Variables t vs) l = in_type t (in_each in_variable vs l)
   in_declaration (s.Arrays t i segments) l = in_type t (in_each in_segment segments l)
   in_declaration (s.DeclareProcedure result i heading x end) l =
-      in_result result (in_name heading.name (in_each in_name heading.formals (in_statement x (Behind end ∷ l))))
+      in_result result (in_name heading.name (in_heading heading (in_statement x (Behind end ∷ l))))
   in_declaration (s.DeclareClass prefix i heading interface x end) l =
-      in_prefix prefix (in_name heading.name (in_each in_name heading.formals (in_each in_virtual interface.virtuals (in_statement x (Behind end ∷ l)))))
+      in_prefix prefix (in_name heading.name (in_heading heading (in_each in_virtual interface.virtuals (in_statement x (Behind end ∷ l)))))
 
 -- the tokens of a program ascend
 abbrev pub InOrder : Program → Type 0

@@ -1,6 +1,6 @@
 -- Where the parts of a text stand: the innermost block around each identifier that is used in it is the block of the text, a dot is another token
 -- than the attribute behind it, and each of the text's sub-blocks and prefixed blocks stands in it.
-use Rattle.std.specs.Prelude.{◌≡◌, ℕ, Option, Some, None, false, nat_eq}
+use Rattle.std.specs.Prelude.{◌≡◌, ℕ, List, [], ◌∷◌, Option, Some, None, false, nat_eq}
 use Rattle.sim_scope.specs.Access.{block_at, encloser}
 use Rattle.sim_scope.specs.declared.outcome.Extent.TheVariants as extent
 use Rattle.sim_scope.specs.declared.scopes.Denotation.{Denotation}
@@ -16,9 +16,13 @@ use Rattle.sim_sound.specs.Statements.{BlockIs, ConnectionIs, InnerIs}
 use Rattle.sim_tree.specs.declared.expr.Identifier.{Identifier}
 use Rattle.sim_tree.specs.Syntax as s
 use Rattle.sim_tree.specs.Syntax.{Expression, Expressions, Statement, Statements, Arms, Block, Declarations, RightSide, Element, Schedule, BoundPair, Arrayed}
-use Rattle.sim_agree.specs.Plain.{Each}
 use Rattle.sim_meaning.specs.Texts.{PrefixedText, text}
 use Rattle.sim_scope.specs.Walk.{begin_of}
+
+-- of each element of a list
+abbrev pub Each : {A : Type 0} → (A → Type 0) → List A → Type 0
+Each P [] = Unit {0}
+Each P (x ∷ xs) = P x × Each P xs
 
 -- the innermost block around the token of an identifier
 abbrev pub PlacedName : Tables → (block : ℕ) → Identifier → Type 0

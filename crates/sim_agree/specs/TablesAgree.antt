@@ -6,6 +6,7 @@ use Rattle.sim_scope.specs.declared.scopes.Denotation.TheVariants as denotation
 use Rattle.sim_scope.specs.declared.types.Entry.{Entry}
 use Rattle.sim_scope.specs.declared.types.Entry.TheVariants as entry
 use Rattle.sim_scope.specs.declared.types.Formal.{Formal}
+use Rattle.sim_scope.specs.declared.types.FormalKind.TheVariants as shape
 use Rattle.sim_scope.specs.declared.types.Mode.TheVariants as mode
 use Rattle.sim_scope.specs.declared.types.SimType.{SimType}
 use Rattle.sim_scope.specs.declared.types.StandardClass.{StandardClass}
@@ -29,7 +30,8 @@ use Rattle.sim_meaning.specs.Entries.{formals_of, numbers_of}
 use Rattle.sim_meaning.specs.Levels.{is_class, has_levels}
 use Rattle.sim_meaning.specs.Texts.{BlockText, ClassText, ProcedureText, StandardText, Text, declared_at, is_class_free, program_texts, text, PrefixedText}
 use Rattle.sim_sound.specs.Held.{Among, Around, IsFormal}
-use Rattle.sim_sound.specs.Typed.{ClassThere, Distinct, FormalsAre, NoFormals, Prefixes, ProcedureThere, ProcessClassThere, SetClassThere, SetClasses, SetProcedureThere, SimulationClasses, SimulationProcedureThere, Starts, arrays_of_block}
+use Rattle.sim_sound.specs.Expressions.{ProcessClassThere}
+use Rattle.sim_sound.specs.Typed.{ClassThere, Distinct, FormalsAre, NoFormals, Prefixes, ProcedureThere, SetClassThere, SetClasses, SetProcedureThere, SimulationClasses, SimulationProcedureThere, Starts, arrays_of_block}
 use Rattle.sim_agree.specs.Facts.{BlockPrefix, Found, IsAttribute, StandardPrefixed}
 
 -- what the program declares itself: no standard class, and no attribute of one or of `simulation`
@@ -104,8 +106,8 @@ pub record TablesAgree (s : Source) : Type 0 where
   pub different : (k : ℕ) → Distinct (numbers_of s k)
   -- the first of these are its formal parameters, as many as it has
   pub parameters : (k n : ℕ) (d : DeclNo) → slice_get (formals_in (slice_get s.tables.blocks k)) n ≡ Some d → (f : Formal) × (entry_of s.tables d ≡ Some (entry.Formal f))
-  -- a parameter by name is that of a procedure
-  pub by_name : (d : DeclNo) (f : Formal) → entry_of s.tables d ≡ Some (entry.Formal f) → f.mode ≡ mode.ByName → has_levels (text s (block_of s d)) ≡ false
+  -- a parameter by name, or one that is a procedure, is that of a procedure
+  pub by_name : (d : DeclNo) (f : Formal) → entry_of s.tables d ≡ Some (entry.Formal f) → (f.mode ≡ mode.ByName) ⊎ (f.kind ≡ shape.Procedure) → has_levels (text s (block_of s d)) ≡ false
   -- a virtual is declared in a class
   pub virtuals : (d : DeclNo) (result : Option SimType) (own : Option DeclNo) → entry_of s.tables d ≡ Some (entry.Virtual result own) → is_class (text s (block_of s d)) ≡ true
   -- the text of a procedure and of a class stands in that of its declaration, and belongs to it

@@ -1,6 +1,6 @@
--- The tables of an allowed plain program agree with its texts as far as its being typed rests on them: from the agreement of tables alone, where
+-- The tables of an allowed program agree with its texts as far as its being typed rests on them: from the agreement of tables alone, where
 -- the parts of each text stand in it.
-use Rattle.std.proofs.Common.{◌≡◌, ℕ, ◌+◌, ◌⊎◌, inl, inr, Bool, true, false, List, [], ◌∷◌, Option, Some, None, refl, sym, ap, ◌∙◌, arith, if◌then◌else◌}
+use Rattle.std.proofs.Common.{◌≡◌, ℕ, ◌+◌, ◌⊎◌, inl, inr, Bool, true, false, List, [], ◌∷◌, Option, Some, None, refl, sym, ap, ◌∙◌, arith, if◌then◌else◌, subst}
 use Rattle.std.proofs.lemmas.Bool.{false≢true}
 use Rattle.std.specs.Prelude.{slice_get}
 use Rattle.sim_base.specs.declared.numbering.DeclNo.{DeclNo}
@@ -32,7 +32,6 @@ use Rattle.sim_scope.specs.Tables.{BlockOf}
 use Rattle.sim_scope.specs.Walk.{program_events}
 use Rattle.sim_tree.specs.declared.expr.Identifier.{Identifier}
 use Rattle.sim_tree.specs.Syntax.{Declarations, Heading, Statements, Expressions}
-use Rattle.sim_values.specs.declared.kind.Kind.{Kind}
 use Rattle.sim_values.specs.declared.standard.Owner.{Owner}
 use Rattle.sim_values.specs.declared.standard.Owner.TheVariants as owner
 use Rattle.sim_values.specs.declared.standard.Standard.{Standard}
@@ -41,12 +40,11 @@ use Rattle.sim_meaning.specs.Attributes.{first_in, is_connection}
 use Rattle.sim_meaning.specs.Closing.{class_parameters}
 use Rattle.sim_meaning.specs.Entries.{numbers_of}
 use Rattle.sim_meaning.specs.Levels.{has_levels, is_class, qualification}
-use Rattle.sim_meaning.specs.Texts.{BlockText, ClassText, ConnectionText, ProcedureText, StandardText, Text, text, PrefixedText}
+use Rattle.sim_meaning.specs.Texts.{kind_of_type, BlockText, ClassText, ConnectionText, ProcedureText, StandardText, Text, text, PrefixedText}
 use Rattle.sim_meaning.specs.Virtuals.{match_in_text}
-use Rattle.sim_sound.specs.Held.{Among, ArrayOf, ByName, Holds, entry_holds, first, formal_holds, held_by, later, reference_to}
+use Rattle.sim_sound.specs.Held.{Among, ArrayOf, ByName, Holds, Place, Procedure, Simply, entry_holds, first, formal_holds, held_by, later, reference_to}
 use Rattle.sim_sound.specs.Typed.{ConnectionTyped, FormalsAre, IsAttribute, NoFormal, NoFormals, SetClasses, SetProcedureThere, owner_place, MatchThere}
 use Rattle.sim_agree.specs.Facts.{Tabled}
-use Rattle.sim_agree.specs.Plain.{Plain}
 use Rattle.sim_agree.specs.TablesAgree.{TablesAgree, is_attribute}
 use Rattle.sim_agree.specs.TablesOf.{TablesOf}
 use Rattle.sim_agree.proofs.Connected.{connections_connect}
@@ -56,14 +54,15 @@ use Rattle.sim_agree.proofs.Matches.{match_found, seen_fits}
 use Rattle.sim_agree.proofs.Placing.{block_placed, body_placed, class_placed, prefixed_placed}
 use Rattle.sim_agree.proofs.Proper.{proper}
 use Rattle.sim_agree.proofs.Results.{result_written}
-use Rattle.sim_agree.proofs.Simulating.{attribute_simulates, found_named, found_simulates}
+use Rattle.sim_agree.proofs.Simulating.{attribute_simulates, found_named, found_simulates, process_found}
 use Rattle.sim_agree.proofs.Tables.{row_entry}
 use Rattle.sim_agree.proofs.Whole.{tables_agree}
-use Rattle.sim_allowed.specs.MatchParameters.{has_match_with_parameters}
 use Rattle.sim_allowed.proofs.Allowed.{AllowedIs}
 use Rattle.sim_allowed.proofs.Bounds.{ArraysNamed}
 use Rattle.sim_allowed.proofs.Constants.{constant_is, constant_plain}
-use Rattle.sim_allowed.proofs.Matching.{no_parameters, result_given}
+use Rattle.sim_allowed.proofs.Expressions.{AllNear}
+use Rattle.sim_allowed.proofs.Matching.{result_given}
+use Rattle.sim_allowed.proofs.NearFormals.{all_near, formals_near}
 use Rattle.sim_allowed.proofs.Outside.{connected_fine, outside}
 use Rattle.sim_allowed.proofs.Whole.{Agreed}
 
@@ -72,7 +71,6 @@ pub record Written (s : Source) : Type 0 where
   pub arrays : (k i : ℕ) (ds : Declarations) (ss : Statements) → text s k ≡ Some (BlockText i ds ss) → ArraysNamed s ds
   pub class_arrays : (k : ℕ) (prefix : Option Identifier) (h : Heading) (ds : Declarations) (ss : Statements) → text s k ≡ Some (ClassText prefix h ds ss) → ArraysNamed s ds
   pub prefixed_arrays : (k : ℕ) (class : Identifier) (es : Expressions) (ds : Declarations) (ss : Statements) → text s k ≡ Some (PrefixedText class es ds ss) → ArraysNamed s ds
-  pub alone : has_match_with_parameters s ≡ false
 
 -- nothing in a list without formal parameters is one
 no_formal : (s : Source) (d : DeclNo) (ds : List DeclNo) → NoFormals s ds → Among d ds → NoFormal (entry_of s.tables d)
@@ -188,48 +186,62 @@ cells_listed s g d row h at holds = go row.listed refl
         unlisted (inr (inl q)) = attribute_no_cell s row.entry h q holds
         unlisted (inr (inr q)) = procedure_no_cell s row.entry h q holds
 
--- what holds an actual parameter is a parameter by name, and that of no class
-no_actual : (s : Source) (type : SimType) (kind : Kind) → held_by s type ≡ ByName kind → ⊥
-no_actual s t.Integer kind e = cc
-no_actual s t.Boolean kind e = cc
-no_actual s t.Character kind e = cc
-no_actual s t.Text kind e = cc
-no_actual s t.NoneType kind e = cc
-no_actual s (t.Ref d) kind e = go (qualification s (Some (t.Ref d))) e
+-- what holds an actual parameter by name, or a procedure, is a parameter, and that of no class
+abbrev Special : Holds → Type 0
+Special (ByName h) = Unit {0}
+Special (Procedure r) = Unit {0}
+Special _ = ⊥
+
+no_special : (s : Source) (type : SimType) → Special (held_by s type) → ⊥
+no_special s t.Integer e = e
+no_special s t.Boolean e = e
+no_special s t.Character e = e
+no_special s t.Text e = e
+no_special s t.NoneType e = e
+no_special s (t.Ref d) e = go (qualification s (Some (t.Ref d))) e
   where
-    go : (o : Option ℕ) → reference_to o ≡ ByName kind → ⊥
-    go None f = cc
-    go (Some c) f = cc
+    go : (o : Option ℕ) → Special (reference_to o) → ⊥
+    go None f = f
+    go (Some c) f = f
 
-actual_mode : (s : Source) (m : Mode) (k : FormalKind) (type : Option SimType) (kind : Kind) → formal_holds s m k type ≡ Some (ByName kind) → m ≡ mode.ByName
-actual_mode s mode.ByName k type kind e = refl
-actual_mode s mode.ByValue shape.Simple (Some type) kind e = absurd (no_actual s type kind (some_same (held_by s type) (ByName kind) e))
-actual_mode s mode.ByReference shape.Simple (Some type) kind e = absurd (no_actual s type kind (some_same (held_by s type) (ByName kind) e))
-actual_mode s mode.ByValue shape.Array (Some type) kind e = absurd (cc)
-actual_mode s mode.ByReference shape.Array (Some type) kind e = absurd (cc)
-actual_mode s mode.ByValue shape.Simple None kind e = absurd (cc)
-actual_mode s mode.ByReference shape.Simple None kind e = absurd (cc)
-actual_mode s mode.ByValue shape.Array None kind e = absurd (cc)
-actual_mode s mode.ByReference shape.Array None kind e = absurd (cc)
-actual_mode s mode.ByValue shape.Procedure type kind e = absurd (cc)
-actual_mode s mode.ByReference shape.Procedure type kind e = absurd (cc)
+same_special : (g h : Holds) → Some g ≡ Some h → Special h → Special g
+same_special g h e a = let same : h ≡ g = sym (some_same g h e) in subst Special same a
 
-actual_entry : (s : Source) (o : Option Entry) (kind : Kind) → entry_holds s true o ≡ Some (ByName kind) → (f : Formal) × (o ≡ Some (entry.Formal f)) × (f.mode ≡ mode.ByName)
-actual_entry s (Some (entry.Formal f)) kind e = (f, refl, actual_mode s f.mode f.kind f.ty kind e)
-actual_entry s (Some (entry.Variable type)) kind e = absurd (no_actual s type kind (some_same (held_by s type) (ByName kind) e))
-actual_entry s (Some (entry.Constant type)) kind e = absurd (cc)
-actual_entry s (Some (entry.Array element dimensions)) kind e = absurd (cc)
-actual_entry s (Some (entry.Procedure result k)) kind e = absurd (cc)
-actual_entry s (Some (entry.Class k)) kind e = absurd (cc)
-actual_entry s (Some (entry.Virtual result own)) kind e = absurd (cc)
-actual_entry s (Some (entry.Unspecified w)) kind e = absurd (cc)
-actual_entry s (Some (entry.Attribute name given result)) kind e = absurd (cc)
-actual_entry s None kind e = absurd (cc)
+special_formal : (s : Source) (m : Mode) (k : FormalKind) (type : Option SimType) (h : Holds) → formal_holds s m k type ≡ Some h → Special h → (m ≡ mode.ByName) ⊎ (k ≡ shape.Procedure)
+special_formal s mode.ByName k type h e a = inl refl
+special_formal s mode.ByValue shape.Simple (Some type) h e a = absurd (no_special s type (same_special (held_by s type) h e a))
+special_formal s mode.ByReference shape.Simple (Some type) h e a = absurd (no_special s type (same_special (held_by s type) h e a))
+special_formal s mode.ByValue shape.Array (Some type) h e a = absurd (same_special (ArrayOf (held_by s type)) h e a)
+special_formal s mode.ByReference shape.Array (Some type) h e a = absurd (same_special (ArrayOf (held_by s type)) h e a)
+special_formal s mode.ByValue shape.Simple None h e a = absurd (cc)
+special_formal s mode.ByReference shape.Simple None h e a = absurd (cc)
+special_formal s mode.ByValue shape.Array None h e a = absurd (cc)
+special_formal s mode.ByReference shape.Array None h e a = absurd (cc)
+special_formal s mode.ByValue shape.Procedure type h e a = inr refl
+special_formal s mode.ByReference shape.Procedure type h e a = inr refl
 
-not_by_name : (s : Source) → TablesAgree s → (k : ℕ) → has_levels (text s k) ≡ true → (d : DeclNo) (kind : Kind) → Among d (numbers_of s k) → entry_holds s true (entry_of s.tables d) ≡ Some (ByName kind) → ⊥
-not_by_name s g k levels d kind among holds =
-    let f = actual_entry s (entry_of s.tables d) kind holds in
+special_entry : (s : Source) (o : Option Entry) (h : Holds) → entry_holds s true o ≡ Some h → Special h → (f : Formal) × (o ≡ Some (entry.Formal f)) × ((f.mode ≡ mode.ByName) ⊎ (f.kind ≡ shape.Procedure))
+special_entry s (Some (entry.Formal f)) h e a = (f, refl, special_formal s f.mode f.kind f.ty h e a)
+special_entry s (Some (entry.Variable type)) h e a = absurd (no_special s type (same_special (held_by s type) h e a))
+special_entry s (Some (entry.Constant type)) h e a = absurd (same_special (Simply (kind_of_type type)) h e a)
+special_entry s (Some (entry.Array element dimensions)) h e a = absurd (same_special (ArrayOf (held_by s element)) h e a)
+special_entry s (Some (entry.Procedure result k)) h e a = absurd (cc)
+special_entry s (Some (entry.Class k)) h e a = absurd (cc)
+special_entry s (Some (entry.Virtual result own)) h e a = absurd (cc)
+special_entry s (Some (entry.Unspecified w)) h e a = absurd (cc)
+special_entry s (Some (entry.Attribute name given result)) h e a = absurd (cc)
+special_entry s None h e a = absurd (cc)
+
+none_special : (s : Source) → TablesAgree s → (k : ℕ) → has_levels (text s k) ≡ true → (d : DeclNo) (h : Holds) → Among d (numbers_of s k) → entry_holds s true (entry_of s.tables d) ≡ Some h → Special h → ⊥
+none_special s g k levels d h among holds a =
+    let f = special_entry s (entry_of s.tables d) h holds a in
     false≢true (sym (g.by_name d f.0 f.1 f.2) ∙ ap (λ n. has_levels (text s n)) (g.owned k d among) ∙ levels)
+
+not_by_name : (s : Source) → TablesAgree s → (k : ℕ) → has_levels (text s k) ≡ true → (d : DeclNo) (h : Holds) → Among d (numbers_of s k) → entry_holds s true (entry_of s.tables d) ≡ Some (ByName h) → ⊥
+not_by_name s g k levels d h among holds = none_special s g k levels d (ByName h) among holds tt
+
+no_procedure : (s : Source) → TablesAgree s → (k : ℕ) → has_levels (text s k) ≡ true → (d : DeclNo) (r : Option SimType) → Among d (numbers_of s k) → entry_holds s true (entry_of s.tables d) ≡ Some (Procedure r) → ⊥
+no_procedure s g k levels d r among holds = none_special s g k levels d (Procedure r) among holds tt
 
 -- the standard class in which an attribute is declared
 attribute_class : (s : Source) (d : DeclNo) (name : Standard) (parameter result : Option SimType) → SetProcedureThere s d name parameter result → is_class (text s (block_of s d)) ≡ true
@@ -267,7 +279,7 @@ class_heading_is s g k class = go (text s k) refl class
     go (Some ConnectionText) at e = absurd (false≢true e)
     go None at e = absurd (false≢true e)
 
-module _ (s : Source) (a : AllowedIs s) (plain : Plain s.program) where
+module _ (s : Source) (a : AllowedIs s) where
   pub tables_of : TablesOf s
   tables_of = record {
     tables = a.tables;
@@ -276,37 +288,38 @@ module _ (s : Source) (a : AllowedIs s) (plain : Plain s.program) where
   }
 
   agrees : TablesAgree s
-  agrees = tables_agree s tables_of plain a.order
+  agrees = tables_agree s tables_of a.order
 
   connects : AllConnect s None (program_events connections s.program)
-  connects = connections_connect s tables_of plain a.order
+  connects = connections_connect s tables_of a.order
 
   pub not_found_outside : (token found : ℕ) (name : List ℕ) (d : DeclNo) (k : ℕ) → binding s.tables token name ≡ Some (denotation.Declared d) → entry_of s.tables d ≡ Some (entry.Class k) → found_in s.tables token name ≡ Some found → is_connection (text s found) ≡ false
-  not_found_outside = outside s tables_of plain a.order agrees a.says
+  not_found_outside = outside s tables_of a.order agrees a.says
 
   tabled : Tabled s
   tabled = let g = agrees in record {
     some_block = g.some_block;
     there = g.there;
     attributes = g.attributes;
-    proper = proper s tables_of plain a.order a.second not_found_outside (constant_plain s tables_of plain a.filled a.order a.says);
+    proper = proper s tables_of a.order a.second not_found_outside (constant_plain s tables_of a.filled a.order a.says);
     headings = λ d result k e. (let p = g.procedures d result k e in g.bodies k p.given p.heading p.body p.is);
     owned = λ d result k e. (g.procedures d result k e).owned;
     class_headings = λ d k e. (let c = (g.classes d k e).0 in class_heading_is s g k c.is);
     classes = λ d k e. (let c = g.classes d k e in (c.0.is, c.1));
     owners = g.owners;
-    constants = constant_is s tables_of plain a.filled a.order a.says;
+    constants = constant_is s tables_of a.filled a.order a.says;
     attribute_owners = λ d name parameter result e is. attribute_class s d name parameter result (g.set_procedures d name parameter result e is);
     virtuals = g.virtuals;
-    matches = λ x v match result own binds is seen. seen_fits s tables_of plain a.order a.second v result own is x match binds seen;
+    matches = λ x v match result own binds is seen. seen_fits s tables_of a.order a.second v result own is x match binds seen;
     around = g.around;
     inside = g.inside;
     outside = not_found_outside;
-    connected = connected_fine s tables_of plain a.order a.says;
-    simulates = found_simulates s tables_of plain a.order;
-    simulates_behind = attribute_simulates s tables_of plain a.order;
+    connected = connected_fine s tables_of a.order a.says;
+    simulates = found_simulates s tables_of a.order;
+    simulates_behind = attribute_simulates s tables_of a.order;
     simulation_levels = λ k e. (g.simulations k e).has;
-    class_named = found_named s tables_of plain a.order;
+    class_named = found_named s tables_of a.order;
+    processes_found = process_found s tables_of a.order;
     block_prefixes = g.block_prefixes;
     class_levels = g.class_levels;
     level_kinds = g.level_kinds;
@@ -314,6 +327,10 @@ module _ (s : Source) (a : AllowedIs s) (plain : Plain s.program) where
     connections = g.connections;
     prefixes = g.prefixes;
   }
+
+  -- the class of each type is declared around
+  pub near_there : (f : Place) → AllNear s f
+  near_there = all_near s tables_of a.order agrees tabled a.second
 
   module _ (written : Written s) where
     -- a connection is the text around its first token
@@ -332,7 +349,7 @@ module _ (s : Source) (a : AllowedIs s) (plain : Plain s.program) where
     }
       where
         out : (u : ℕ) × (encloser s.tables k ≡ Some u)
-        out = connection_enclosed s tables_of plain a.order k is
+        out = connection_enclosed s tables_of a.order k is
 
         begins : (o : Option BlockOf) → slice_get s.tables.blocks k ≡ o → joined (slice_get s.tables.places (first_in o)) ≡ Some k
         begins (Some row) at = begins_at k row at (ap is_connection is)
@@ -341,8 +358,8 @@ module _ (s : Source) (a : AllowedIs s) (plain : Plain s.program) where
     -- what matches a virtual
     match_there : (v : DeclNo) (result : Option SimType) (own : Option DeclNo) (k match : ℕ) → entry_of s.tables v ≡ Some (entry.Virtual result own) → match_in_text s v.0 (Some k) ≡ Some (Some match) → MatchThere s result k match
     match_there v result own k match is found =
-        let m = match_found s tables_of plain a.order a.second v result own is k match found in
-        let declares : entry_of s.tables m.declaration ≡ Some (entry.Procedure m.given match) = row_entry s tables_of plain a.order m.declaration m.row m.at ∙ ap Some m.entry in
+        let m = match_found s tables_of a.order a.second v result own is k match found in
+        let declares : entry_of s.tables m.declaration ≡ Some (entry.Procedure m.given match) = row_entry s tables_of a.order m.declaration m.row m.at ∙ ap Some m.entry in
         let p = agrees.procedures m.declaration m.given match declares in
         record {
           given = p.given;
@@ -353,7 +370,6 @@ module _ (s : Source) (a : AllowedIs s) (plain : Plain s.program) where
           own = m.given;
           declares = declares;
           level = m.level;
-          alone = no_parameters s written.alone m.declaration.0 m.row m.given match v m.at m.entry m.matches;
           gives = result_given s result m.given (tabled.proper v (entry.Virtual result own) is) (tabled.proper m.declaration (entry.Procedure m.given match) declares) m.fits;
         }
 
@@ -373,7 +389,7 @@ module _ (s : Source) (a : AllowedIs s) (plain : Plain s.program) where
       processes = g.processes;
       simulation_procedures = g.simulation_procedures;
       bare = λ d row which at is. attribute_entry_is row.entry (g.bare d row which at is);
-      blocks = λ k i ds ss is. (let b = g.blocks k i ds ss is in let p = block_placed s tables_of plain a.order connects k i ds ss is in record {
+      blocks = λ k i ds ss is. (let b = g.blocks k i ds ss is in let p = block_placed s tables_of a.order connects k i ds ss is in record {
         no_formals = b.no_formals;
         distinct = b.arrays.distinct;
         made = λ d element among e. (let x = array_entry s (entry_of s.tables d) element (no_formal s d (numbers_of s k) b.no_formals among) e in b.arrays.made d x.0 x.1 among x.2);
@@ -382,12 +398,13 @@ module _ (s : Source) (a : AllowedIs s) (plain : Plain s.program) where
         arrays = p.0;
         statements = p.1;
       });
-      bodies = λ k result h x is. record { written = result_written s tables_of plain a.order k result h x is; formals = g.bodies k result h x is; body = body_placed s tables_of plain a.order connects k result h x is };
-      class_bodies = λ k prefix h ds ss is. (let b = g.class_texts k prefix h ds ss is in let p = class_placed s tables_of plain a.order connects k prefix h ds ss is in record {
+      bodies = λ k result h x is. record { written = result_written s tables_of a.order k result h x is; formals = g.bodies k result h x is; near = formals_near s tables_of a.order g tabled a.second k result h x is (g.bodies k result h x is); body = body_placed s tables_of a.order connects k result h x is };
+      class_bodies = λ k prefix h ds ss is. (let b = g.class_texts k prefix h ds ss is in let p = class_placed s tables_of a.order connects k prefix h ds ss is in record {
         formals = b.formals;
         parameters = b.parameters;
         different = g.different k;
         not_by_name = not_by_name s g k (ap has_levels is);
+        no_procedure = no_procedure s g k (ap has_levels is);
         distinct = b.arrays.distinct;
         made = b.arrays.made;
         own = b.arrays.own;
@@ -396,11 +413,12 @@ module _ (s : Source) (a : AllowedIs s) (plain : Plain s.program) where
         statements = p.1;
         stays = b.stays;
       });
-      prefixed_bodies = λ k class es ds ss is. (let b = g.prefixed_texts k class es ds ss is in let p = prefixed_placed s tables_of plain a.order connects k class es ds ss is in record {
+      prefixed_bodies = λ k class es ds ss is. (let b = g.prefixed_texts k class es ds ss is in let p = prefixed_placed s tables_of a.order connects k class es ds ss is in record {
         formals = b.formals;
         parameters = b.parameters;
         different = g.different k;
         not_by_name = not_by_name s g k (ap has_levels is);
+        no_procedure = no_procedure s g k (ap has_levels is);
         distinct = b.arrays.distinct;
         made = b.arrays.made;
         own = b.arrays.own;
@@ -414,6 +432,7 @@ module _ (s : Source) (a : AllowedIs s) (plain : Plain s.program) where
         parameters = b.parameters;
         different = g.different k;
         not_by_name = not_by_name s g k (ap has_levels is);
+        no_procedure = no_procedure s g k (ap has_levels is);
         distinct = b.arrays.distinct;
         made = b.arrays.made;
         own = b.arrays.own;

@@ -20,10 +20,11 @@ use Rattle.sim_tree.specs.SyntaxOfProgram.{program_syntax}
 use Rattle.sim_tree.specs.Tree.{IsTree, line}
 use Rattle.sim_tree.proofs.Filled.{filled as program_filled}
 use Rattle.sim_static.specs.Check.{Allowed, answer, check_of, completed, first_answer, first_least, judged, last_answer, second_answer, second_least}
+use Rattle.sim_sound.specs.Held.{Place}
 use Rattle.sim_sound.specs.Typed.{Typed}
 use Rattle.sim_agree.specs.Order.{InOrder}
-use Rattle.sim_agree.specs.Plain.{Plain}
 use Rattle.sim_allowed.proofs.Counts.{About, told}
+use Rattle.sim_allowed.proofs.Expressions.{AllNear}
 use Rattle.sim_allowed.proofs.LastRound.{round_says}
 use Rattle.sim_allowed.proofs.Ordered.{in_order}
 use Rattle.sim_allowed.proofs.ToldProgram.{Fills, among}
@@ -86,9 +87,9 @@ below n t (Token x ∷ l) a le = go (λ le. below n t l a.1 le) (nat_eq t x) ref
     go deep false e le = deep (omega (arith, le))
 below n t (Behind x ∷ l) a le = below n t l a le
 
-within_text : (s : Tables) (p : Program) (n : ℕ) → Plain p → AllBelow n (in_whole p) → (k : About) (i : ℕ) → 1 ≤ told k i (program_events (judging s) p) → i < n
+within_text : (s : Tables) (p : Program) (n : ℕ) → AllBelow n (in_whole p) → (k : About) (i : ℕ) → 1 ≤ told k i (program_events (judging s) p) → i < n
 unfolding Fills
-within_text s p n plain all k i le = let most = program_fills s p plain k i in below n i (in_whole p) all (omega (arith, most, le))
+within_text s p n all k i le = let most = program_fills s p k i in below n i (in_whole p) all (omega (arith, most, le))
 
 -- What is known of an allowed program, beside what its tables say.
 pub record AllowedIs (s : Source) : Type 0 where
@@ -99,9 +100,9 @@ pub record AllowedIs (s : Source) : Type 0 where
   pub filled : Filled s.program
   pub says : AllSay s (program_events (judging s.tables) s.program)
 
-pub allowed_says : (ws : List Word) (tree : Tree) (s : Source) → IsTree ws tree → s.program ≡ program_syntax tree → check_of tree ≡ Allowed s.tables s.uses s.found_in s.types → Plain s.program → AllowedIs s
+pub allowed_says : (ws : List Word) (tree : Tree) (s : Source) → IsTree ws tree → s.program ≡ program_syntax tree → check_of tree ≡ Allowed s.tables s.uses s.found_in s.types → AllowedIs s
 unfolding judged
-allowed_says ws tree s is same allowed plain =
+allowed_says ws tree s is same allowed =
     let n = length tree.lines.items in
     let x = subst (λ z. Passed s n z) (sym same) (passed n (program_syntax tree) s allowed) in
     let order = subst InOrder (sym same) (in_order ws tree is) in
@@ -114,9 +115,9 @@ allowed_says ws tree s is same allowed plain =
       second = x.second;
       order = order;
       filled = subst Filled (sym same) (program_filled ws tree is);
-      says = round_says s n (program_events (judging s.tables) s.program) x.clean x.uses_are x.places_are x.types_are (told_once s.tables s.program plain ascends) (within_text s.tables s.program n plain inside);
+      says = round_says s n (program_events (judging s.tables) s.program) x.clean x.uses_are x.places_are x.types_are (told_once s.tables s.program ascends) (within_text s.tables s.program n inside);
     }
 
--- an allowed program is typed where its tables agree with its texts
-pub allowed_typed_where : (s : Source) → AllowedIs s → Plain s.program → Agreed s → Typed s
-allowed_typed_where s a plain agreed = said_typed s agreed plain a.filled a.says
+-- an allowed program is typed where its tables agree with its texts, and the class of each type is declared around
+pub allowed_typed_where : (s : Source) → AllowedIs s → Agreed s → ((f : Place) → AllNear s f) → Typed s
+allowed_typed_where s a agreed near = said_typed s agreed a.filled a.says near

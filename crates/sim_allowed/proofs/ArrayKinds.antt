@@ -1,4 +1,4 @@
--- The arrays that one declaration of an allowed plain program names are of one kind.
+-- The arrays that one declaration of an allowed program names are of one kind.
 use Rattle.std.proofs.Common.{◌≡◌, ℕ, List, [], ◌∷◌, Option, Some}
 use Rattle.sim_tree.specs.declared.expr.Identifier.{Identifier}
 use Rattle.sim_tree.specs.Filled.{FilledDeclarations, FilledSegments, SomeIdentifier}
@@ -7,7 +7,6 @@ use Rattle.sim_scope.specs.Source.{Source}
 use Rattle.sim_meaning.specs.Texts.{BlockText, ClassText, Text, text, PrefixedText}
 use Rattle.sim_sound.specs.Held.{Holds}
 use Rattle.sim_sound.specs.Typed.{SomeName}
-use Rattle.sim_agree.specs.Plain.{Plain}
 use Rattle.sim_agree.proofs.ArrayTypes.{ArraysHold, SegmentsHold, arrays_hold, held_as, held_kind}
 use Rattle.sim_agree.proofs.Groups.{declared_in_text}
 use Rattle.sim_allowed.proofs.Agreed as agreed
@@ -30,12 +29,12 @@ named s (With (Variables type vs) ds) f p = named s ds f.1 p
 named s (With (DeclareProcedure result token h a end) ds) f p = named s ds f.1 p
 named s (With (DeclareClass prefix token h interface a end) ds) f p = named s ds f.1 p
 
-module _ (s : Source) (a : AllowedIs s) (plain : Plain s.program) where
+module _ (s : Source) (a : AllowedIs s) where
   fine_text : (k : ℕ) (x : Text) → text s k ≡ Some x → TextFine s x
-  fine_text k x at = text_fine s plain a.filled (constants_there s) a.says k x at
+  fine_text k x at = text_fine s a.filled (constants_there s) a.says k x at
 
   hold : (k : ℕ) (x : Text) → text s k ≡ Some x → ArraysHold s (declared_in_text x)
-  hold k x at = arrays_hold s (agreed.tables_of s a plain) plain a.order a.second (agreed.not_found_outside s a plain) k x at
+  hold k x at = arrays_hold s (agreed.tables_of s a) a.order a.second (agreed.not_found_outside s a) k x at
 
   pub arrays : (k i : ℕ) (ds : Declarations) (ss : Statements) → text s k ≡ Some (BlockText i ds ss) → ArraysNamed s ds
   arrays k i ds ss at = named s ds (fine_text k (BlockText i ds ss) at).2 (hold k (BlockText i ds ss) at)

@@ -290,7 +290,7 @@ module _ (s : Source) (known : Tabled s) (k : ℕ) (e : Expression) (sign : Assi
       → AllSay s (procedure_assigned s.tables sign first (is.Procedure d token own) d own).events → TargetIs s k sign e (procedure_assigned s.tables sign first (is.Procedure d token own) d own).value
   virtual_is d token (Some q) p said =
       subst (λ z. TargetIs s k sign e (own_result_assigned sign first (result_in z)).value) (sym there)
-      (match_left p.result q p.inside (known.proper d (entry.Virtual p.result p.known) p.declared) p.typed m.there.given refl (subst (λ z. AllSay s (own_result_assigned sign first (result_in z)).events) there said))
+      (match_left p.result q p.inside p.proper p.typed m.there.given refl (subst (λ z. AllSay s (own_result_assigned sign first (result_in z)).events) there said))
     where
       m : MatchLeft s k e p.result q
       m = p.inside

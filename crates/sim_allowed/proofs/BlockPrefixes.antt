@@ -25,12 +25,12 @@ use Rattle.sim_meaning.specs.Closing.{class_parameters, formals_from}
 use Rattle.sim_sound.specs.Held.{In}
 use Rattle.sim_sound.specs.Expressions.{ActualsFit}
 use Rattle.sim_agree.specs.Facts.{BlockPrefix, StandardPrefixed, Tabled}
-use Rattle.sim_allowed.proofs.Actuals.{AllActuals, AllKnown, actuals_are, all_formals, size}
+use Rattle.sim_allowed.proofs.Actuals.{AllActuals, AllKnown, ReachedFrom, actuals_are, all_formals, size}
 use Rattle.sim_allowed.proofs.Classes.{class_row}
 use Rattle.sim_allowed.proofs.Headings.{class_heading}
 use Rattle.sim_allowed.proofs.Said.{AllSay, next_says}
 
-module _ (s : Source) (known : Tabled s) (k : ℕ) (class : Identifier) (es : Expressions) (begin number : ℕ) (placed : block_around s begin ≡ Some number) (prefix : BlockPrefix s number) (all : AllKnown s (In k) extent.Statement es) where
+module _ (s : Source) (known : Tabled s) (k : ℕ) (reach : ReachedFrom s (In k)) (class : Identifier) (es : Expressions) (begin number : ℕ) (placed : block_around s begin ≡ Some number) (prefix : BlockPrefix s number) (all : AllKnown s (In k) extent.Statement es) where
   abbrev d : Denotation
   d = denotation.Declared prefix.declaration
 
@@ -79,10 +79,10 @@ module _ (s : Source) (known : Tabled s) (k : ℕ) (class : Identifier) (es : Ex
       let events = subst (λ o. AllSay s (next (prefix_used class.token.0 o) (λ d. next (actuals s.tables extent.Statement d no_actuals es) (prefixed_with s.tables class.token.0 d))).events) denotes said in
       let parts = next_says s (prefix_used class.token.0 (Some (denotation.Declared prefix.declaration))) (λ d. next (actuals s.tables extent.Statement d no_actuals es) (prefixed_with s.tables class.token.0 d)) events in
       let more = next_says s (actuals s.tables extent.Statement (Some (denotation.Declared prefix.declaration)) no_actuals es) (prefixed_with s.tables class.token.0 (Some (denotation.Declared prefix.declaration))) parts.1 in
-      fits (actuals_are s known (In k) extent.Statement (Some (denotation.Declared prefix.declaration)) es all no_actuals more.0) more.1
+      fits (actuals_are s known (In k) reach extent.Statement (Some (denotation.Declared prefix.declaration)) es all no_actuals more.0) more.1
 
 -- a standard prefix in front of a block has no parameters
-module _ (s : Source) (known : Tabled s) (k : ℕ) (class : Identifier) (es : Expressions) (begin number : ℕ) (placed : block_around s begin ≡ Some number) (prefix : StandardPrefixed s number) (all : AllKnown s (In k) extent.Statement es) where
+module _ (s : Source) (known : Tabled s) (k : ℕ) (reach : ReachedFrom s (In k)) (class : Identifier) (es : Expressions) (begin number : ℕ) (placed : block_around s begin ≡ Some number) (prefix : StandardPrefixed s number) (all : AllKnown s (In k) extent.Statement es) where
   abbrev own : Denotation
   own = denotation.Standard (standard.Prefix prefix.which)
 
@@ -118,9 +118,9 @@ module _ (s : Source) (known : Tabled s) (k : ℕ) (class : Identifier) (es : Ex
       let events = subst (λ o. AllSay s (next (prefix_used class.token.0 o) (λ d. next (actuals s.tables extent.Statement d no_actuals es) (prefixed_with s.tables class.token.0 d))).events) standard_denotes said in
       let parts = next_says s (prefix_used class.token.0 (Some own)) (λ d. next (actuals s.tables extent.Statement d no_actuals es) (prefixed_with s.tables class.token.0 d)) events in
       let more = next_says s (actuals s.tables extent.Statement (Some own) no_actuals es) (prefixed_with s.tables class.token.0 (Some own)) parts.1 in
-      nothing_fits (actuals_are s known (In k) extent.Statement (Some own) es all no_actuals more.0) more.1
+      nothing_fits (actuals_are s known (In k) reach extent.Statement (Some own) es all no_actuals more.0) more.1
 
-pub prefix_fits : (s : Source) → Tabled s → (k : ℕ) (class : Identifier) (es : Expressions) (begin number : ℕ) → block_around s begin ≡ Some number → BlockPrefix s number ⊎ StandardPrefixed s number → AllKnown s (In k) extent.Statement es
+pub prefix_fits : (s : Source) → Tabled s → (k : ℕ) → ReachedFrom s (In k) → (class : Identifier) (es : Expressions) (begin number : ℕ) → block_around s begin ≡ Some number → BlockPrefix s number ⊎ StandardPrefixed s number → AllKnown s (In k) extent.Statement es
     → AllSay s (prefixed_events s.tables class es begin) → ActualsFit s (In k) es (class_parameters s (Some number))
-prefix_fits s known k class es begin number placed (inl prefix) all said = class_fits s known k class es begin number placed prefix all said
-prefix_fits s known k class es begin number placed (inr prefix) all said = standard_fits s known k class es begin number placed prefix all said
+prefix_fits s known k reach class es begin number placed (inl prefix) all said = class_fits s known k reach class es begin number placed prefix all said
+prefix_fits s known k reach class es begin number placed (inr prefix) all said = standard_fits s known k reach class es begin number placed prefix all said

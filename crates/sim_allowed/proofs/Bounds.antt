@@ -15,9 +15,8 @@ use Rattle.sim_sound.specs.Held.{Holds, InBound, IsOfKind, Simply}
 use Rattle.sim_sound.specs.Expressions.{ExprIs}
 use Rattle.sim_sound.specs.Typed.{ArraysAre, ArraysTyped, BoundsAre, SegmentsAre, SomeName}
 use Rattle.sim_agree.specs.Facts.{Tabled}
-use Rattle.sim_agree.specs.Places.{PlacedArrays, PlacedBounds, PlacedExpression, PlacedSegment}
-use Rattle.sim_agree.specs.Plain.{Each, PlainBounds, PlainDeclarations, PlainExpression, PlainSegment}
-use Rattle.sim_allowed.proofs.Expressions.{AllThere, both_there, expression_known}
+use Rattle.sim_agree.specs.Places.{Each, PlacedArrays, PlacedBounds, PlacedExpression, PlacedSegment}
+use Rattle.sim_allowed.proofs.Expressions.{AllThere, both_there, expression_known, AllNear}
 use Rattle.sim_allowed.proofs.Said.{AllSay, both_say}
 use Rattle.sim_allowed.proofs.Sights.{bound_sight}
 use Rattle.sim_allowed.proofs.Statements.{required_is}
@@ -36,44 +35,44 @@ ArraysNamed s (With (Variables type vs) ds) = ArraysNamed s ds
 ArraysNamed s (With (DeclareProcedure result token h a end) ds) = ArraysNamed s ds
 ArraysNamed s (With (DeclareClass prefix token h interface a end) ds) = ArraysNamed s ds
 
-module _ (s : Source) (known : Tabled s) (k : ℕ) (instance : is_connection (text s k) ≡ false) where
-  bound_is : (e : Expression) → PlainExpression e → PlacedExpression s.tables k e → AllThere s (expression_constants e) → AllSay s (required s.tables extent.Bound t.Integer e) → ExprIs s (InBound k) e (Simply kind.Integer)
-  bound_is e p l there said =
-      let sight = bound_sight s known k instance in required_is s known (InBound k) sight t.Integer tt e (expression_known s known (InBound k) sight e p l there) said
+module _ (s : Source) (known : Tabled s) (k : ℕ) (instance : is_connection (text s k) ≡ false) (near : AllNear s (InBound k)) where
+  bound_is : (e : Expression) → PlacedExpression s.tables k e → AllThere s (expression_constants e) → AllSay s (required s.tables extent.Bound t.Integer e) → ExprIs s (InBound k) e (Simply kind.Integer)
+  bound_is e l there said =
+      let sight = bound_sight s known k instance in required_is s known (InBound k) sight t.Integer tt e (expression_known s known (InBound k) sight near e l there) said
 
-  bounds_are : (bs : List BoundPair) → Each PlainBounds bs → Each (PlacedBounds s.tables k) bs → AllThere s (bounds_constants bs) → AllSay s (each (pair_events s.tables) bs) → BoundsAre s (InBound k) bs
-  bounds_are [] p l there said = tt
-  bounds_are (b ∷ bs) p l there said =
+  bounds_are : (bs : List BoundPair) → Each (PlacedBounds s.tables k) bs → AllThere s (bounds_constants bs) → AllSay s (each (pair_events s.tables) bs) → BoundsAre s (InBound k) bs
+  bounds_are [] l there said = tt
+  bounds_are (b ∷ bs) l there said =
       let c = both_there s (expression_constants b.lower ++ expression_constants b.upper) (bounds_constants bs) there in
       let d = both_there s (expression_constants b.lower) (expression_constants b.upper) c.0 in
       let parts = both_say s (pair_events s.tables b) (each (pair_events s.tables) bs) said in
       let pair = both_say s (required s.tables extent.Bound t.Integer b.lower) (required s.tables extent.Bound t.Integer b.upper) parts.0 in
-      (bound_is b.lower p.0.0 l.0.0 d.0 pair.0, bound_is b.upper p.0.1 l.0.1 d.1 pair.1, bounds_are bs p.1 l.1 c.1 parts.1)
+      (bound_is b.lower l.0.0 d.0 pair.0, bound_is b.upper l.0.1 d.1 pair.1, bounds_are bs l.1 c.1 parts.1)
 
-  segments_are : (h : Holds) (segments : List Arrayed) → Each PlainSegment segments → Each (PlacedSegment s.tables k) segments → SegmentsNamed s h segments → AllThere s (segments_constants segments) → AllSay s (each (array_events s.tables) segments) → SegmentsAre s (InBound k) h segments
-  segments_are h [] p l n there said = tt
-  segments_are h (a ∷ more) p l n there said =
+  segments_are : (h : Holds) (segments : List Arrayed) → Each (PlacedSegment s.tables k) segments → SegmentsNamed s h segments → AllThere s (segments_constants segments) → AllSay s (each (array_events s.tables) segments) → SegmentsAre s (InBound k) h segments
+  segments_are h [] l n there said = tt
+  segments_are h (a ∷ more) l n there said =
       let c = both_there s (bounds_constants a.bounds) (segments_constants more) there in
       let parts = both_say s (array_events s.tables a) (each (array_events s.tables) more) said in
-      (bounds_are a.bounds p.0 l.0 c.0 parts.0, n.0, n.1, segments_are h more p.1 l.1 n.2 c.1 parts.1)
+      (bounds_are a.bounds l.0 c.0 parts.0, n.0, n.1, segments_are h more l.1 n.2 c.1 parts.1)
 
-  pub arrays_typed : (ds : Declarations) → PlainDeclarations ds → PlacedArrays s.tables k ds → ArraysNamed s ds → AllThere s (declarations_constants ds) → AllSay s (declarations_events (judging s.tables) ds) → ArraysTyped s (InBound k) ds
+  pub arrays_typed : (ds : Declarations) → PlacedArrays s.tables k ds → ArraysNamed s ds → AllThere s (declarations_constants ds) → AllSay s (declarations_events (judging s.tables) ds) → ArraysTyped s (InBound k) ds
   unfolding judging
-  arrays_typed NoDeclaration p l n there said = tt
-  arrays_typed (With (Arrays type i segments) ds) p l n there said =
+  arrays_typed NoDeclaration l n there said = tt
+  arrays_typed (With (Arrays type i segments) ds) l n there said =
       let c = both_there s (segments_constants segments) (declarations_constants ds) there in
       let parts = both_say s (type_events s.tables type ++ each (array_events s.tables) segments) (declarations_events (judging s.tables) ds) said in
       let own = both_say s (type_events s.tables type) (each (array_events s.tables) segments) parts.0 in
-      (n.0, n.1, segments_are n.0 segments p.0 l.0 n.2 c.0 own.1, arrays_typed ds p.1 l.1 n.3 c.1 parts.1)
-  arrays_typed (With (Variables type vs) ds) p l n there said =
+      (n.0, n.1, segments_are n.0 segments l.0 n.2 c.0 own.1, arrays_typed ds l.1 n.3 c.1 parts.1)
+  arrays_typed (With (Variables type vs) ds) l n there said =
       let c = both_there s (declaration_constants (Variables type vs)) (declarations_constants ds) there in
       let parts = both_say s (declaration_events (judging s.tables) (Variables type vs)) (declarations_events (judging s.tables) ds) said in
-      arrays_typed ds p.1 l n c.1 parts.1
-  arrays_typed (With (DeclareProcedure result i h a end) ds) p l n there said =
+      arrays_typed ds l n c.1 parts.1
+  arrays_typed (With (DeclareProcedure result i h a end) ds) l n there said =
       let c = both_there s (declaration_constants (DeclareProcedure result i h a end)) (declarations_constants ds) there in
       let parts = both_say s (declaration_events (judging s.tables) (DeclareProcedure result i h a end)) (declarations_events (judging s.tables) ds) said in
-      arrays_typed ds p.1 l n c.1 parts.1
-  arrays_typed (With (DeclareClass prefix i h interface a end) ds) p l n there said =
+      arrays_typed ds l n c.1 parts.1
+  arrays_typed (With (DeclareClass prefix i h interface a end) ds) l n there said =
       let c = both_there s (declaration_constants (DeclareClass prefix i h interface a end)) (declarations_constants ds) there in
       let parts = both_say s (declaration_events (judging s.tables) (DeclareClass prefix i h interface a end)) (declarations_events (judging s.tables) ds) said in
-      arrays_typed ds p.1 l n c.1 parts.1
+      arrays_typed ds l n c.1 parts.1

@@ -20,7 +20,7 @@ use Rattle.sim_values.specs.declared.kind.Kind.TheVariants as kind
 use Rattle.sim_meaning.specs.Attributes.{is_connection}
 use Rattle.sim_meaning.specs.Levels.{class_text, has_levels, is_class, qualification}
 use Rattle.sim_meaning.specs.Texts.{BlockText, ClassText, ConnectionText, PrefixedText, ProcedureText, StandardText, Text, kind_of_type, text}
-use Rattle.sim_sound.specs.Held.{ArrayOf, ByName, Fits, Holds, Place, Refers, Simply, held_by, reference_to}
+use Rattle.sim_sound.specs.Held.{ArrayOf, ByName, Fits, Holds, Place, Procedure, Refers, Simply, held_by, reference_to}
 use Rattle.sim_sound.specs.Expressions.{ExprIs, IsReference}
 use Rattle.sim_agree.specs.Facts.{IsClass, PlainType, ProperType, Tabled}
 use Rattle.sim_allowed.proofs.Meant.{Takes, ValueIs, ValueType}
@@ -53,11 +53,12 @@ proper_takes s t.Text h p f = f
 proper_takes s (t.Ref d) h p f = f
 proper_takes s t.NoneType h p f = absurd p
 
--- what fits a plain kind is of that kind
+-- what fits a kind is of that kind
 simply_same : (s : Source) (k : Kind) (h : Holds) → Fits s (Simply k) h → Simply k ≡ h
 simply_same s k (Simply l) f = ap Simply f
 simply_same s k (Refers c) f = absurd f
 simply_same s k (ArrayOf g) f = absurd f
+simply_same s k (Procedure r) f = absurd f
 simply_same s k (ByName g) f = absurd f
 
 pub plain_same : (s : Source) (type : SimType) (h : Holds) → PlainType type → Takes s type h → Simply (kind_of_type type) ≡ h
@@ -79,10 +80,12 @@ reference_taken : (s : Source) (o : Option ℕ) (h : Holds) → Fits s (referenc
 reference_taken s None (Simply k) f = f
 reference_taken s None (Refers c) f = absurd f
 reference_taken s None (ArrayOf g) f = absurd f
+reference_taken s None (Procedure r) f = absurd f
 reference_taken s None (ByName g) f = absurd f
 reference_taken s (Some c) (Simply k) f = f
 reference_taken s (Some c) (Refers b) f = tt
 reference_taken s (Some c) (ArrayOf g) f = absurd f
+reference_taken s (Some c) (Procedure r) f = absurd f
 reference_taken s (Some c) (ByName g) f = absurd f
 
 -- each value is one of the kind of its type
@@ -214,6 +217,7 @@ pub fits_inside : (s : Source) → Tabled s → (a q : ℕ) → is_connection (t
 fits_inside s known a q solid level (Simply k) f = f
 fits_inside s known a q solid level (Refers w) f = level_both s known a q w solid level f
 fits_inside s known a q solid level (ArrayOf h) f = absurd f
+fits_inside s known a q solid level (Procedure r) f = absurd f
 fits_inside s known a q solid level (ByName h) f = absurd f
 
 -- the class that two have in common is a level of both

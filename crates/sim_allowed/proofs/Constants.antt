@@ -28,7 +28,6 @@ use Rattle.sim_meaning.specs.Constants.{declaration_constants, declarations_cons
 use Rattle.sim_meaning.specs.Texts.{BlockText, ClassText, Text, constant_value, kind_of_type, text, PrefixedText}
 use Rattle.sim_agree.specs.ConstantAt.{InBlock, InClass, Lists, OneOf, at_first, further, head, tail, InPrefixed}
 use Rattle.sim_agree.specs.Facts.{ConstantIs, PlainType}
-use Rattle.sim_agree.specs.Plain.{Plain}
 use Rattle.sim_agree.specs.TablesOf.{TablesOf}
 use Rattle.sim_agree.proofs.Constants.{constant_at}
 use Rattle.sim_allowed.proofs.Expressions.{AllThere, both_there}
@@ -81,15 +80,15 @@ value_of_type s _ _ e there = absurd (false≢true e)
 
 -- what the last round says of the declarations of a block, with a prefix or not, and of those of a class
 declarations_say : (s : Source) (k : ℕ) (ds : Declarations) → ((x : Text) → text s k ≡ Some x → TextFine s x) → InBlock s k ds ⊎ (InClass s k ds ⊎ InPrefixed s k ds) → AllThere s (declarations_constants ds) × AllSay s (declarations_events (judging s.tables) ds)
-declarations_say s k ds fine (inl b) = let f = fine (BlockText b.begin ds b.statements) b.is in (f.0.1, f.0.2)
-declarations_say s k ds fine (inr (inl c)) = let f = fine (ClassText c.prefix c.heading ds c.statements) c.is in (f.0.1, f.0.2)
-declarations_say s k ds fine (inr (inr c)) = let f = fine (PrefixedText c.class c.arguments ds c.statements) c.is in (f.0.1, f.0.2)
+declarations_say s k ds fine (inl b) = let f = fine (BlockText b.begin ds b.statements) b.is in f.0
+declarations_say s k ds fine (inr (inl c)) = let f = fine (ClassText c.prefix c.heading ds c.statements) c.is in f.0
+declarations_say s k ds fine (inr (inr c)) = let f = fine (PrefixedText c.class c.arguments ds c.statements) c.is in f.0
 
-pub constant_is : (s : Source) → TablesOf s → Plain s.program → Filled s.program → InOrder s.program → AllSay s (program_events (judging s.tables) s.program) → (d : DeclNo) (ty : SimType) → entry_of s.tables d ≡ Some (entry.Constant ty) → ConstantIs s d ty
+pub constant_is : (s : Source) → TablesOf s → Filled s.program → InOrder s.program → AllSay s (program_events (judging s.tables) s.program) → (d : DeclNo) (ty : SimType) → entry_of s.tables d ≡ Some (entry.Constant ty) → ConstantIs s d ty
 unfolding variable_events
-constant_is s of plain filled order said d ty there =
-    let c = constant_at s of plain order d ty there in
-    let fine = declarations_say s c.block c.declarations (λ x is. text_fine s plain filled (constants_there s) said c.block x is) c.is in
+constant_is s of filled order said d ty there =
+    let c = constant_at s of order d ty there in
+    let fine = declarations_say s c.block c.declarations (λ x is. text_fine s filled (constants_there s) said c.block x is) c.is in
     let events = variable_says s c.type c.variable c.variables c.one (declared_says s c.type c.variables c.declarations c.declared fine.1) in
     let ok = fits_type s c.type c.constant (subst (λ z. AllSay s (value_fits (value_type c.type) z)) c.has events) in
     let texts = subst (λ z. AllThere s (value_constants z)) c.has (variable_there s c.variable c.variables c.one (declared_there s c.type c.variables c.declarations c.declared fine.0)) in
@@ -113,11 +112,11 @@ plain_of k t.Text e n = tt
 plain_of k (t.Ref class) e n = absurd (n e)
 plain_of k t.NoneType e n = absurd (n e)
 
-pub constant_plain : (s : Source) → TablesOf s → Plain s.program → Filled s.program → InOrder s.program → AllSay s (program_events (judging s.tables) s.program) → (d : DeclNo) (ty : SimType) → entry_of s.tables d ≡ Some (entry.Constant ty) → PlainType ty
+pub constant_plain : (s : Source) → TablesOf s → Filled s.program → InOrder s.program → AllSay s (program_events (judging s.tables) s.program) → (d : DeclNo) (ty : SimType) → entry_of s.tables d ≡ Some (entry.Constant ty) → PlainType ty
 unfolding variable_events
-constant_plain s of plain filled order said d ty there =
-    let c = constant_at s of plain order d ty there in
-    let fine = declarations_say s c.block c.declarations (λ x is. text_fine s plain filled (constants_there s) said c.block x is) c.is in
+constant_plain s of filled order said d ty there =
+    let c = constant_at s of order d ty there in
+    let fine = declarations_say s c.block c.declarations (λ x is. text_fine s filled (constants_there s) said c.block x is) c.is in
     let events = variable_says s c.type c.variable c.variables c.one (declared_says s c.type c.variables c.declarations c.declared fine.1) in
     let ok = fits_type s c.type c.constant (subst (λ z. AllSay s (value_fits (value_type c.type) z)) c.has events) in
     plain_of (kind_of_type (type_named c.type)) ty c.named (no_reference c.type c.constant ok)

@@ -21,7 +21,7 @@ use Rattle.sim_values.specs.declared.standard.Standard.TheVariants as name
 use Rattle.sim_meaning.specs.Attributes.{is_connection}
 use Rattle.sim_meaning.specs.Levels.{has_levels}
 use Rattle.sim_meaning.specs.Texts.{text}
-use Rattle.sim_sound.specs.Held.{Around, In, InBound, Place, Simply, further, itself}
+use Rattle.sim_sound.specs.Held.{Around, In, InBound, Place, Simply, further, itself, text_of}
 use Rattle.sim_sound.specs.Expressions.{ThisFound, ThisIs}
 use Rattle.sim_agree.specs.Facts.{Tabled}
 use Rattle.sim_agree.proofs.Unprefixed.{standard_is}
@@ -29,7 +29,6 @@ use Rattle.sim_allowed.proofs.Classes.{reference_simply}
 use Rattle.sim_allowed.proofs.Meant.{InText}
 use Rattle.sim_allowed.proofs.Names.{detach_spelt}
 use Rattle.sim_allowed.proofs.Nowhere.{neither_or, undeclared}
-use Rattle.sim_allowed.proofs.Sights.{text_of}
 
 -- ---- the block that shows it
 

@@ -53,7 +53,7 @@ same_place s (d ∷ ds) (f ∷ fs) (suc place) a = same_place s ds fs place a.1
 
 abbrev pub AllProper : Source → List Formal → Type 0
 AllProper s [] = Unit {0}
-AllProper s (f ∷ fs) = ProperFormal s f.mode f.kind f.ty × AllProper s fs
+AllProper s (f ∷ fs) = ProperFormal s f.kind f.ty × AllProper s fs
 
 all_proper : (s : Source) → Tabled s → (ds : List DeclNo) (fs : List Formal) → Listed s ds fs → AllProper s fs
 all_proper s known [] [] a = tt

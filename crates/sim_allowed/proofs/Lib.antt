@@ -2,14 +2,17 @@ pub mod Said
 pub mod Meant
 pub mod Headings
 pub mod Classes
+pub mod Near
 pub mod Names
+pub mod Simulations
+pub mod Nearness
+pub mod NearJudged
 pub mod Calls
 pub mod Operators
 pub mod Matching
 pub mod Actuals
 pub mod Declared
 pub mod Uses
-pub mod Simulations
 pub mod Activations
 pub mod Sights
 pub mod Nowhere
@@ -19,6 +22,8 @@ pub mod This
 pub mod Named
 pub mod Expressions
 pub mod Assigned
+pub mod NearExpressions
+pub mod NearFormals
 pub mod BlockPrefixes
 pub mod Statements
 pub mod Bounds

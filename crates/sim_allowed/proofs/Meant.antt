@@ -4,7 +4,9 @@ use Rattle.sim_base.specs.declared.numbering.DeclNo.{DeclNo}
 use Rattle.sim_scope.specs.declared.outcome.Outcome.{Outcome}
 use Rattle.sim_scope.specs.declared.outcome.Outcome.TheVariants as is
 use Rattle.sim_scope.specs.declared.standard.StandardName.{StandardName}
+use Rattle.sim_scope.specs.declared.types.Entry.{Entry}
 use Rattle.sim_scope.specs.declared.types.Entry.TheVariants as entry
+use Rattle.sim_scope.specs.declared.types.FormalKind.TheVariants as shape
 use Rattle.sim_scope.specs.declared.types.SimType.{SimType}
 use Rattle.sim_scope.specs.declared.types.SimType.TheVariants as t
 use Rattle.sim_scope.specs.Outcomes.{is_stream}
@@ -19,11 +21,13 @@ use Rattle.sim_meaning.specs.Closing.{is_placed, is_text, is_text_type, result_m
 use Rattle.sim_meaning.specs.Entries.{formals_of}
 use Rattle.sim_meaning.specs.Names.{stream_named}
 use Rattle.sim_meaning.specs.Statements.{leaves}
-use Rattle.sim_sound.specs.Held.{ArrayOf, Fits, Holds, In, InBound, Place, Refers, Simply, held_by}
-use Rattle.sim_sound.specs.Expressions.{ActualsFit, AreIntegers, AreOf, DotGives, ExprIs, IdentifierGives, IsReference, PlaceIs}
+use Rattle.sim_sound.specs.Held.{ArrayOf, Fits, Holds, In, InBound, Place, Refers, Simply, held_by, ResultFits, given_by}
+use Rattle.sim_sound.specs.Expressions.{ActualsFit, AreIntegers, AreOf, DotGives, ExprIs, IdentifierGives, IsReference, ParametersAre, PlaceIs, ProcedureIs as GivesProcedure}
 use Rattle.sim_sound.specs.Statements.{LeftIs, OrTransferIs, ResultIs, TransferIs, is_given}
-use Rattle.sim_agree.specs.Facts.{ProperType, MatchFits}
+use Rattle.sim_agree.specs.Facts.{ProperType, MatchFits, ProperResult}
 use Rattle.sim_values.specs.declared.kind.Kind.TheVariants as kind
+use Rattle.sim_meaning.specs.Checks.{PassedArray, PassedProcedure, passed, value_passed}
+use Rattle.std.specs.Prelude.{length}
 use Rattle.sim_values.specs.declared.standard.Standard.{Standard}
 
 -- the types of values: those of variables, and that of `none`
@@ -56,11 +60,11 @@ GivesNone Transfers (Some h) = ⊥
 
 abbrev pub NamedAs : Source → Place → Identifier → Expressions → Option Holds → Type 0
 NamedAs s from name es h =
-    IdentifierGives s from name.token.0 (connection_at s name.token.0) (own_attribute s name.token.0) es (AreIntegers s from es) (λ ks. AreOf s from es ks) (λ fs. ActualsFit s from es fs) h
+    IdentifierGives s from name.token.0 (connection_at s name.token.0) (own_attribute s name.token.0) es (AreIntegers s from es) (ParametersAre s from es) (λ ks. AreOf s from es ks) (λ fs. ActualsFit s from es fs) h
 
 abbrev pub DotAs : Source → Place → Expression → Identifier → Expressions → Option Holds → Type 0
 DotAs s from a name es h =
-    DotGives s (denoted s name.token.0) (stream_of s a) (ExprIs s from a (Simply kind.Text)) (λ c. ExprIs s from a (Refers c)) es (AreIntegers s from es) (λ ks. AreOf s from es ks) (λ fs. ActualsFit s from es fs) h
+    DotGives s (denoted s name.token.0) (stream_of s a) (ExprIs s from a (Simply kind.Text)) (λ c. ExprIs s from a (Refers c)) es (AreIntegers s from es) (ParametersAre s from es) (λ ks. AreOf s from es ks) (λ fs. ActualsFit s from es fs) h
 
 -- what a call gives
 abbrev pub CallGiven : Source → Place → Expression → Option Holds → Type 0
@@ -116,6 +120,10 @@ MatchResult s from e result None = NoOwn s e
 MatchResult s (InBound t) e result (Some q) = Unit {0}
 MatchResult s (In t) e result (Some q) = MatchLeft s t e result q
 
+-- it stands for a procedure, where what it gives is wanted
+abbrev pub Gives : Source → Place → Expression → (result : Option SimType) → Type 0
+Gives s from e result = (wanted : Option SimType) → ResultFits s (given_by s result) (given_by s wanted) → GivesProcedure s from e wanted
+
 -- the identifier of a procedure alone
 pub record ProcedureIs (s : Source) (from : Place) (e : Expression) (d : DeclNo) (own : Option DeclNo) : Type 0 where
   pub result : Option SimType
@@ -127,6 +135,9 @@ pub record ProcedureIs (s : Source) (from : Place) (e : Expression) (d : DeclNo)
   -- as a left side it is the result inside the text of the procedure
   pub inside : OwnResult s from e own d result block
   pub unplaced : is_placed s e ≡ false
+  -- as an actual parameter it is a procedure
+  pub stands : Gives s from e result
+  pub shown : passed s e ≡ PassedProcedure result (length (formals_of s block))
 
 -- the identifier of a procedure of SIMSET alone
 pub record SetIs (s : Source) (from : Place) (e : Expression) (d : DeclNo) (own : Option DeclNo) : Type 0 where
@@ -141,18 +152,27 @@ pub record SetIs (s : Source) (from : Place) (e : Expression) (d : DeclNo) (own 
   pub no_own : own ≡ None
   pub unowned : NoOwn s e
   pub unplaced : is_placed s e ≡ false
+  pub shown : passed s e ≡ value_passed s e
 
--- the identifier of a virtual alone
+-- a virtual or a formal procedure, which gives this
+abbrev pub IsChecked : Option Entry → (result : Option SimType) → Type 0
+IsChecked (Some (entry.Virtual given own)) result = given ≡ result
+IsChecked (Some (entry.Formal f)) result = (f.kind ≡ shape.Procedure) × (f.ty ≡ result)
+IsChecked _ result = ⊥
+
+-- the identifier of a virtual or of a formal procedure alone
 pub record VirtualIs (s : Source) (from : Place) (e : Expression) (d : DeclNo) (own : Option DeclNo) : Type 0 where
   pub result : Option SimType
-  pub known : Option DeclNo
-  pub declared : entry_of s.tables d ≡ Some (entry.Virtual result known)
+  pub proper : ProperResult s result
+  pub declared : IsChecked (entry_of s.tables d) result
   pub typed : TypeThere s e result
   -- it is a call
   pub calls : CallsFor s from e result
   -- as a left side it is the result inside the text of the match
   pub inside : MatchResult s from e result own
   pub unplaced : is_placed s e ≡ false
+  pub stands : Gives s from e result
+  pub shown : passed s e ≡ PassedProcedure result 0
 
 -- a standard name alone
 pub record StandardIs (s : Source) (from : Place) (e : Expression) (standard : StandardName) : Type 0 where
@@ -161,6 +181,12 @@ pub record StandardIs (s : Source) (from : Place) (e : Expression) (standard : S
   pub stream : stream_of s e ≡ stream_named standard
   pub unowned : NoOwn s e
   pub unplaced : is_placed s e ≡ false
+  pub shown : passed s e ≡ value_passed s e
+
+-- as an actual parameter of any call it is a value
+abbrev pub Shown : (alone : Bool) → Source → Expression → Type 0
+Shown true s e = passed s e ≡ value_passed s e
+Shown false s e = Unit {0}
 
 -- what is so only before calls are made
 abbrev pub Only : (alone : Bool) → Type 0 → Type 0
@@ -172,11 +198,11 @@ abbrev pub Means : (alone : Bool) → Source → Place → Expression → Outcom
 Means alone s from e is.Refused = ⊥
 Means alone s from e is.NoValue = CallsFor s from e None
 Means alone s from e is.NoValueInParentheses = Unit {0}
-Means alone s from e (is.Value type) = ValueIs s from e type × Unowned alone s e × Unplaced alone s e
-Means alone s from e (is.Called type) = ValueIs s from e type × CallsFor s from e (Some type) × Unowned alone s e × Unplaced alone s e
-Means alone s from e (is.Variable type) = ValueIs s from e type × ProperType s type × Varies s from e type × Unowned alone s e
-Means alone s from e (is.Constant type) = ValueIs s from e type × Unplaced alone s e
-Means alone s from e (is.Array type) = ProperType s type × ExprIs s from e (ArrayOf (held_by s type))
+Means alone s from e (is.Value type) = ValueIs s from e type × Unowned alone s e × Unplaced alone s e × Shown alone s e
+Means alone s from e (is.Called type) = ValueIs s from e type × CallsFor s from e (Some type) × Unowned alone s e × Unplaced alone s e × Shown alone s e
+Means alone s from e (is.Variable type) = ValueIs s from e type × ProperType s type × Varies s from e type × Unowned alone s e × Shown alone s e
+Means alone s from e (is.Constant type) = ValueIs s from e type × Unplaced alone s e × Shown alone s e
+Means alone s from e (is.Array type) = ProperType s type × ExprIs s from e (ArrayOf (held_by s type)) × (passed s e ≡ PassedArray (Some type))
 Means alone s from e (is.Procedure d token own) = Only alone (ProcedureIs s from e d own ⊎ (SetIs s from e d own ⊎ VirtualIs s from e d own))
 Means alone s from e (is.Standard name token) = Only alone (StandardIs s from e name)
 Means alone s from e is.Class = Unit {0}

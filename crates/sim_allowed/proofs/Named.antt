@@ -39,10 +39,11 @@ use Rattle.sim_meaning.specs.Names.{procedure_named, stream_named}
 use Rattle.sim_meaning.specs.Statements.{denoted_leaves}
 use Rattle.sim_meaning.specs.Texts.{text}
 use Rattle.sim_meaning.specs.Virtuals.{procedure_text, text_of_procedure}
-use Rattle.sim_sound.specs.Held.{Around, Fits, In, InBound, Place, Refers, Simply, given_by as held_given, held_by, result_declared, result_holds}
-use Rattle.sim_sound.specs.Expressions.{ActualsFit, AreIntegers, AreOf, BehindGives, DotGives, ExprIs, KnownAt, ObjectHas, ThisFound}
+use Rattle.sim_sound.specs.Held.{Around, Fits, In, InBound, Place, Refers, Simply, given_by as held_given, held_by, result_declared, result_holds, text_of}
+use Rattle.sim_sound.specs.Expressions.{ActualsFit, AreIntegers, AreOf, BehindGives, DotGives, ExprIs, KnownAt, ObjectHas, ParametersAre, ThisFound}
 use Rattle.sim_sound.specs.Statements.{LeftDeclared, LeftIs, LeftNamed, OwnText, ResultIs, LeftResultOr}
 use Rattle.sim_agree.specs.Facts.{IsClass, PlainGiven, Tabled, MatchFits}
+use Rattle.sim_meaning.specs.Checks.{denoted_passed, passed, value_passed}
 use Rattle.sim_allowed.proofs.Actuals.{AllActuals, AllFit, size}
 use Rattle.sim_allowed.proofs.Calls.{side_means}
 use Rattle.sim_allowed.proofs.Classes.{class_held, class_row, own_level, simply}
@@ -53,7 +54,7 @@ use Rattle.sim_allowed.proofs.Meant.{CallGiven, CallsFor, InText, Means, OwnResu
 use Rattle.sim_allowed.proofs.Names.{IsProcedure, OfTexts, alone_proper, attribute_gives, attribute_proper, attribute_transfers_none, detach_alone, given_by, kinds_of, procedure_proper, procedure_transfers_none, standard_gives, standard_left, sysin_name, sysout_name, text_name}
 use Rattle.sim_allowed.proofs.Nowhere.{is_nowhere}
 use Rattle.sim_allowed.proofs.Said.{AllSay, next_says}
-use Rattle.sim_allowed.proofs.Sights.{Sight, text_of}
+use Rattle.sim_allowed.proofs.Sights.{Sight}
 use Rattle.sim_allowed.proofs.Simulations.{AttributeThere, attribute_there, either_attribute, level_classes}
 use Rattle.sim_allowed.proofs.Uses.{BoundIs, KnownHere, bound_name, dot_calls, dot_detaches, dot_given, dot_use, known_here, named_use, own_declared, plain_given, standard_call, standard_transfers, standard_with, standard_without, unconnected_none, meant_without, no_match, standard_no_match, left_or}
 
@@ -232,6 +233,11 @@ standard_unplaced : (s : Source) (x : Identifier) (es : Expressions) (name : Sta
 unfolding is_placed
 standard_unplaced s x es name says = ap (λ z. is_attribute_denoted s z es) says
 
+standard_shown : (s : Source) (x : Identifier) (es : Expressions) (name : StandardName) → denoted s x.token.0 ≡ Some (denotation.Standard name) → passed s (syntax.Named x es) ≡ value_passed s (syntax.Named x es)
+unfolding passed
+standard_shown s x NoMore name says = ap (λ z. denoted_passed s z (value_passed s (syntax.Named x NoMore))) says
+standard_shown s x (Then e es) name says = refl
+
 -- ---- an identifier
 
 module _ (s : Source) (known : Tabled s) (from : Place) (e : Extent) (sight : Sight s from e) (x : Identifier) (placed : block_at s.tables x.token.0 ≡ Some (text_of from)) where
@@ -267,7 +273,7 @@ module _ (s : Source) (known : Tabled s) (from : Place) (e : Extent) (sight : Si
           (λ result k there. own_means s known from x placed d says binds b.found result k there) (λ result own there. match_means s known from x placed d says binds b.found result own there) (subst (λ z. AllSay s (declared_alone s.tables x.token.0 x d z).events) t.1 said))
       go (denotation.Standard name) is says binds open_to said =
           let alone = bound_name s x.token.0 x.name name binds in
-          standard_without s from (syntax.Named x NoMore) name x.token.0 refl (ap stream_denoted says) (standard_owner s x NoMore name says) (standard_unplaced s x NoMore name says) (alone_proper name alone) x.token
+          standard_without s from (syntax.Named x NoMore) name x.token.0 refl (ap stream_denoted says) (standard_owner s x NoMore name says) (standard_unplaced s x NoMore name says) (standard_shown s x NoMore name says) (alone_proper name alone) x.token
           (λ other class are. standard_call s from x NoMore name says (unconnected s e x o b name is) (detach_seen name binds b.found) alone other class (alone_proper name alone) are) said
 
   pub named_with : (first : Expression) (rest : Expressions) (o : Occurrence) → BoundIs s e x o → (a : Actuals) → AllActuals s from o.denotes (Then first rest) no_actuals a → AllSay s (used s.tables x.token.0 x o a).events
@@ -297,7 +303,7 @@ module _ (s : Source) (known : Tabled s) (from : Place) (e : Extent) (sight : Si
           x.token.0 t.0 t.1 (known.proper d t.0 t.1) (subst (λ z. AllSay s (declared_applied x.token.0 x.token.0 z (length (formals_of s.tables d)) a).events) t.1 said))
       go (denotation.Standard name) is says binds open_to fits said =
           let alone = bound_name s x.token.0 x.name name binds in
-          standard_with s from (syntax.Named x (Then first rest)) name x.token.0 refl (ap stream_denoted says) (standard_owner s x (Then first rest) name says) (standard_unplaced s x (Then first rest) name says) (alone_proper name alone) (Then first rest)
+          standard_with s from (syntax.Named x (Then first rest)) name x.token.0 refl (ap stream_denoted says) (standard_owner s x (Then first rest) name says) (standard_unplaced s x (Then first rest) name says) (standard_shown s x (Then first rest) name says) (alone_proper name alone) (Then first rest)
           (λ other class are. standard_call s from x (Then first rest) name says (unconnected s e x o b name is) (detach_seen name binds b.found) alone other class (alone_proper name alone) are) a (from_zero a.count (suc (size rest)) all.count) fits x.token.0 said
 
 -- ---- attributes behind dots
@@ -425,7 +431,7 @@ module _ (s : Source) (from : Place) (i : ℕ) (a : Expression) (x : Identifier)
       done none given =
           dot_calls s from i a x es (signature name).result (plain_given s (CallGiven s from (syntax.Dot i a x es)) (signature name).result dot_proper (
           dot_given s from i a x es (given_by (signature name).result) (standard_transfers s x.token.0 name says ∙ none)
-          (subst (λ z. DotGives s z (stream_of s a) (ExprIs s from a (Simply kind.Text)) (λ c. ExprIs s from a (Refers c)) es (AreIntegers s from es) (λ ks. AreOf s from es ks) (λ fs. ActualsFit s from es fs) (given_by (signature name).result)) (sym says) given)
+          (subst (λ z. DotGives s z (stream_of s a) (ExprIs s from a (Simply kind.Text)) (λ c. ExprIs s from a (Refers c)) es (AreIntegers s from es) (ParametersAre s from es) (λ ks. AreOf s from es ks) (λ fs. ActualsFit s from es fs) (given_by (signature name).result)) (sym says) given)
           (ap (denoted_leaves s) says ∙ sym (standard_left name))
           ))
 
@@ -442,14 +448,14 @@ module _ (s : Source) (from : Place) (i : ℕ) (a : Expression) (x : Identifier)
           (dot_detaches s from i a x es (says ∙ ap (λ z. Some (denotation.Standard z)) y.0) y.1 (subst (λ z. AreOf s from es (kinds_of (signature z))) y.0 are))
 
   standard_alone : AllSay s (alone s.tables i x (denotation.Standard name)).events → Means true s from (syntax.Dot i a x NoMore) (alone s.tables i x (denotation.Standard name)).value
-  unfolding alone is_placed own_match result_meant stream_of
-  standard_alone said = standard_without s from (syntax.Dot i a x NoMore) name i refl (sym dot_none) (refl, refl) (ap (λ z. is_attribute_denoted s z NoMore) says) dot_proper x.token (λ other class are. dot_call NoMore are) said
+  unfolding alone is_placed own_match result_meant stream_of passed
+  standard_alone said = standard_without s from (syntax.Dot i a x NoMore) name i refl (sym dot_none) (refl, refl) (ap (λ z. is_attribute_denoted s z NoMore) says) (ap (λ z. denoted_passed s z (value_passed s (syntax.Dot i a x NoMore))) says) dot_proper x.token (λ other class are. dot_call NoMore are) said
 
   standard_applies : (first : Expression) (rest : Expressions) (y : Actuals) → y.count ≡ size (Then first rest) → (y.misfit ≡ None → AllFit s from (Some (denotation.Standard name)) 0 (Then first rest))
       → AllSay s (applied s.tables i x.token.0 (denotation.Standard name) y).events → Means true s from (syntax.Dot i a x (Then first rest)) (applied s.tables i x.token.0 (denotation.Standard name) y).value
-  unfolding applied is_placed own_match result_meant stream_of
+  unfolding applied is_placed own_match result_meant stream_of passed
   standard_applies first rest y count fits said =
-      standard_with s from (syntax.Dot i a x (Then first rest)) name i refl (sym dot_none) (refl, refl) (ap (λ z. is_attribute_denoted s z (Then first rest)) says) dot_proper (Then first rest) (λ other class are. dot_call (Then first rest) are) y count fits x.token.0 said
+      standard_with s from (syntax.Dot i a x (Then first rest)) name i refl (sym dot_none) (refl, refl) (ap (λ z. is_attribute_denoted s z (Then first rest)) says) refl dot_proper (Then first rest) (λ other class are. dot_call (Then first rest) are) y count fits x.token.0 said
 
 -- ---- behind a dot: any attribute
 

@@ -31,6 +31,7 @@ use Rattle.sim_meaning.specs.Texts.{kind_of_type, text}
 use Rattle.sim_sound.specs.Held.{Fits, Holds, Place, Simply}
 use Rattle.sim_sound.specs.Expressions.{ExprIs, SortKinds}
 use Rattle.sim_agree.specs.Facts.{IsClass, PlainType, Tabled}
+use Rattle.sim_meaning.specs.Checks.{passed, value_passed}
 use Rattle.sim_allowed.proofs.Calls.{OperandIs}
 use Rattle.sim_allowed.proofs.Classes.{class_held, fits_inside, none_takes, plain_proper, plain_value, proper_value, shared_both, simply, no_connection}
 use Rattle.sim_allowed.proofs.Meant.{Means, Takes, ValueType, NoOwn}
@@ -184,7 +185,7 @@ operators_fit op.And a b = both_fit op.And t.Boolean t.Boolean a b tt tt (refl, 
 -- two operands
 pub two_means : (s : Source) (from : Place) (o : Operator) (i : ℕ) (a b : Expression) (x y : Side) → OperandIs s from a x → OperandIs s from b y
     → AllSay s (two o i x y).events → Means true s from (syntax.Binary o i a b) (two o i x y).value
-unfolding two has telling breaks is_text is_placed own_match result_meant stream_of
+unfolding two has telling breaks is_text is_placed own_match result_meant stream_of passed
 two_means s from o i a b x y p q said =
     subst (λ z. Means true s from (syntax.Binary o i a b) (types_fit o i x y z y.ty).value) (sym p.is)
     (subst (λ z. Means true s from (syntax.Binary o i a b) (types_fit o i x y (Some p.ty) z).value) (sym q.is)
@@ -209,15 +210,16 @@ two_means s from o i a b x y p q said =
       },
       (refl, refl),
       refl,
+      refl,
     )
     go fit.FirstWrong k said = absurd said.0
     go fit.SecondWrong k said = absurd said.0
 
 -- one operand
-one_is : (s : Source) (from : Place) (wanted : SimType) (i : ℕ) (a e : Expression) (x : Side) → PlainType wanted → OperandIs s from a x → typed_token e ≡ i → NoOwn s e → is_placed s e ≡ false → (stream_of s e ≡ None)
+one_is : (s : Source) (from : Place) (wanted : SimType) (i : ℕ) (a e : Expression) (x : Side) → PlainType wanted → OperandIs s from a x → typed_token e ≡ i → NoOwn s e → is_placed s e ≡ false → (stream_of s e ≡ None) → passed s e ≡ value_passed s e
     → (ExprIs s from a (Simply (kind_of_type wanted)) → ExprIs s from e (Simply (kind_of_type wanted))) → AllSay s (one wanted i x).events → Means true s from e (one wanted i x).value
 unfolding one has telling breaks is_text
-one_is s from wanted i a e x w p at own free stream value said =
+one_is s from wanted i a e x w p at own free stream shown value said =
     subst (λ z. Means true s from e (type_wanted wanted i x z).value) (sym p.is)
     (go (is_same p.ty wanted) refl (subst (λ z. AllSay s (type_wanted wanted i x z).events) p.is said))
   where
@@ -233,16 +235,17 @@ one_is s from wanted i a e x w p at own free stream value said =
           },
           own,
           free,
+          shown,
         )
     go false same said = absurd said.0
 
 pub not_means : (s : Source) (from : Place) (i : ℕ) (a : Expression) (x : Side) → OperandIs s from a x → AllSay s (one t.Boolean i x).events → Means true s from (syntax.Not i a) (one t.Boolean i x).value
-unfolding is_placed own_match result_meant stream_of
-not_means s from i a x p said = one_is s from t.Boolean i a (syntax.Not i a) x tt p refl (refl, refl) refl refl (λ v. (refl, v)) said
+unfolding is_placed own_match result_meant stream_of passed
+not_means s from i a x p said = one_is s from t.Boolean i a (syntax.Not i a) x tt p refl (refl, refl) refl refl refl (λ v. (refl, v)) said
 
 pub signed_means : (s : Source) (from : Place) (g : Sign) (i : ℕ) (a : Expression) (x : Side) → OperandIs s from a x → AllSay s (one t.Integer i x).events → Means true s from (syntax.Signed g i a) (one t.Integer i x).value
-unfolding is_placed own_match result_meant stream_of
-signed_means s from g i a x p said = one_is s from t.Integer i a (syntax.Signed g i a) x tt p refl (refl, refl) refl refl (λ v. (refl, v)) said
+unfolding is_placed own_match result_meant stream_of passed
+signed_means s from g i a x p said = one_is s from t.Integer i a (syntax.Signed g i a) x tt p refl (refl, refl) refl refl refl (λ v. (refl, v)) said
 
 -- a conditional expression: what may stand where its type does may stand where the type of each arm does
 record InCommon (s : Source) (a b type : SimType) : Type 0 where
@@ -296,7 +299,7 @@ module _ (s : Source) (known : Tabled s) where
 
 pub three_means : (s : Source) → Tabled s → (from : Place) (i : ℕ) (c a b : Expression) (x y z : Side) → OperandIs s from c x → OperandIs s from a y → OperandIs s from b z
     → AllSay s (three s.tables i x y z).events → Means true s from (syntax.If i c a b) (three s.tables i x y z).value
-unfolding three has telling breaks is_text is_placed own_match result_meant stream_of
+unfolding three has telling breaks is_text is_placed own_match result_meant stream_of passed
 three_means s known from i c a b x y z p q w said =
     subst (λ k. Means true s from (syntax.If i c a b) (arms_fit s.tables i x y z k y.ty z.ty).value) (sym p.is)
     (subst (λ k. Means true s from (syntax.If i c a b) (arms_fit s.tables i x y z (Some p.ty) k z.ty).value) (sym q.is)
@@ -318,6 +321,7 @@ three_means s known from i c a b x y z p q w said =
             value = λ h f. (condition, q.value.value h (both.first h f), w.value.value h (both.second h f));
           },
           (refl, refl),
+          refl,
           refl,
         )
 

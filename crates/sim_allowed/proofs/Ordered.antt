@@ -37,6 +37,8 @@ use Rattle.sim_tree.specs.SyntaxOfProgram.{Arm, arms, Classed, Headed, statement
 use Rattle.sim_base.specs.declared.token.Token.{Token}
 use Rattle.sim_tree.specs.declared.stmt.ModePart.{ModePart}
 use Rattle.sim_tree.specs.declared.stmt.Specification.{Specification}
+use Rattle.sim_tree.specs.declared.stmt.Specifier.{Specifier}
+use Rattle.sim_tree.specs.declared.stmt.Specifier.TheVariants as specifier
 use Rattle.sim_tree.specs.declared.stmt.Variable.{Variable}
 use Rattle.sim_tree.specs.declared.stmt.ArraySegment.{ArraySegment}
 use Rattle.sim_tree.specs.declared.stmt.Bounds.{Bounds}
@@ -46,7 +48,7 @@ use Rattle.sim_tree.specs.declared.stmt.ReferenceElement.{ReferenceElement}
 use Rattle.sim_tree.specs.declared.stmt.ReferenceElement.TheVariants as reference_element
 use Rattle.sim_tree.specs.declared.stmt.VirtualSpecification.{VirtualSpecification}
 use Rattle.sim_tree.specs.Order.{Behind, Spot, Token as Mark, in_bounds, in_each, in_element, in_expression, in_name, in_result, in_schedule, in_segment, in_side, in_type, in_variable}
-use Rattle.sim_agree.specs.Order.{InOrder, in_arms, in_block, in_declaration, in_declarations, in_statement, in_statements, in_virtual}
+use Rattle.sim_agree.specs.Order.{InOrder, in_arms, in_block, in_declaration, in_declarations, in_specification, in_specified, in_statement, in_statements, in_virtual}
 use Rattle.sim_tree.proofs.ReadExpressions.{Full, is_full-Full}
 use Rattle.sim_tree.proofs.ReadStatements.{acted_full}
 use Rattle.sim_allowed.proofs.NamedExpressions as n
@@ -196,11 +198,35 @@ virtuals_named : (vs : List VirtualSpecification) (f : Forest) {h : List Spot �
 virtuals_named [] f full rest = rest full
 virtuals_named (v ∷ vs) f full rest = both (each_virtual (v ∷ vs)) (rest full.2)
 
-behind_ids : (ps : List Identifier) (ms : List ModePart) (ss : List Specification) → Lays (in_each in_name ps) (spots (node g.Identifiers (d.ids ps) (row g.Mode (map d.mode_derivation ms) (row g.Specification (map d.specification_derivation ss) done))))
-behind_ids ps ms ss = both (ids_named ps) (lays_none (row g.Mode (map d.mode_derivation ms) (row g.Specification (map d.specification_derivation ss) done)))
+-- the classes of specifications
+specification_named : (x : Specification) → Lays (in_specification (t.specification_syntax x)) (spots (d.specification_derivation x))
+specification_named x = go x.specifier
+  where
+    names : Forest
+    names = node g.Identifiers (d.ids x.names.items) done
 
--- the parameters of a heading
-heading_named : (ps : List Identifier) (ms : List ModePart) (ss : List Specification) → Lays (in_each in_name ps) (spots (d.heading_derivation ps ms ss))
+    go : (k : Specifier) → Lays (in_specified (t.specifier_syntax k)) (spots (d.specifier_derivation k (node g.Identifiers (d.ids x.names.items) done)))
+    go (specifier.Simple n) = both (type_named n) (lays_none names)
+    go (specifier.Array n i) = both (type_named n) (skip (lays_none names))
+    go (specifier.Procedure None i) = skip (lays_none names)
+    go (specifier.Procedure (Some n) i) = both (type_named n) (skip (lays_none names))
+
+each_specification : (ss : List Specification) → Lays (in_each in_specification (map t.specification_syntax ss)) (spots (row g.Specification (map d.specification_derivation ss) done))
+each_specification [] = none
+each_specification (x ∷ ss) = both (specification_named x) (each_specification ss)
+
+modes_skipped : (ms : List ModePart) (f : Forest) {h : List Spot → List Spot} → Lays h (spots f) → Lays h (spots (row g.Mode (map d.mode_derivation ms) f))
+modes_skipped [] f rest = rest
+modes_skipped (m ∷ ms) f rest = both (lays_none (d.mode_derivation m)) (modes_skipped ms f rest)
+
+abbrev of_heading : List Identifier → List Specification → List Spot → List Spot
+of_heading ps ss l = in_each in_name ps (in_each in_specification (map t.specification_syntax ss) l)
+
+behind_ids : (ps : List Identifier) (ms : List ModePart) (ss : List Specification) → Lays (of_heading ps ss) (spots (node g.Identifiers (d.ids ps) (row g.Mode (map d.mode_derivation ms) (row g.Specification (map d.specification_derivation ss) done))))
+behind_ids ps ms ss = both (ids_named ps) (modes_skipped ms (row g.Specification (map d.specification_derivation ss) done) (each_specification ss))
+
+-- the parameters of a heading, and the classes of its specifications
+heading_named : (ps : List Identifier) (ms : List ModePart) (ss : List Specification) → Lays (of_heading ps ss) (spots (d.heading_derivation ps ms ss))
 heading_named [] [] [] = none
 heading_named [] [] (x ∷ ss) = behind_ids [] [] (x ∷ ss)
 heading_named [] (m ∷ ms) ss = behind_ids [] (m ∷ ms) ss

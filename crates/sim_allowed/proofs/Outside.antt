@@ -34,7 +34,6 @@ use Rattle.inspect_types.specs.Connecting.{Connecting, Connects, Looks, Names, c
 use Rattle.sim_meaning.specs.Attributes.{is_connection}
 use Rattle.sim_meaning.specs.Texts.{text}
 use Rattle.sim_agree.specs.Facts.{FoundThrough}
-use Rattle.sim_agree.specs.Plain.{Plain, PlainArms, PlainBlock, PlainDeclaration, PlainDeclarations, PlainStatement, PlainStatements}
 use Rattle.sim_agree.specs.TablesAgree.{TablesAgree}
 use Rattle.sim_agree.specs.TablesOf.{TablesOf}
 use Rattle.sim_agree.proofs.Connected.{AllMet, connects_met}
@@ -109,126 +108,126 @@ when_says s i e classes said =
 mutual
   unfolding judging connections
 
-  statement_checked : (s : Source) (q : Position) (a : Statement) → PlainStatement a → AllSay s (statement_events (judging s.tables) q a) → Checked s (statement_events connections q a)
-  statement_checked s q (syntax.Empty i) p said = tt
-  statement_checked s ClassBody (syntax.Compound b) p said = class_checked s b p said
-  statement_checked s ClassStatement (syntax.Compound b) p said = block_checked s b p said
-  statement_checked s Inside (syntax.Compound b) p said = block_checked s b p said
-  statement_checked s q (syntax.Prefixed x args b) p said = whole_checked s b p.1 (both_say s (prefixed_events s.tables x args (begin_of b)) (whole_events (judging s.tables) b) said).1
-  statement_checked s q (syntax.Inner i) p said = tt
-  statement_checked s q (syntax.Call e) p said = tt
-  statement_checked s q (syntax.Assign e sides) p said = tt
-  statement_checked s q (syntax.Choose i e a rest) p said =
+  statement_checked : (s : Source) (q : Position) (a : Statement) → AllSay s (statement_events (judging s.tables) q a) → Checked s (statement_events connections q a)
+  statement_checked s q (syntax.Empty i) said = tt
+  statement_checked s ClassBody (syntax.Compound b) said = class_checked s b said
+  statement_checked s ClassStatement (syntax.Compound b) said = block_checked s b said
+  statement_checked s Inside (syntax.Compound b) said = block_checked s b said
+  statement_checked s q (syntax.Prefixed x args b) said = whole_checked s b (both_say s (prefixed_events s.tables x args (begin_of b)) (whole_events (judging s.tables) b) said).1
+  statement_checked s q (syntax.Inner i) said = tt
+  statement_checked s q (syntax.Call e) said = tt
+  statement_checked s q (syntax.Assign e sides) said = tt
+  statement_checked s q (syntax.Choose i e a rest) said =
       let v = judging s.tables in
       let x = both_say s (v.condition e) (statement_events v Inside a ++ statements_events v Inside rest) said in
       let y = both_say s (statement_events v Inside a) (statements_events v Inside rest) x.1 in
-      both_checked s (statement_events connections Inside a) (statements_events connections Inside rest) (statement_checked s Inside a p.1 y.0) (statements_checked s Inside rest p.2 y.1)
-  statement_checked s q (syntax.Repeat i e a) p said =
-      let v = judging s.tables in statement_checked s Inside a p.1 (both_say s (v.condition e) (statement_events v Inside a) said).1
-  statement_checked s q (syntax.For i x sign j es a) p said =
-      let v = judging s.tables in statement_checked s Inside a p.1 (both_say s (v.control x sign j es) (statement_events v Inside a) said).1
-  statement_checked s q (syntax.Inspect i e d a end rest) p said =
+      both_checked s (statement_events connections Inside a) (statements_events connections Inside rest) (statement_checked s Inside a y.0) (statements_checked s Inside rest y.1)
+  statement_checked s q (syntax.Repeat i e a) said =
+      let v = judging s.tables in statement_checked s Inside a (both_say s (v.condition e) (statement_events v Inside a) said).1
+  statement_checked s q (syntax.For i x sign j es a) said =
+      let v = judging s.tables in statement_checked s Inside a (both_say s (v.control x sign j es) (statement_events v Inside a) said).1
+  statement_checked s q (syntax.Inspect i e d a end rest) said =
       let v = judging s.tables in
       let x = both_say s (v.inspect i e) (statement_events v Inside a ++ statements_events v Inside rest) said in
       let y = both_say s (statement_events v Inside a) (statements_events v Inside rest) x.1 in
-      (looked_fine s i e x.0, both_checked s (statement_events connections Inside a) (statements_events connections Inside rest) (statement_checked s Inside a p.1 y.0) (statements_checked s Inside rest p.2 y.1))
-  statement_checked s q (syntax.InspectWhen i e arms rest) p said =
+      (looked_fine s i e x.0, both_checked s (statement_events connections Inside a) (statements_events connections Inside rest) (statement_checked s Inside a y.0) (statements_checked s Inside rest y.1))
+  statement_checked s q (syntax.InspectWhen i e arms rest) said =
       let v = judging s.tables in
       let x = both_say s (v.inspect_when i e (arm_classes arms)) (arms_events v arms ++ statements_events v Inside rest) said in
       let y = both_say s (arms_events v arms) (statements_events v Inside rest) x.1 in
-      both_checked s (arms_events connections arms) (statements_events connections Inside rest) (arms_checked s i (judge_side s.tables extent.Statement e).value arms p.1 (when_says s i e (arm_classes arms) x.0) y.0) (statements_checked s Inside rest p.2 y.1)
-  statement_checked s q (syntax.Activate i word process schedule) p said = tt
+      both_checked s (arms_events connections arms) (statements_events connections Inside rest) (arms_checked s i (judge_side s.tables extent.Statement e).value arms (when_says s i e (arm_classes arms) x.0) y.0) (statements_checked s Inside rest y.1)
+  statement_checked s q (syntax.Activate i word process schedule) said = tt
 
-  statements_checked : (s : Source) (q : Position) (ss : Statements) → PlainStatements ss → AllSay s (statements_events (judging s.tables) q ss) → Checked s (statements_events connections q ss)
-  statements_checked s q NoStatement p said = tt
-  statements_checked s q (Also a more) p said =
+  statements_checked : (s : Source) (q : Position) (ss : Statements) → AllSay s (statements_events (judging s.tables) q ss) → Checked s (statements_events connections q ss)
+  statements_checked s q NoStatement said = tt
+  statements_checked s q (Also a more) said =
       let v = judging s.tables in
       let y = both_say s (statement_events v q a) (statements_events v q more) said in
-      both_checked s (statement_events connections q a) (statements_events connections q more) (statement_checked s q a p.0 y.0) (statements_checked s q more p.1 y.1)
+      both_checked s (statement_events connections q a) (statements_events connections q more) (statement_checked s q a y.0) (statements_checked s q more y.1)
 
-  arms_checked : (s : Source) (i : ℕ) (object : Side) (arms : Arms) → PlainArms arms → AllSay s (each (arm_events s.tables i object) (arm_classes arms)) → AllSay s (arms_events (judging s.tables) arms) → Checked s (arms_events connections arms)
-  arms_checked s i object NoArm p arm said = tt
-  arms_checked s i object (When n x d a end more) p arm said =
+  arms_checked : (s : Source) (i : ℕ) (object : Side) (arms : Arms) → AllSay s (each (arm_events s.tables i object) (arm_classes arms)) → AllSay s (arms_events (judging s.tables) arms) → Checked s (arms_events connections arms)
+  arms_checked s i object NoArm arm said = tt
+  arms_checked s i object (When n x d a end more) arm said =
       let v = judging s.tables in
       let w = both_say s (arm_events s.tables i object x) (each (arm_events s.tables i object) (arm_classes more)) arm in
       let y = both_say s (statement_events v Inside a ++ []) (arms_events v more) said in
       let z = both_say s (statement_events v Inside a) [] y.0 in (
         named_fine s i object x w.0,
-        both_checked s (statement_events connections Inside a ++ []) (arms_events connections more) (both_checked s (statement_events connections Inside a) [] (statement_checked s Inside a p.0 z.0) tt) (arms_checked s i object more p.1 w.1 y.1),
+        both_checked s (statement_events connections Inside a ++ []) (arms_events connections more) (both_checked s (statement_events connections Inside a) [] (statement_checked s Inside a z.0) tt) (arms_checked s i object more w.1 y.1),
       )
 
-  whole_checked : (s : Source) (b : Block) → PlainBlock b → AllSay s (whole_events (judging s.tables) b) → Checked s (whole_events connections b)
-  whole_checked s (Begin i ds ss end) p said =
+  whole_checked : (s : Source) (b : Block) → AllSay s (whole_events (judging s.tables) b) → Checked s (whole_events connections b)
+  whole_checked s (Begin i ds ss end) said =
       let v = judging s.tables in
       let x = both_say s (declarations_events v ds) (statements_events v Inside ss ++ []) said in
       let y = both_say s (statements_events v Inside ss) [] x.1 in
-      both_checked s (declarations_events connections ds) (statements_events connections Inside ss ++ []) (declarations_checked s ds p.0 x.0)
-      (both_checked s (statements_events connections Inside ss) [] (statements_checked s Inside ss p.1 y.0) tt)
+      both_checked s (declarations_events connections ds) (statements_events connections Inside ss ++ []) (declarations_checked s ds x.0)
+      (both_checked s (statements_events connections Inside ss) [] (statements_checked s Inside ss y.0) tt)
 
-  block_checked : (s : Source) (b : Block) → PlainBlock b → AllSay s (block_events (judging s.tables) b) → Checked s (block_events connections b)
-  block_checked s (Begin i NoDeclaration ss end) p said = statements_checked s Inside ss p.1 said
-  block_checked s (Begin i (With d ds) ss end) p said =
+  block_checked : (s : Source) (b : Block) → AllSay s (block_events (judging s.tables) b) → Checked s (block_events connections b)
+  block_checked s (Begin i NoDeclaration ss end) said = statements_checked s Inside ss said
+  block_checked s (Begin i (With d ds) ss end) said =
       let v = judging s.tables in
       let x = both_say s ((declaration_events v d ++ declarations_events v ds) ++ statements_events v Inside ss) [] said in
       let y = both_say s (declaration_events v d ++ declarations_events v ds) (statements_events v Inside ss) x.0 in
       let z = both_say s (declaration_events v d) (declarations_events v ds) y.0 in
       both_checked s ((declaration_events connections d ++ declarations_events connections ds) ++ statements_events connections Inside ss) []
       (both_checked s (declaration_events connections d ++ declarations_events connections ds) (statements_events connections Inside ss)
-      (both_checked s (declaration_events connections d) (declarations_events connections ds) (declaration_checked s d p.0.0 z.0) (declarations_checked s ds p.0.1 z.1)) (statements_checked s Inside ss p.1 y.1)) tt
+      (both_checked s (declaration_events connections d) (declarations_events connections ds) (declaration_checked s d z.0) (declarations_checked s ds z.1)) (statements_checked s Inside ss y.1)) tt
 
-  class_checked : (s : Source) (b : Block) → PlainBlock b → AllSay s (class_events (judging s.tables) b) → Checked s (class_events connections b)
-  class_checked s (Begin i ds ss end) p said =
+  class_checked : (s : Source) (b : Block) → AllSay s (class_events (judging s.tables) b) → Checked s (class_events connections b)
+  class_checked s (Begin i ds ss end) said =
       let v = judging s.tables in
       let x = both_say s (declarations_events v ds) (statements_events v ClassStatement ss) said in
-      both_checked s (declarations_events connections ds) (statements_events connections ClassStatement ss) (declarations_checked s ds p.0 x.0) (statements_checked s ClassStatement ss p.1 x.1)
+      both_checked s (declarations_events connections ds) (statements_events connections ClassStatement ss) (declarations_checked s ds x.0) (statements_checked s ClassStatement ss x.1)
 
-  declarations_checked : (s : Source) (ds : Declarations) → PlainDeclarations ds → AllSay s (declarations_events (judging s.tables) ds) → Checked s (declarations_events connections ds)
-  declarations_checked s NoDeclaration p said = tt
-  declarations_checked s (With d ds) p said =
+  declarations_checked : (s : Source) (ds : Declarations) → AllSay s (declarations_events (judging s.tables) ds) → Checked s (declarations_events connections ds)
+  declarations_checked s NoDeclaration said = tt
+  declarations_checked s (With d ds) said =
       let v = judging s.tables in
       let x = both_say s (declaration_events v d) (declarations_events v ds) said in
-      both_checked s (declaration_events connections d) (declarations_events connections ds) (declaration_checked s d p.0 x.0) (declarations_checked s ds p.1 x.1)
+      both_checked s (declaration_events connections d) (declarations_events connections ds) (declaration_checked s d x.0) (declarations_checked s ds x.1)
 
-  declaration_checked : (s : Source) (d : Declaration) → PlainDeclaration d → AllSay s (declaration_events (judging s.tables) d) → Checked s (declaration_events connections d)
-  declaration_checked s (Variables type vs) p said = tt
-  declaration_checked s (Arrays type i segments) p said = tt
-  declaration_checked s (DeclareProcedure result i h a end) p said =
+  declaration_checked : (s : Source) (d : Declaration) → AllSay s (declaration_events (judging s.tables) d) → Checked s (declaration_events connections d)
+  declaration_checked s (Variables type vs) said = tt
+  declaration_checked s (Arrays type i segments) said = tt
+  declaration_checked s (DeclareProcedure result i h a end) said =
       let v = judging s.tables in
       let x = both_say s (v.procedure result i h) (statement_events v Inside a ++ []) said in
       let y = both_say s (statement_events v Inside a) [] x.1 in
-      both_checked s (statement_events connections Inside a) [] (statement_checked s Inside a p.1 y.0) tt
-  declaration_checked s (DeclareClass prefix i h interface a end) p said =
+      both_checked s (statement_events connections Inside a) [] (statement_checked s Inside a y.0) tt
+  declaration_checked s (DeclareClass prefix i h interface a end) said =
       let v = judging s.tables in
       let x = both_say s (v.class prefix i h interface) (statement_events v ClassBody a ++ []) said in
       let y = both_say s (statement_events v ClassBody a) [] x.1 in
-      both_checked s (statement_events connections ClassBody a) [] (statement_checked s ClassBody a p.1 y.0) tt
+      both_checked s (statement_events connections ClassBody a) [] (statement_checked s ClassBody a y.0) tt
 
-program_checked : (s : Source) → Plain s.program → AllSay s (program_events (judging s.tables) s.program) → Checked s (program_events connections s.program)
+program_checked : (s : Source) → AllSay s (program_events (judging s.tables) s.program) → Checked s (program_events connections s.program)
 unfolding program_events judging connections
-program_checked s plain said = whole_checked s s.program.block plain.block (both_say s ((judging s.tables).program s.program.prefix (begin_of s.program.block)) (whole_events (judging s.tables) s.program.block) said).1
+program_checked s said = whole_checked s s.program.block (both_say s ((judging s.tables).program s.program.prefix (begin_of s.program.block)) (whole_events (judging s.tables) s.program.block) said).1
 
 -- ---- so a class that is connected has none
 
-pub connected_fine : (s : Source) (of : TablesOf s) (plain : Plain s.program) (order : InOrder s.program) → AllSay s (program_events (judging s.tables) s.program) → (k c : ℕ) → is_connection (text s k) ≡ true → base s.tables k ≡ Some c → has_classes s.tables c ≡ false
-connected_fine s of plain order said k c is e = connects_met s of plain order (Fine s) (λ n f. absurd (cc)) (program_checked s plain said) k c is e c refl
+pub connected_fine : (s : Source) (of : TablesOf s) (order : InOrder s.program) → AllSay s (program_events (judging s.tables) s.program) → (k c : ℕ) → is_connection (text s k) ≡ true → base s.tables k ≡ Some c → has_classes s.tables c ≡ false
+connected_fine s of order said k c is e = connects_met s of order (Fine s) (λ n f. absurd (cc)) (program_checked s said) k c is e c refl
 
 -- ---- no class is found through a connection
 
 some_same : {A : Type 0} (a b : A) → Some a ≡ Some b → a ≡ b
 some_same a b e = cc
 
-pub outside : (s : Source) (of : TablesOf s) (plain : Plain s.program) (order : InOrder s.program) → TablesAgree s → AllSay s (program_events (judging s.tables) s.program)
+pub outside : (s : Source) (of : TablesOf s) (order : InOrder s.program) → TablesAgree s → AllSay s (program_events (judging s.tables) s.program)
     → (token found : ℕ) (name : List ℕ) (d : DeclNo) (k : ℕ) → binding s.tables token name ≡ Some (denotation.Declared d) → entry_of s.tables d ≡ Some (entry.Class k) → found_in s.tables token name ≡ Some found → is_connection (text s found) ≡ false
 unfolding found_in has_level has_classes
-outside s of plain order agrees said token found name d k binds is at = go (is_connection (text s found)) refl
+outside s of order agrees said token found name d k binds is at = go (is_connection (text s found)) refl
   where
     declares : holds_class s.tables (block_of s d) ≡ true
-    declares = found_class_held s of plain order token name d k binds is
+    declares = found_class_held s of order token name d k binds is
 
     no_class : is_connection (text s found) ≡ true → (c : ℕ) → base s.tables found ≡ Some c → some_level_of s.tables (length s.tables.blocks) (λ x. nat_eq x (block_of s d)) c ≡ true → ⊥
     no_class is_one c connects level =
         let one : some_level_of s.tables (length s.tables.blocks) (holds_class s.tables) c ≡ true = some_holds s.tables (length s.tables.blocks) c (block_of s d) (holds_class s.tables) declares level in
-        let none : some_level_of s.tables (length s.tables.blocks) (holds_class s.tables) c ≡ false = connected_fine s of plain order said found c is_one connects in
+        let none : some_level_of s.tables (length s.tables.blocks) (holds_class s.tables) c ≡ false = connected_fine s of order said found c is_one connects in
         false≢true (sym none ∙ one)
 
     through : (c : Bool) → is_connection (text s found) ≡ c → FoundThrough s c found (block_of s d) → is_connection (text s found) ≡ false

@@ -1,5 +1,5 @@
 -- Classes in expressions: behind `new`, `this`, `qua`, `is` and `in`.
-use Rattle.std.proofs.Common.{◌≡◌, ◌⊎◌, inl, inr, ℕ, List, Bool, true, false, length, Option, Some, None, refl, sym, ap, ◌∙◌, subst, arith, if◌then◌else◌}
+use Rattle.std.proofs.Common.{◌≡◌, ◌⊎◌, inl, inr, ℕ, Bool, true, false, length, Option, Some, None, refl, sym, ap, ◌∙◌, subst, arith, if◌then◌else◌}
 use Rattle.std.proofs.lemmas.Bool.{false≢true}
 use Rattle.std.proofs.lemmas.Bool.Decides.{nat_tests}
 use Rattle.std.specs.Prelude.{◌||◌, ◌&&◌, ◌+◌, nat_eq, not, slice_get}
@@ -21,7 +21,6 @@ use Rattle.sim_scope.specs.declared.types.SimType.TheVariants as t
 use Rattle.sim_scope.specs.Actuals.{formal_or_none, parameter_at, parameter_of}
 use Rattle.sim_scope.specs.Calls.{bound, misfitting_or, occurs}
 use Rattle.sim_scope.specs.Judged.{Judged, bars, gives, next, telling}
-use Rattle.sim_scope.specs.Building.{name_of}
 use Rattle.sim_scope.specs.Levels.{class_block, is_for_prefixing}
 use Rattle.sim_scope.specs.Operators.{is_reference}
 use Rattle.sim_scope.specs.Outcomes.{breaks, has}
@@ -36,14 +35,12 @@ use Rattle.sim_tree.specs.Syntax as syntax
 use Rattle.sim_values.specs.declared.kind.Kind.TheVariants as kind
 use Rattle.sim_meaning.specs.Closing.{class_parameters, is_placed, is_text, is_text_type, own_match, result_meant, stream_of}
 use Rattle.sim_meaning.specs.Levels.{class_at, class_denoted as class_meant, class_text}
-use Rattle.sim_meaning.specs.Attributes.{is_bare_process}
-use Rattle.sim_meaning.specs.Texts.{BlockText, ClassText, ConnectionText, PrefixedText, ProcedureText, StandardText, Text, kind_of_type, text}
+use Rattle.sim_meaning.specs.Texts.{StandardText, kind_of_type, text}
 use Rattle.sim_sound.specs.Held.{Fits, Holds, Place, Sees, Simply}
-use Rattle.sim_sound.specs.Expressions.{ClassNamed, ExprIs}
+use Rattle.sim_sound.specs.Expressions.{ClassNamed, ExprIs, ProcessClassThere}
 use Rattle.sim_scope.specs.declared.types.StandardClass.TheVariants as standard_class
-use Rattle.sim_static.specs.UnbuiltNames.{is_unbuilt_name}
-use Rattle.sim_agree.specs.Plain.{PlainClass}
 use Rattle.sim_agree.specs.Facts.{IsClass, Tabled}
+use Rattle.sim_meaning.specs.Checks.{passed}
 use Rattle.sim_allowed.proofs.Actuals.{AllFit, all_formals, size}
 use Rattle.sim_allowed.proofs.Calls.{OperandIs}
 use Rattle.sim_allowed.proofs.Classes.{class_held, class_is, class_row, plain_value, simply}
@@ -196,17 +193,18 @@ module _ (s : Source) (known : Tabled s) (from : Place) (x : Extent) (a : Expres
   named = record { class = c.class.block; is = class_meets s x class o c }
 
   pub member_means : (m : Membership) (i : ℕ) → AllSay s (member s.tables i y class o).events → Means true s from (syntax.Member m i a class) (member s.tables i y class o).value
-  unfolding member is_text is_placed own_match result_meant stream_of
+  unfolding member is_text is_placed own_match result_meant stream_of passed
   member_means m i said =
       let k = compared i truth_of said in
       subst (λ z. Means true s from (syntax.Member m i a class) z) (sym k.is) (
         record { proper = tt; texts = ap is_text_type k.typed; stream = refl; typed = k.typed; value = plain_value s from (syntax.Member m i a class) t.Boolean tt (refl, named, k.object) },
         (refl, refl),
         refl,
+        refl,
       )
 
   pub qualified_means : (i : ℕ) → AllSay s (qualified s.tables i y class o).events → Means true s from (syntax.Qua i a class) (qualified s.tables i y class o).value
-  unfolding qualified is_text is_placed own_match result_meant stream_of named
+  unfolding qualified is_text is_placed own_match result_meant stream_of named passed
   qualified_means i said =
       let k = compared i class_type said in
       subst (λ z. Means true s from (syntax.Qua i a class) z) (sym k.is) (
@@ -219,35 +217,13 @@ module _ (s : Source) (known : Tabled s) (from : Place) (x : Extent) (a : Expres
         },
         (refl, refl),
         refl,
+        refl,
       )
 
 -- ---- `new`
 
--- what is no class `process` itself
-made_of : (o : Option Text) → (o ≡ Some (StandardText standard_class.Process) → ⊥) → is_bare_process o ≡ false
-made_of (Some (StandardText standard_class.Process)) never = absurd (never refl)
-made_of (Some (StandardText standard_class.Linkage)) never = refl
-made_of (Some (StandardText standard_class.Link)) never = refl
-made_of (Some (StandardText standard_class.Head)) never = refl
-made_of (Some (BlockText i ds ss)) never = refl
-made_of (Some (ProcedureText result h a)) never = refl
-made_of (Some (ClassText before h ds ss)) never = refl
-made_of (Some ConnectionText) never = refl
-made_of (Some (PrefixedText class es ds ss)) never = refl
-made_of None never = refl
-
--- `process` is not written behind `new`
-no_process : (name : List ℕ) → is_unbuilt_name name ≡ false → name ≡ name_of standard_class.Process → ⊥
-unfolding is_unbuilt_name
-no_process name plain same = false≢true (sym plain ∙ ap is_unbuilt_name same)
-
 module _ (s : Source) (known : Tabled s) (from : Place) (x : Extent) (class : Identifier) (o : Occurrence) (c : ClassIs s x class o) (sees : Sees s from c.declaration) (es : Expressions) (a : Actuals) (count : a.count ≡ size es) (typed : a.typed ≡ true)
-    (fits : a.misfit ≡ None → AllFit s from (Some (denotation.Declared c.declaration)) 0 es) (plain : PlainClass class) where
-  made : is_bare_process (text s c.class.block) ≡ false
-  made =
-      let b = c.found in
-      made_of (text s c.class.block) (λ at. no_process class.name plain (known.class_named class.token.0 class.name c.declaration c.class.block standard_class.Process (b.binds ∙ ap Some c.same) c.class.declares at))
-
+    (fits : a.misfit ≡ None → AllFit s from (Some (denotation.Declared c.declaration)) 0 es) where
   single : is_only_prefix s.tables (denotation.Declared c.declaration) ≡ false → is_for_prefixing s.tables c.class.block ≡ false
   unfolding is_only_prefix
   single e = sym (ap (for_prefixing s.tables) (class_row s.tables c.declaration c.class.block c.class.declares)) ∙ e
@@ -256,8 +232,11 @@ module _ (s : Source) (known : Tabled s) (from : Place) (x : Extent) (class : Id
   unfolding parameter_at
   class_parameter i = ap (parameter_of s.tables c.declaration i) c.class.declares ∙ ap formal_or_none ((class_heading s known c.declaration c.class.block c.class.declares).places i)
 
+  process : text s c.class.block ≡ Some (StandardText standard_class.Process) → ProcessClassThere s c.class.block
+  process at = known.processes_found class.token.0 class.name c.declaration c.class.block (c.found.binds ∙ ap Some c.same) c.class.declares at
+
   pub new_means : (i : ℕ) → AllSay s (new_object s.tables i class o a).events → Means true s from (syntax.New i class es) (new_object s.tables i class o a).value
-  unfolding new_object next gives telling breaks is_text is_placed own_match result_meant stream_of
+  unfolding new_object next gives telling breaks is_text is_placed own_match result_meant stream_of passed
   new_means i said =
       subst (λ (z : Occurrence). Means true s from (syntax.New i class es) (new_of_class s.tables i class.token.0 z.denotes z.barred a).value) (sym c.is)
       (go (subst (λ (z : Occurrence). AllSay s (new_of_class s.tables i class.token.0 z.denotes z.barred a).events) c.is said))
@@ -274,8 +253,8 @@ module _ (s : Source) (known : Tabled s) (from : Place) (x : Extent) (class : Id
           let counted : formal_count s.tables d ≡ length (class_formals s.tables c.class.block) = ap (formal_count_of s.tables) (class_row s.tables c.declaration c.class.block c.class.declares) in
           let number : formal_count s.tables d ≡ a.count = grind (arith, nat_tests) in
           let actuals = all_formals s from (Some d) 0 es (class_parameters s (Some c.class.block)) (λ j. (let zero_more : 0 + j ≡ j = omega arith in ap (parameter_at s.tables (Some d)) zero_more ∙ class_parameter j)) head.proper (sym count ∙ sym number ∙ counted ∙ head.count) (fits fit) in
-          let value : (h : Holds) → Takes s (t.Ref c.declaration) h → ExprIs s from (syntax.New i class es) h = λ h f. (record { declaration = c.declaration; denotes = class_says s x class o c; class = c.class.block; declares = c.class.declares; made = made; single = alone; seen = sees; actuals = actuals }, subst (λ z. Fits s z h) (class_held s c.declaration c.class) f) in
-          (record { proper = c.class; texts = ap is_text_type said.0; stream = refl; typed = said.0; value = value }, value, (refl, refl), refl)
+          let value : (h : Holds) → Takes s (t.Ref c.declaration) h → ExprIs s from (syntax.New i class es) h = λ h f. (record { declaration = c.declaration; denotes = class_says s x class o c; class = c.class.block; declares = c.class.declares; single = alone; process = process; seen = sees; actuals = actuals }, subst (λ z. Fits s z h) (class_held s c.declaration c.class) f) in
+          (record { proper = c.class; texts = ap is_text_type said.0; stream = refl; typed = said.0; value = value }, value, (refl, refl), refl, refl)
 
       go : AllSay s (new_of s.tables i class.token.0 d false a).events → Means true s from (syntax.New i class es) (new_of s.tables i class.token.0 d false a).value
       go said =

@@ -18,16 +18,11 @@ use Rattle.sim_code.specs.Simulations.{is_simulation_name}
 use Rattle.sim_meaning.specs.Attributes.{connection_at, connection_in, is_connection, is_standard_attribute}
 use Rattle.sim_meaning.specs.Levels.{has_levels, is_class}
 use Rattle.sim_meaning.specs.Texts.{text}
-use Rattle.sim_sound.specs.Held.{Around, In, InBound, IsFixed, Place, Refers, StandsAround, from_around, further, itself, own_fixed}
+use Rattle.sim_sound.specs.Held.{Around, In, InBound, IsFixed, Place, Refers, StandsAround, from_around, further, itself, own_fixed, text_of}
 use Rattle.sim_sound.specs.Expressions.{KnownAt, OwnKnown, OwnNameGives, SimulationKnown, ThisFound, ThisIs}
 use Rattle.sim_agree.specs.Facts.{FoundThrough, Tabled}
 use Rattle.sim_allowed.proofs.Classes.{level_reached, levels_here, own_level}
 use Rattle.sim_allowed.proofs.Simulations.{AttributeThere, EitherAttribute, attribute_there, either_attribute, never_connected, of_class}
-
--- the text in which an expression stands
-abbrev pub text_of : Place → ℕ
-text_of (In t) = t
-text_of (InBound t) = t
 
 -- An attribute that is seen without a connection is one of `simulation` itself, or of the object around.
 abbrev pub OwnHere : Source → Place → (token : ℕ) → DeclNo → Option Entry → Type 0

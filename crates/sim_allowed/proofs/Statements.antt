@@ -49,18 +49,17 @@ use Rattle.sim_meaning.specs.Closing.{by_name, class_parameters, formal_by_name,
 use Rattle.sim_meaning.specs.Constants.{arms_constants, block_constants, element_constants, elements_constants, expression_constants, right_constants, schedule_constants, statement_constants, statements_constants, expressions_constants}
 use Rattle.sim_meaning.specs.Levels.{class_at, qualification}
 use Rattle.sim_meaning.specs.Texts.{kind_of_type}
-use Rattle.sim_sound.specs.Held.{Fits, Holds, In, Place, Refers, Simply, formal_names, held_by, reference_to as holds_reference}
-use Rattle.sim_sound.specs.Expressions.{ActualsFit, AreIntegers, AreOf, ExprIs, HeldNames, LeftHeld, PlaceDeclared, PlaceIs}
+use Rattle.sim_sound.specs.Held.{Fits, Holds, In, Place, Refers, Simply, formal_means, held_by, reference_to as holds_reference}
+use Rattle.sim_sound.specs.Expressions.{ActualsFit, AreIntegers, AreOf, ExprIs, HeldNames, LeftHeld, ParametersAre, PlaceDeclared, PlaceIs}
 use Rattle.sim_sound.specs.Statements.{ArmsAre, CallIs, CompoundIs, ControlIs, ControlOf, ElementIs, ElementsAre, OrTransferIs, ReferenceAt, StatementIs, StatementsAre, TextLeft, TimingIs, TransferIs, PrefixedIs, is_given}
 use Rattle.sim_agree.specs.Facts.{PlainType, ProperEntry, ProperFormal, ProperType, Tabled}
-use Rattle.sim_agree.specs.Places.{PlacedArms, PlacedBlock, PlacedElement, PlacedExpression, PlacedName, PlacedSchedule, PlacedSide, PlacedStatement, PlacedStatements, class_of_name, class_of_type, PlacedPrefixed}
-use Rattle.sim_agree.specs.Plain.{Each, PlainArms, PlainBlock, PlainElement, PlainExpression, PlainSchedule, PlainSide, PlainStatement, PlainStatements}
+use Rattle.sim_agree.specs.Places.{Each, PlacedArms, PlacedBlock, PlacedElement, PlacedExpression, PlacedName, PlacedSchedule, PlacedSide, PlacedStatement, PlacedStatements, class_of_name, class_of_type, PlacedPrefixed}
 use Rattle.sim_allowed.proofs.Actuals.{Known}
 use Rattle.sim_allowed.proofs.Assigned.{Assignable, TargetsKnown, lefts_are, place_is_left, left_typed}
 use Rattle.sim_allowed.proofs.Calls.{called_means}
 use Rattle.sim_allowed.proofs.Classes.{class_held, class_qualifies, class_row, own_level, simply, simply_takes}
-use Rattle.sim_allowed.proofs.Declared.{NoResult, UseGives, UseIs, formal_type, never_procedure, never_untyped, simple_held, variable_left, variable_names}
-use Rattle.sim_allowed.proofs.Expressions.{AllThere, both_there, expression_known, operand, expressions_known}
+use Rattle.sim_allowed.proofs.Declared.{NoResult, UseGives, UseIs, variable_left, variable_names}
+use Rattle.sim_allowed.proofs.Expressions.{AllThere, both_there, expression_known, operand, expressions_known, AllNear}
 use Rattle.sim_allowed.proofs.Meant.{CallGiven, CallsFor, DotAs, Means, NamedAs, ValueIs}
 use Rattle.sim_allowed.proofs.Operators.{no_misfit, same_type}
 use Rattle.sim_allowed.proofs.References.{ClassIs, PrefixIs, class_means, class_meets, fits_refused}
@@ -232,7 +231,7 @@ pub record ControlledIs (s : Source) (k : ℕ) (sign : Assignment) (x : Identifi
   pub is : o ≡ Some ty
   pub control : ControlIs (is_text s (syntax.Named x NoMore)) sign s k (syntax.Named x NoMore) (kind_of_type ty)
 
-module _ (s : Source) (known : Tabled s) (k : ℕ) (sight : Sight s (In k) extent.Statement) where
+module _ (s : Source) (known : Tabled s) (k : ℕ) (sight : Sight s (In k) extent.Statement) (near : AllNear s (In k)) where
   module _ (sign : Assignment) (x : Identifier) where
     variable_is : (ty : SimType) → by_name s (syntax.Named x NoMore) ≡ None → (type_at s x.token.0 ≡ Some ty → Assignable s k (syntax.Named x NoMore) ty) → AllSay s (variable_controlled sign x.token.0 ty).events → ControlledIs s k sign x (variable_controlled sign x.token.0 ty).value
     unfolding telling is_text
@@ -250,13 +249,13 @@ module _ (s : Source) (known : Tabled s) (k : ℕ) (sight : Sight s (In k) exten
     moded_is mode.ByValue ty no_name left said = variable_is ty (no_name (λ e. cc)) left said
     moded_is mode.ByReference ty no_name left said = variable_is ty (no_name (λ e. cc)) left said
 
-    formal_is : (m : Mode) (shape' : FormalKind) (w : Option SimType) → ProperFormal s m shape' w → ((m ≡ mode.ByName → ⊥) → by_name s (syntax.Named x NoMore) ≡ None) → ((ty : SimType) → shape' ≡ shape.Simple → w ≡ Some ty → ProperType s ty → type_at s x.token.0 ≡ Some ty → Assignable s k (syntax.Named x NoMore) ty)
+    formal_is : (m : Mode) (shape' : FormalKind) (w : Option SimType) → ProperFormal s shape' w → ((m ≡ mode.ByName → ⊥) → by_name s (syntax.Named x NoMore) ≡ None) → ((ty : SimType) → shape' ≡ shape.Simple → w ≡ Some ty → ProperType s ty → type_at s x.token.0 ≡ Some ty → Assignable s k (syntax.Named x NoMore) ty)
         → AllSay s (formal_controlled sign x.token.0 m shape' w).events → ControlledIs s k sign x (formal_controlled sign x.token.0 m shape' w).value
     unfolding telling gives
-    formal_is m shape.Simple None p no_name left said = absurd (never_untyped s m shape.Simple p)
-    formal_is m shape.Simple (Some ty) p no_name left said = moded_is m ty no_name (left ty refl refl (formal_type s m shape.Simple ty p)) said
+    formal_is m shape.Simple None p no_name left said = absurd p
+    formal_is m shape.Simple (Some ty) p no_name left said = moded_is m ty no_name (left ty refl refl p) said
     formal_is m shape.Array w p no_name left said = absurd said.0
-    formal_is m shape.Procedure w p no_name left said = absurd (never_procedure s m w p)
+    formal_is m shape.Procedure w p no_name left said = absurd said.0
 
     -- how the controlled variable is known
     abbrev Here : DeclNo → Type 0
@@ -269,7 +268,7 @@ module _ (s : Source) (known : Tabled s) (k : ℕ) (sight : Sight s (In k) exten
       -- a variable, which holds what its type does
       assigns : (e : Entry) → entry_of s.tables d ≡ Some e → NoResult (Some e) NoMore → (ty : SimType) → ProperType s ty
           → PlaceDeclared s (Here d) NoMore (AreIntegers s (In k) NoMore) (Some e) (held_by s ty)
-          → ((h : Holds) → Fits s (held_by s ty) h → UseGives s (Here d) d NoMore (AreIntegers s (In k) NoMore) (λ fs. ActualsFit s (In k) NoMore fs) (Some e) (Some h))
+          → ((h : Holds) → Fits s (held_by s ty) h → UseGives s (Here d) d NoMore (AreIntegers s (In k) NoMore) (ParametersAre s (In k) NoMore) (λ fs. ActualsFit s (In k) NoMore fs) (Some e) (Some h))
           → type_at s x.token.0 ≡ Some ty → Assignable s k (syntax.Named x NoMore) ty
       assigns e there none ty p a g typed =
           let it = use_is in
@@ -280,7 +279,7 @@ module _ (s : Source) (known : Tabled s) (k : ℕ) (sight : Sight s (In k) exten
             typed = left_typed s (syntax.Named x NoMore) ty own.1 typed;
             left = place_is_left s k (syntax.Named x NoMore) (held_by s ty) place;
             text = λ is. subst (λ z. TextLeft s k (syntax.Named x NoMore) z) (sym own.0)
-                (it.value (Simply kind.Text) (subst (λ z. UseGives s (Here d) d NoMore (AreIntegers s (In k) NoMore) (λ fs. ActualsFit s (In k) NoMore fs) z (Some (Simply kind.Text))) (sym there)
+                (it.value (Simply kind.Text) (subst (λ z. UseGives s (Here d) d NoMore (AreIntegers s (In k) NoMore) (ParametersAre s (In k) NoMore) (λ fs. ActualsFit s (In k) NoMore fs) z (Some (Simply kind.Text))) (sym there)
                 (g (Simply kind.Text) (subst (λ z. Fits s (held_by s z) (Simply kind.Text)) (sym is) refl))));
             reference = λ c is class held. subst (λ z. ReferenceAt s k (syntax.Named x NoMore) z class) (sym own.0) (subst (λ z. PlaceIs s (In k) (syntax.Named x NoMore) z) (ap (held_by s) is ∙ held) place);
           }
@@ -299,15 +298,14 @@ module _ (s : Source) (known : Tabled s) (k : ℕ) (sight : Sight s (In k) exten
       unfolding telling gives
       entry_is (entry.Variable ty) there p said =
           variable_is ty (named_none (entry.Variable ty) there refl) (assigns (entry.Variable ty) there tt ty p (variable_left s (Here d) (AreIntegers s (In k) NoMore) ty seen)
-          (λ h f. variable_names s (Here d) (AreIntegers s (In k) NoMore) ty h f seen)) said
+          (λ h f. variable_names s (Here d) (AreIntegers s (In k) NoMore) (ParametersAre s (In k) NoMore) ty h f seen)) said
       entry_is (entry.Formal f) there p said =
           formal_is f.mode f.kind f.ty p (λ other. named_none (entry.Formal f) there (formal_none f.mode f.kind other))
           (λ ty kinds types proper typed.
-          let held : formal_names s f.mode f.kind f.ty ≡ Some (held_by s ty) =
-          ap (λ z. formal_names s f.mode z f.ty) kinds ∙ ap (λ z. formal_names s f.mode shape.Simple z) types ∙ simple_held s f.mode ty (subst (λ z. ProperFormal s f.mode shape.Simple z) types (subst (λ z. ProperFormal s f.mode z f.ty) kinds p)) in
+          let held : formal_means s f.kind f.ty ≡ Some (held_by s ty) = ap (λ z. formal_means s z f.ty) kinds ∙ ap (formal_means s shape.Simple) types in
           assigns (entry.Formal f) there tt ty proper
           (subst (λ z. LeftHeld (Here d) NoMore (AreIntegers s (In k) NoMore) z (held_by s ty)) (sym held) (variable_left s (Here d) (AreIntegers s (In k) NoMore) ty seen))
-          (λ h g. subst (λ z. HeldNames s (Here d) NoMore (AreIntegers s (In k) NoMore) z h) (sym held) (variable_names s (Here d) (AreIntegers s (In k) NoMore) ty h g seen))
+          (λ h g. subst (λ z. HeldNames s (Here d) NoMore (AreIntegers s (In k) NoMore) (ParametersAre s (In k) NoMore) z h) (sym held) (variable_names s (Here d) (AreIntegers s (In k) NoMore) (ParametersAre s (In k) NoMore) ty h g seen))
           typed) said
       entry_is (entry.Unspecified w) there p said = absurd p
       entry_is (entry.Attribute name parameter result) there p said = absurd said.0
@@ -375,52 +373,52 @@ module _ (s : Source) (known : Tabled s) (k : ℕ) (sight : Sight s (In k) exten
       (ap kind_of_type both.0, subst (λ z. ExprIs s (In k) e (Simply (kind_of_type z))) both.1 (simply s (In k) e v.ty v.value))
 
   -- an expression of a statement of the text
-  in_statement : (e : Expression) → PlainExpression e → PlacedExpression s.tables k e → AllThere s (expression_constants e) → Known s (In k) extent.Statement e
-  in_statement e p l there = expression_known s known (In k) sight e p l there
+  in_statement : (e : Expression) → PlacedExpression s.tables k e → AllThere s (expression_constants e) → Known s (In k) extent.Statement e
+  in_statement e l there = expression_known s known (In k) sight near e l there
 
-  wanted_is : (wanted : SimType) → PlainType wanted → (e : Expression) → PlainExpression e → PlacedExpression s.tables k e → AllThere s (expression_constants e) → AllSay s (required s.tables extent.Statement wanted e) → ExprIs s (In k) e (Simply (kind_of_type wanted))
-  wanted_is wanted w e p l there said = required_is s known (In k) sight wanted w e (in_statement e p l there) said
+  wanted_is : (wanted : SimType) → PlainType wanted → (e : Expression) → PlacedExpression s.tables k e → AllThere s (expression_constants e) → AllSay s (required s.tables extent.Statement wanted e) → ExprIs s (In k) e (Simply (kind_of_type wanted))
+  wanted_is wanted w e l there said = required_is s known (In k) sight wanted w e (in_statement e l there) said
 
-  element_is : (a : SimType) (e : Element) → PlainElement e → PlacedElement s.tables k e → AllThere s (element_constants e) → AllSay s (element_events s.tables (Some a) e) → ElementIs s k (kind_of_type a) e
-  element_is a (syntax.Once e) q l there said = value_is a e (in_statement e q l there) said
-  element_is a (syntax.While e i c) q l there said =
+  element_is : (a : SimType) (e : Element) → PlacedElement s.tables k e → AllThere s (element_constants e) → AllSay s (element_events s.tables (Some a) e) → ElementIs s k (kind_of_type a) e
+  element_is a (syntax.Once e) l there said = value_is a e (in_statement e l there) said
+  element_is a (syntax.While e i c) l there said =
       let b = both_there s (expression_constants e) (expression_constants c) there in
       let parts = both_say s (first_value s.tables (Some a) e) (required s.tables extent.Statement t.Boolean c) said in
-      (value_is a e (in_statement e q.0 l.0 b.0) parts.0, wanted_is t.Boolean tt c q.1 l.1 b.1 parts.1)
-  element_is a (syntax.Step e i step limit) q l there said =
+      (value_is a e (in_statement e l.0 b.0) parts.0, wanted_is t.Boolean tt c l.1 b.1 parts.1)
+  element_is a (syntax.Step e i step limit) l there said =
       let b = both_there s (expression_constants e) (expression_constants step ++ expression_constants limit) there in
       let c = both_there s (expression_constants step) (expression_constants limit) b.1 in
       let parts = both_say s (first_step s.tables (Some a) e) (required s.tables extent.Statement t.Integer step ++ required s.tables extent.Statement t.Integer limit) said in
       let more = both_say s (required s.tables extent.Statement t.Integer step) (required s.tables extent.Statement t.Integer limit) parts.1 in
-      let first = step_is a e (in_statement e q.0 l.0 b.0) parts.0 in
-      (first.0, first.1, wanted_is t.Integer tt step q.1 l.1 c.0 more.0, wanted_is t.Integer tt limit q.2 l.2 c.1 more.1)
+      let first = step_is a e (in_statement e l.0 b.0) parts.0 in
+      (first.0, first.1, wanted_is t.Integer tt step l.1 c.0 more.0, wanted_is t.Integer tt limit l.2 c.1 more.1)
 
-  elements_are : (a : SimType) (es : List Element) → Each PlainElement es → Each (PlacedElement s.tables k) es → AllThere s (elements_constants es) → AllSay s (each (element_events s.tables (Some a)) es) → ElementsAre s k (kind_of_type a) es
-  elements_are a [] q l there said = tt
-  elements_are a (e ∷ es) q l there said =
+  elements_are : (a : SimType) (es : List Element) → Each (PlacedElement s.tables k) es → AllThere s (elements_constants es) → AllSay s (each (element_events s.tables (Some a)) es) → ElementsAre s k (kind_of_type a) es
+  elements_are a [] l there said = tt
+  elements_are a (e ∷ es) l there said =
       let b = both_there s (element_constants e) (elements_constants es) there in
       let parts = both_say s (element_events s.tables (Some a) e) (each (element_events s.tables (Some a)) es) said in
-      (element_is a e q.0 l.0 b.0 parts.0, elements_are a es q.1 l.1 b.1 parts.1)
+      (element_is a e l.0 b.0 parts.0, elements_are a es l.1 b.1 parts.1)
 
   -- ---- left sides
 
-  last_known : (e : Expression) (parts : List RightSide) → PlainExpression e → Each PlainSide parts → PlacedExpression s.tables k e → Each (PlacedSide s.tables k) parts → AllThere s (expression_constants e) → AllThere s (right_constants parts)
+  last_known : (e : Expression) (parts : List RightSide) → PlacedExpression s.tables k e → Each (PlacedSide s.tables k) parts → AllThere s (expression_constants e) → AllThere s (right_constants parts)
       → Known s (In k) extent.Statement (last_value e parts) × TargetsKnown s k (left_sides e parts)
-  last_known e [] p q l m there more = (in_statement e p l there, tt)
-  last_known e (x ∷ xs) p q l m there more =
+  last_known e [] l m there more = (in_statement e l there, tt)
+  last_known e (x ∷ xs) l m there more =
       let b = both_there s (expression_constants x.value) (right_constants xs) more in
-      let rest = last_known x.value xs q.0 q.1 m.0 m.1 b.0 b.1 in
-      (rest.0, (in_statement e p l there, rest.1))
+      let rest = last_known x.value xs m.0 m.1 b.0 b.1 in
+      (rest.0, (in_statement e l there, rest.1))
 
   -- ---- statements
 
-  for_is : (i : ℕ) (x : Identifier) (sign : Assignment) (j : ℕ) (es : List Element) (a : Statement) → PlainStatement (syntax.For i x sign j es a) → PlacedStatement s k (syntax.For i x sign j es a) → AllThere s (elements_constants es)
+  for_is : (i : ℕ) (x : Identifier) (sign : Assignment) (j : ℕ) (es : List Element) (a : Statement) → PlacedStatement s k (syntax.For i x sign j es a) → AllThere s (elements_constants es)
       → AllSay s (control_events s.tables x sign es) → StatementIs s k a → StatementIs s k (syntax.For i x sign j es a)
   unfolding control_events
-  for_is i x sign j es a p l there said body =
+  for_is i x sign j es a l there said body =
       let parts = both_say s (controlled s.tables sign x).events (each (element_events s.tables (controlled s.tables sign x).value) es) said in
       let c = controlled_is sign x l.0 parts.0 in
-      (kind_of_type c.ty, c.control, elements_are c.ty es p.0 l.1 there (subst (λ z. AllSay s (each (element_events s.tables z) es)) c.is parts.1), body)
+      (kind_of_type c.ty, c.control, elements_are c.ty es l.1 there (subst (λ z. AllSay s (each (element_events s.tables z) es)) c.is parts.1), body)
 
   -- ---- connections
 
@@ -493,24 +491,24 @@ module _ (s : Source) (known : Tabled s) (k : ℕ) (sight : Sight s (In k) exten
       go None same said = no_misfit s.tables (t.Ref process) ty same
       go (Some rule) same said = absurd said.0
 
-  process_is : (process : DeclNo) (e : Expression) → PlainExpression e → PlacedExpression s.tables k e → AllThere s (expression_constants e) → AllSay s (process_events s.tables (Some process) e) → ExprIs s (In k) e (Simply kind.Reference)
+  process_is : (process : DeclNo) (e : Expression) → PlacedExpression s.tables k e → AllThere s (expression_constants e) → AllSay s (process_events s.tables (Some process) e) → ExprIs s (In k) e (Simply kind.Reference)
   unfolding process_events
-  process_is process e p l there said =
+  process_is process e l there said =
       let parts = next_says s (judge_side s.tables extent.Statement e) (activates s.tables (Some process)) said in
-      let v = operand s known (In k) sight e (in_statement e p l there) parts.0 in
+      let v = operand s known (In k) sight e (in_statement e l there) parts.0 in
       subst (λ z. ExprIs s (In k) e (Simply z)) (activated process (judge_side s.tables extent.Statement e).value v.ty v.is parts.1) (simply s (In k) e v.ty v.value)
 
-  timing_is : (process : DeclNo) (x : Schedule) → PlainSchedule x → PlacedSchedule s.tables k x → AllThere s (schedule_constants x) → AllSay s (schedule_events s.tables (Some process) x) → TimingIs s k x
-  timing_is process syntax.Now p l there said = tt
-  timing_is process (syntax.At i e prior) p l there said = wanted_is t.Integer tt e p l there said
-  timing_is process (syntax.Delay i e prior) p l there said = wanted_is t.Integer tt e p l there said
-  timing_is process (syntax.Before i e) p l there said = process_is process e p l there said
-  timing_is process (syntax.After i e) p l there said = process_is process e p l there said
+  timing_is : (process : DeclNo) (x : Schedule) → PlacedSchedule s.tables k x → AllThere s (schedule_constants x) → AllSay s (schedule_events s.tables (Some process) x) → TimingIs s k x
+  timing_is process syntax.Now l there said = tt
+  timing_is process (syntax.At i e prior) l there said = wanted_is t.Integer tt e l there said
+  timing_is process (syntax.Delay i e prior) l there said = wanted_is t.Integer tt e l there said
+  timing_is process (syntax.Before i e) l there said = process_is process e l there said
+  timing_is process (syntax.After i e) l there said = process_is process e l there said
 
-  activation_typed : (i : ℕ) (word : Activation) (e : Expression) (schedule : Schedule) → PlainStatement (syntax.Activate i word e schedule) → PlacedStatement s k (syntax.Activate i word e schedule) → AllThere s (statement_constants (syntax.Activate i word e schedule))
+  activation_typed : (i : ℕ) (word : Activation) (e : Expression) (schedule : Schedule) → PlacedStatement s k (syntax.Activate i word e schedule) → AllThere s (statement_constants (syntax.Activate i word e schedule))
       → AllSay s (activate_events s.tables i e schedule) → StatementIs s k (syntax.Activate i word e schedule)
   unfolding activate_events
-  activation_typed i word e schedule p l there said =
+  activation_typed i word e schedule l there said =
       let b = both_there s (expression_constants e) (schedule_constants schedule) there in
       go (process_at s.tables i) refl b.0 b.1 (both_say s (in_simulation i (process_at s.tables i)) (process_events s.tables (process_at s.tables i) e ++ schedule_events s.tables (process_at s.tables i) schedule) said)
     where
@@ -519,7 +517,7 @@ module _ (s : Source) (known : Tabled s) (k : ℕ) (sight : Sight s (In k) exten
       go None at first second parts = absurd parts.0.0
       go (Some process) at first second parts =
           let more = both_say s (process_events s.tables (Some process) e) (schedule_events s.tables (Some process) schedule) parts.1 in
-          (simulation_is s known k i process l.0 at, process_is process e p.0 l.1 first more.0, timing_is process schedule p.1 l.2 second more.1)
+          (simulation_is s known k i process l.0 at, process_is process e l.1 first more.0, timing_is process schedule l.2 second more.1)
 
 -- ---- each statement of a text, and of the connections in it
 
@@ -538,87 +536,87 @@ in_class ClassBody a n = absurd n
 in_class ClassStatement a n = tt
 in_class Inside a n = tt
 
-module _ (s : Source) (known : Tabled s) where
+module _ (s : Source) (known : Tabled s) (near : (k : ℕ) → AllNear s (In k)) where
   mutual
     unfolding judging
 
-    pub statement_typed : (k : ℕ) (q : Position) (a : Statement) → InClass q a → PlainStatement a → PlacedStatement s k a → AllThere s (statement_constants a) → AllSay s (statement_events (judging s.tables) q a) → StatementIs s k a
-    statement_typed k q (syntax.Empty i) c p l there said = tt
-    statement_typed k ClassBody (syntax.Compound b) c p l there said = absurd c
-    statement_typed k ClassStatement (syntax.Compound b) c p l there said = block_typed k b p l there said
-    statement_typed k Inside (syntax.Compound b) c p l there said = block_typed k b p l there said
-    statement_typed k q (syntax.Inner i) c p l there said = l
-    statement_typed k q (syntax.Call e) c p l there said = call_typed s known k e (in_statement s known k (statement_sight s known k) e p l there) said
-    statement_typed k q (syntax.Assign left parts) c p l there said =
+    pub statement_typed : (k : ℕ) (q : Position) (a : Statement) → InClass q a → PlacedStatement s k a → AllThere s (statement_constants a) → AllSay s (statement_events (judging s.tables) q a) → StatementIs s k a
+    statement_typed k q (syntax.Empty i) c l there said = tt
+    statement_typed k ClassBody (syntax.Compound b) c l there said = absurd c
+    statement_typed k ClassStatement (syntax.Compound b) c l there said = block_typed k b l there said
+    statement_typed k Inside (syntax.Compound b) c l there said = block_typed k b l there said
+    statement_typed k q (syntax.Inner i) c l there said = l
+    statement_typed k q (syntax.Call e) c l there said = call_typed s known k e (in_statement s known k (statement_sight s known k) (near k) e l there) said
+    statement_typed k q (syntax.Assign left parts) c l there said =
         let b = both_there s (expression_constants left) (right_constants parts) there in
-        let h = last_known s known k (statement_sight s known k) left parts p.0 p.1 l.0 l.1 b.0 b.1 in
+        let h = last_known s known k (statement_sight s known k) (near k) left parts l.0 l.1 b.0 b.1 in
         assign_typed s known k (statement_sight s known k) left parts h.0 h.1 said
-    statement_typed k q (syntax.Choose i e a rest) c p l there said =
+    statement_typed k q (syntax.Choose i e a rest) c l there said =
         let b = both_there s (expression_constants e) (statement_constants a ++ statements_constants rest) there in
         let d = both_there s (statement_constants a) (statements_constants rest) b.1 in
         let v = judging s.tables in
         let parts = both_say s (required s.tables extent.Statement t.Boolean e) (statement_events v Inside a ++ statements_events v Inside rest) said in
         let more = both_say s (statement_events v Inside a) (statements_events v Inside rest) parts.1 in
-        (wanted_is s known k (statement_sight s known k) t.Boolean tt e p.0 l.0 b.0 parts.0, statement_typed k Inside a tt p.1 l.1 d.0 more.0, statements_typed k Inside rest tt p.2 l.2 d.1 more.1)
-    statement_typed k q (syntax.Repeat i e a) c p l there said =
+        (wanted_is s known k (statement_sight s known k) (near k) t.Boolean tt e l.0 b.0 parts.0, statement_typed k Inside a tt l.1 d.0 more.0, statements_typed k Inside rest tt l.2 d.1 more.1)
+    statement_typed k q (syntax.Repeat i e a) c l there said =
         let b = both_there s (expression_constants e) (statement_constants a) there in
         let v = judging s.tables in
         let parts = both_say s (required s.tables extent.Statement t.Boolean e) (statement_events v Inside a) said in
-        (wanted_is s known k (statement_sight s known k) t.Boolean tt e p.0 l.0 b.0 parts.0, statement_typed k Inside a tt p.1 l.1 b.1 parts.1)
-    statement_typed k q (syntax.For i x sign j es a) c p l there said =
+        (wanted_is s known k (statement_sight s known k) (near k) t.Boolean tt e l.0 b.0 parts.0, statement_typed k Inside a tt l.1 b.1 parts.1)
+    statement_typed k q (syntax.For i x sign j es a) c l there said =
         let b = both_there s (elements_constants es) (statement_constants a) there in
         let v = judging s.tables in
         let parts = both_say s (control_events s.tables x sign es) (statement_events v Inside a) said in
-        for_is s known k (statement_sight s known k) i x sign j es a p l b.0 parts.0 (statement_typed k Inside a tt p.1 l.2 b.1 parts.1)
-    statement_typed k q (syntax.Inspect i e opening a end other) c p l there said =
+        for_is s known k (statement_sight s known k) (near k) i x sign j es a l b.0 parts.0 (statement_typed k Inside a tt l.2 b.1 parts.1)
+    statement_typed k q (syntax.Inspect i e opening a end other) c l there said =
         let b = both_there s (expression_constants e) (statement_constants a ++ statements_constants other) there in
         let d = both_there s (statement_constants a) (statements_constants other) b.1 in
         let v = judging s.tables in
         let parts = both_say s (inspect_events s.tables i e) (statement_events v Inside a ++ statements_events v Inside other) said in
         let more = both_say s (statement_events v Inside a) (statements_events v Inside other) parts.1 in
         let connection = l.1 in
-        let object = object_is s known k (statement_sight s known k) i e (in_statement s known k (statement_sight s known k) e p.0 l.0 b.0) parts.0 in
-        (connection.connection, subst (λ z. ExprIs s (In k) e (holds_reference z)) (sym connection.connects) object, statement_typed connection.connection.number Inside a tt p.1 l.2 d.0 more.0, statements_typed k Inside other tt p.2 l.3 d.1 more.1)
-    statement_typed k q (syntax.InspectWhen i e arms other) c p l there said =
+        let object = object_is s known k (statement_sight s known k) (near k) i e (in_statement s known k (statement_sight s known k) (near k) e l.0 b.0) parts.0 in
+        (connection.connection, subst (λ z. ExprIs s (In k) e (holds_reference z)) (sym connection.connects) object, statement_typed connection.connection.number Inside a tt l.2 d.0 more.0, statements_typed k Inside other tt l.3 d.1 more.1)
+    statement_typed k q (syntax.InspectWhen i e arms other) c l there said =
         let b = both_there s (expression_constants e) (arms_constants arms ++ statements_constants other) there in
         let d = both_there s (arms_constants arms) (statements_constants other) b.1 in
         let v = judging s.tables in
         let parts = both_say s (inspect_when_events s.tables i e (arm_classes arms)) (arms_events v arms ++ statements_events v Inside other) said in
         let more = both_say s (arms_events v arms) (statements_events v Inside other) parts.1 in
-        let own = inspect_when_parts s known k (statement_sight s known k) i e (arm_classes arms) parts.0 in
-        let object = inspected s known k (statement_sight s known k) e (in_statement s known k (statement_sight s known k) e p.0 l.0 b.0) own.0 in
-        (object, arms_typed k i (judge_side s.tables extent.Statement e).value arms p.1 l.1 d.0 own.1 more.0, statements_typed k Inside other tt p.2 l.2 d.1 more.1)
-    statement_typed k q (syntax.Prefixed class es b) c p l there said =
+        let own = inspect_when_parts s known k (statement_sight s known k) (near k) i e (arm_classes arms) parts.0 in
+        let object = inspected s known k (statement_sight s known k) (near k) e (in_statement s known k (statement_sight s known k) (near k) e l.0 b.0) own.0 in
+        (object, arms_typed k i (judge_side s.tables extent.Statement e).value arms l.1 d.0 own.1 more.0, statements_typed k Inside other tt l.2 d.1 more.1)
+    statement_typed k q (syntax.Prefixed class es b) c l there said =
         let t = both_there s (expressions_constants es) (block_constants b) there in
         let placed = l.1 in
-        let actuals = prefix_fits s known k class es (first_token b) placed.number placed.around (known.block_prefixes placed.number placed.class placed.arguments placed.declarations placed.statements placed.is) (expressions_known s known (In k) (statement_sight s known k) es p.0 l.0 t.0)
+        let actuals = prefix_fits s known k (near k).0 class es (first_token b) placed.number placed.around (known.block_prefixes placed.number placed.class placed.arguments placed.declarations placed.statements placed.is) (expressions_known s known (In k) (statement_sight s known k) (near k) es l.0 t.0)
         (both_say s (prefixed_events s.tables class es (first_token b)) (whole_events (judging s.tables) b) said).0 in
         block_there k es b placed actuals
-    statement_typed k q (syntax.Activate i word e schedule) c p l there said = activation_typed s known k (statement_sight s known k) i word e schedule p l there said
+    statement_typed k q (syntax.Activate i word e schedule) c l there said = activation_typed s known k (statement_sight s known k) (near k) i word e schedule l there said
 
     block_there : (k : ℕ) (es : Expressions) (b : Block) → (l : PlacedPrefixed s k (first_token b)) → ActualsFit s (In k) es (class_parameters s (Some l.number)) → PrefixedIs s k (begin_of b) (λ fs. ActualsFit s (In k) es fs)
     block_there k es (Begin i ds ss end) l fit = record { number = l.number; around = l.around; stands_in = l.stands_in; class = l.class; arguments = l.arguments; declarations = l.declarations; statements = l.statements; is = l.is; actuals = fit }
 
-    arms_typed : (k token : ℕ) (x : Side) (arms : Arms) → PlainArms arms → PlacedArms s k arms → AllThere s (arms_constants arms) → AllSay s (each (arm_events s.tables token x) (arm_classes arms)) → AllSay s (arms_events (judging s.tables) arms) → ArmsAre s k arms
-    arms_typed k token x NoArm p l there own said = tt
-    arms_typed k token x (When i class opening a end more) p l there own said =
+    arms_typed : (k token : ℕ) (x : Side) (arms : Arms) → PlacedArms s k arms → AllThere s (arms_constants arms) → AllSay s (each (arm_events s.tables token x) (arm_classes arms)) → AllSay s (arms_events (judging s.tables) arms) → ArmsAre s k arms
+    arms_typed k token x NoArm l there own said = tt
+    arms_typed k token x (When i class opening a end more) l there own said =
         let v = judging s.tables in
         let b = both_there s (statement_constants a) (arms_constants more) there in
         let first = both_say s (arm_events s.tables token x class) (each (arm_events s.tables token x) (arm_classes more)) own in
         let parts = both_say s (statement_events v Inside a ++ []) (arms_events v more) said in
         let inside = both_say s (statement_events v Inside a) [] parts.0 in
         let connection = l.0 in
-        let c = arm_is s known k (statement_sight s known k) token x class first.0 in
-        (connection.connection, c.0, c.1, connection.connects ∙ c.2, statement_typed connection.connection.number Inside a tt p.0 l.1 b.0 inside.0, arms_typed k token x more p.1 l.2 b.1 first.1 parts.1)
+        let c = arm_is s known k (statement_sight s known k) (near k) token x class first.0 in
+        (connection.connection, c.0, c.1, connection.connects ∙ c.2, statement_typed connection.connection.number Inside a tt l.1 b.0 inside.0, arms_typed k token x more l.2 b.1 first.1 parts.1)
 
-    pub statements_typed : (k : ℕ) (q : Position) (ss : Statements) → NoBody q → PlainStatements ss → PlacedStatements s k ss → AllThere s (statements_constants ss) → AllSay s (statements_events (judging s.tables) q ss) → StatementsAre s k ss
-    statements_typed k q NoStatement c p l there said = tt
-    statements_typed k q (Also a more) c p l there said =
+    pub statements_typed : (k : ℕ) (q : Position) (ss : Statements) → NoBody q → PlacedStatements s k ss → AllThere s (statements_constants ss) → AllSay s (statements_events (judging s.tables) q ss) → StatementsAre s k ss
+    statements_typed k q NoStatement c l there said = tt
+    statements_typed k q (Also a more) c l there said =
         let b = both_there s (statement_constants a) (statements_constants more) there in
         let v = judging s.tables in
         let parts = both_say s (statement_events v q a) (statements_events v q more) said in
-        (statement_typed k q a (in_class q a c) p.0 l.0 b.0 parts.0, statements_typed k q more c p.1 l.1 b.1 parts.1)
+        (statement_typed k q a (in_class q a c) l.0 b.0 parts.0, statements_typed k q more c l.1 b.1 parts.1)
 
-    block_typed : (k : ℕ) (b : Block) → PlainBlock b → PlacedBlock s k b → AllThere s (block_constants b) → AllSay s (block_events (judging s.tables) b) → CompoundIs s k b
-    block_typed k (Begin i NoDeclaration ss end) p l there said = statements_typed k Inside ss tt p.1 l there said
-    block_typed k (Begin i (With d ds) ss end) p l there said = l
+    block_typed : (k : ℕ) (b : Block) → PlacedBlock s k b → AllThere s (block_constants b) → AllSay s (block_events (judging s.tables) b) → CompoundIs s k b
+    block_typed k (Begin i NoDeclaration ss end) l there said = statements_typed k Inside ss tt l there said
+    block_typed k (Begin i (With d ds) ss end) l there said = l

@@ -25,14 +25,14 @@ use Rattle.sim_meaning.specs.Attributes.{is_connection}
 use Rattle.sim_meaning.specs.Closing.{is_placed, is_text, is_text_type, own_match, result_meant, stream_of}
 use Rattle.sim_meaning.specs.Levels.{is_class, has_levels}
 use Rattle.sim_meaning.specs.Texts.{text}
-use Rattle.sim_sound.specs.Held.{Around, Fits, Holds, In, InBound, Place, Refers, StandsAround, further, itself, reference_to}
+use Rattle.sim_sound.specs.Held.{Around, Fits, Holds, In, InBound, Place, Refers, StandsAround, further, itself, reference_to, text_of}
 use Rattle.sim_sound.specs.Expressions.{ThisFound, ThisIs}
 use Rattle.sim_agree.specs.Facts.{IsClass, Tabled}
+use Rattle.sim_meaning.specs.Checks.{passed}
 use Rattle.sim_allowed.proofs.Classes.{class_held, class_row, fits_inside, level_more, level_reached, levels_here, no_connection}
 use Rattle.sim_allowed.proofs.Meant.{Means, Takes}
 use Rattle.sim_allowed.proofs.References.{ClassIs, PrefixIs, kept, only}
 use Rattle.sim_allowed.proofs.Said.{AllSay, next_says}
-use Rattle.sim_allowed.proofs.Sights.{text_of}
 use Rattle.sim_allowed.proofs.Uses.{located_says}
 
 -- statements stand in a text, and only bounds in a bound
@@ -115,7 +115,7 @@ this_is s known from d c b level stands h f = go (is_connection (text s b)) refl
 
 pub this_means : (s : Source) → Tabled s → (from : Place) (i : ℕ) (class : Identifier) (o : Occurrence) → ClassIs s (extent_of from) class o → block_at s.tables class.token.0 ≡ Some (text_of from)
     → AllSay s (this_object s.tables (extent_of from) i class o).events → Means true s from (syntax.This i class) (this_object s.tables (extent_of from) i class o).value
-unfolding this_object next gives telling has this_fits is_text is_placed own_match result_meant stream_of this_block
+unfolding this_object next gives telling has this_fits is_text is_placed own_match result_meant stream_of passed this_block
 this_means s known from i class o c placed said =
     subst (λ (z : Occurrence). Means true s from (syntax.This i class) (this_of_class s.tables (extent_of from) i class.token.0 z.denotes z.barred).value) (sym c.is)
     (go (this_block s.tables class.token.0 d) refl (subst (λ (z : Occurrence). AllSay s (this_of_class s.tables (extent_of from) i class.token.0 z.denotes z.barred).events) c.is said))
@@ -154,6 +154,7 @@ this_means s known from i class o c placed said =
             value = λ h f. value block e k1.0 k3.0 (located_says s i block first.0) h f;
           },
           (refl, refl),
+          refl,
           refl,
         )
       where

@@ -41,7 +41,6 @@ use Rattle.sim_tree.specs.declared.stmt.Variable.{Variable}
 use Rattle.sim_tree.specs.Order.{Ascends, Behind, Spot, Token, in_block, in_arms, in_bounds, in_declaration, in_declarations, in_each, in_element, in_expression, in_name, in_result, in_schedule, in_segment, in_statement, in_statements, in_type, in_variable, in_prefix, tokens}
 use Rattle.sim_tree.specs.Syntax.{Also, Arms, Arrayed, Arrays, Begin, Block, BoundPair, Declaration, Declarations, DeclareClass, DeclareProcedure, Element, Expression, Heading, NoArm, NoDeclaration, NoStatement, Prefix, Program, Schedule, Statement, Statements, Variables, When, With, Expressions}
 use Rattle.sim_tree.specs.Syntax as syntax
-use Rattle.sim_agree.specs.Plain.{Plain, PlainArms, PlainBlock, PlainDeclaration, PlainDeclarations, PlainStatement, PlainStatements}
 use Rattle.sim_allowed.proofs.Counts.{About, Binding, Silent, Typing, binding_then_silent, bound_binds, class_binds, class_fits_silent, here, silent_break, silent_next, silent_none, told, told_both, typing_one, typing_silent, used_in_binds, binding_one}
 use Rattle.sim_allowed.proofs.Nowhere.{nowhere}
 use Rattle.sim_allowed.proofs.StartOrder.{in_start, in_whole}
@@ -385,119 +384,119 @@ module _ (s : Tables) where
   mutual
     unfolding judging told class_prefix_events
 
-    statement_fills : (q : Position) (a : Statement) → PlainStatement a → (l : List Spot) → Fills (statement_events (judging s) q a) l (in_statement a l)
-    statement_fills q (syntax.Empty i) p l = fills_silent [] l silent_none
-    statement_fills ClassBody (syntax.Compound b) p l = class_fills b p l
-    statement_fills ClassStatement (syntax.Compound b) p l = block_fills b p l
-    statement_fills Inside (syntax.Compound b) p l = block_fills b p l
-    statement_fills q (syntax.Inner i) p l = fills_more [] i l l (fills_silent [] l silent_none)
-    statement_fills q (syntax.Call e) p l = call_fills s e l
-    statement_fills q (syntax.Assign e parts) p l = assign_fills s e parts l
-    statement_fills q (syntax.Choose i c a b) p l =
+    statement_fills : (q : Position) (a : Statement) → (l : List Spot) → Fills (statement_events (judging s) q a) l (in_statement a l)
+    statement_fills q (syntax.Empty i) l = fills_silent [] l silent_none
+    statement_fills ClassBody (syntax.Compound b) l = class_fills b l
+    statement_fills ClassStatement (syntax.Compound b) l = block_fills b l
+    statement_fills Inside (syntax.Compound b) l = block_fills b l
+    statement_fills q (syntax.Inner i) l = fills_more [] i l l (fills_silent [] l silent_none)
+    statement_fills q (syntax.Call e) l = call_fills s e l
+    statement_fills q (syntax.Assign e parts) l = assign_fills s e parts l
+    statement_fills q (syntax.Choose i c a b) l =
         let v = judging s in
         fills_both (required s extent.Statement t.Boolean c) (statement_events v Inside a ++ statements_events v Inside b) l (in_statement a (in_statements b l)) (in_expression c (in_statement a (in_statements b l)))
         (required_fills s extent.Statement t.Boolean c (in_statement a (in_statements b l)))
-        (fills_both (statement_events v Inside a) (statements_events v Inside b) l (in_statements b l) (in_statement a (in_statements b l)) (statement_fills Inside a p.1 (in_statements b l)) (statements_fill Inside b p.2 l))
-    statement_fills q (syntax.Repeat i c a) p l =
+        (fills_both (statement_events v Inside a) (statements_events v Inside b) l (in_statements b l) (in_statement a (in_statements b l)) (statement_fills Inside a (in_statements b l)) (statements_fill Inside b l))
+    statement_fills q (syntax.Repeat i c a) l =
         let v = judging s in
-        fills_both (required s extent.Statement t.Boolean c) (statement_events v Inside a) l (in_statement a l) (in_expression c (in_statement a l)) (required_fills s extent.Statement t.Boolean c (in_statement a l)) (statement_fills Inside a p.1 l)
-    statement_fills q (syntax.For i x sign j es a) p l =
+        fills_both (required s extent.Statement t.Boolean c) (statement_events v Inside a) l (in_statement a l) (in_expression c (in_statement a l)) (required_fills s extent.Statement t.Boolean c (in_statement a l)) (statement_fills Inside a l)
+    statement_fills q (syntax.For i x sign j es a) l =
         let v = judging s in
-        fills_both (control_events s x sign es) (statement_events v Inside a) l (in_statement a l) (in_name x (in_each in_element es (in_statement a l))) (control_fills s x sign es (in_statement a l)) (statement_fills Inside a p.1 l)
-    statement_fills q (syntax.Inspect i e j a end b) p l =
+        fills_both (control_events s x sign es) (statement_events v Inside a) l (in_statement a l) (in_name x (in_each in_element es (in_statement a l))) (control_fills s x sign es (in_statement a l)) (statement_fills Inside a l)
+    statement_fills q (syntax.Inspect i e j a end b) l =
         let v = judging s in
         let u = Behind end ∷ in_statements b l in
         fills_both (inspect_events s i e) (statement_events v Inside a ++ statements_events v Inside b) l (Token j ∷ in_statement a u) (in_expression e (Token j ∷ in_statement a u)) (inspect_fills s i e (Token j ∷ in_statement a u))
         (fills_more (statement_events v Inside a ++ statements_events v Inside b) j l (in_statement a u)
-        (fills_both (statement_events v Inside a) (statements_events v Inside b) l (in_statements b l) (in_statement a u) (fills_end (statement_events v Inside a) end (in_statements b l) (in_statement a u) (statement_fills Inside a p.1 u)) (statements_fill Inside b p.2 l)))
-    statement_fills q (syntax.InspectWhen i e whens b) p l =
+        (fills_both (statement_events v Inside a) (statements_events v Inside b) l (in_statements b l) (in_statement a u) (fills_end (statement_events v Inside a) end (in_statements b l) (in_statement a u) (statement_fills Inside a u)) (statements_fill Inside b l)))
+    statement_fills q (syntax.InspectWhen i e whens b) l =
         let v = judging s in
         let m = in_statements b l in
-        object_fills s i e (arm_classes whens) (arms_events v whens) (statements_events v Inside b) l m (in_arms whens m) (arms_fill i (judge_side s extent.Statement e).value whens p.1 m) (statements_fill Inside b p.2 l)
-    statement_fills q (syntax.Prefixed class es b) p l =
-        fills_both (prefixed_events s class es (begin_of b)) (whole_events (judging s) b) l (in_block b l) (in_expression (syntax.Named class es) (in_block b l)) (block_prefix_fills s class es (begin_of b) (in_block b l)) (whole_fills b p.1 l)
-    statement_fills q (syntax.Activate i word e schedule) p l = activate_fills s i e schedule l
+        object_fills s i e (arm_classes whens) (arms_events v whens) (statements_events v Inside b) l m (in_arms whens m) (arms_fill i (judge_side s extent.Statement e).value whens m) (statements_fill Inside b l)
+    statement_fills q (syntax.Prefixed class es b) l =
+        fills_both (prefixed_events s class es (begin_of b)) (whole_events (judging s) b) l (in_block b l) (in_expression (syntax.Named class es) (in_block b l)) (block_prefix_fills s class es (begin_of b) (in_block b l)) (whole_fills b l)
+    statement_fills q (syntax.Activate i word e schedule) l = activate_fills s i e schedule l
 
-    arms_fill : (i : ℕ) (x : Side) (whens : Arms) → PlainArms whens → (l : List Spot) (k : About) (t : ℕ) → (told k t (each (arm_events s i x) (arm_classes whens)) + told k t (arms_events (judging s) whens)) + among t l ≤ among t (in_arms whens l)
-    arms_fill i x NoArm p l k t = omega arith
-    arms_fill i x (When n class j a end more) p l k t =
+    arms_fill : (i : ℕ) (x : Side) (whens : Arms) → (l : List Spot) (k : About) (t : ℕ) → (told k t (each (arm_events s i x) (arm_classes whens)) + told k t (arms_events (judging s) whens)) + among t l ≤ among t (in_arms whens l)
+    arms_fill i x NoArm l k t = omega arith
+    arms_fill i x (When n class j a end more) l k t =
         let u = in_arms more l in
         beside_arm class.token.0 end (each (arm_events s i x) (arm_classes more)) (statement_events (judging s) Inside a) (arm_events s i x class) (arms_events (judging s) more) l u (Token j ∷ in_statement a (Behind end ∷ u))
-        (arm_binds s i x class) (fills_more (statement_events (judging s) Inside a) j (Behind end ∷ u) (in_statement a (Behind end ∷ u)) (statement_fills Inside a p.0 (Behind end ∷ u))) (arms_fill i x more p.1 l) k t
+        (arm_binds s i x class) (fills_more (statement_events (judging s) Inside a) j (Behind end ∷ u) (in_statement a (Behind end ∷ u)) (statement_fills Inside a (Behind end ∷ u))) (arms_fill i x more l) k t
 
-    statements_fill : (q : Position) (ss : Statements) → PlainStatements ss → (l : List Spot) → Fills (statements_events (judging s) q ss) l (in_statements ss l)
-    statements_fill q NoStatement p l = fills_silent [] l silent_none
-    statements_fill q (Also a more) p l =
+    statements_fill : (q : Position) (ss : Statements) → (l : List Spot) → Fills (statements_events (judging s) q ss) l (in_statements ss l)
+    statements_fill q NoStatement l = fills_silent [] l silent_none
+    statements_fill q (Also a more) l =
         let v = judging s in
-        fills_both (statement_events v q a) (statements_events v q more) l (in_statements more l) (in_statement a (in_statements more l)) (statement_fills q a p.0 (in_statements more l)) (statements_fill q more p.1 l)
+        fills_both (statement_events v q a) (statements_events v q more) l (in_statements more l) (in_statement a (in_statements more l)) (statement_fills q a (in_statements more l)) (statements_fill q more l)
 
-    whole_fills : (b : Block) → PlainBlock b → (l : List Spot) → Fills (whole_events (judging s) b) l (in_block b l)
-    whole_fills (Begin i ds ss end) p l =
+    whole_fills : (b : Block) → (l : List Spot) → Fills (whole_events (judging s) b) l (in_block b l)
+    whole_fills (Begin i ds ss end) l =
         let v = judging s in
         let u = Behind end ∷ l in
         let events = declarations_events v ds ++ (statements_events v Inside ss ++ []) in
         fills_more events i l (in_declarations ds (in_statements ss u))
         (fills_end events end l (in_declarations ds (in_statements ss u))
-        (fills_both (declarations_events v ds) (statements_events v Inside ss ++ []) u (in_statements ss u) (in_declarations ds (in_statements ss u)) (declarations_fill ds p.0 (in_statements ss u))
-        (fills_then (statements_events v Inside ss) [] u (in_statements ss u) (statements_fill Inside ss p.1 u) silent_none)))
+        (fills_both (declarations_events v ds) (statements_events v Inside ss ++ []) u (in_statements ss u) (in_declarations ds (in_statements ss u)) (declarations_fill ds (in_statements ss u))
+        (fills_then (statements_events v Inside ss) [] u (in_statements ss u) (statements_fill Inside ss u) silent_none)))
 
-    block_fills : (b : Block) → PlainBlock b → (l : List Spot) → Fills (block_events (judging s) b) l (in_block b l)
-    block_fills (Begin i NoDeclaration ss end) p l =
+    block_fills : (b : Block) → (l : List Spot) → Fills (block_events (judging s) b) l (in_block b l)
+    block_fills (Begin i NoDeclaration ss end) l =
         let v = judging s in
-        fills_more (statements_events v Inside ss) i l (in_statements ss (Behind end ∷ l)) (fills_end (statements_events v Inside ss) end l (in_statements ss (Behind end ∷ l)) (statements_fill Inside ss p.1 (Behind end ∷ l)))
-    block_fills (Begin i (With d ds) ss end) p l =
+        fills_more (statements_events v Inside ss) i l (in_statements ss (Behind end ∷ l)) (fills_end (statements_events v Inside ss) end l (in_statements ss (Behind end ∷ l)) (statements_fill Inside ss (Behind end ∷ l)))
+    block_fills (Begin i (With d ds) ss end) l =
         let v = judging s in
         let u = Behind end ∷ l in
         fills_more ((declarations_events v (With d ds) ++ statements_events v Inside ss) ++ []) i l (in_declarations (With d ds) (in_statements ss u))
         (fills_end ((declarations_events v (With d ds) ++ statements_events v Inside ss) ++ []) end l (in_declarations (With d ds) (in_statements ss u))
         (fills_then (declarations_events v (With d ds) ++ statements_events v Inside ss) [] u (in_declarations (With d ds) (in_statements ss u))
         (fills_both (declarations_events v (With d ds)) (statements_events v Inside ss) u (in_statements ss u) (in_declarations (With d ds) (in_statements ss u))
-        (fills_both (declaration_events v d) (declarations_events v ds) (in_statements ss u) (in_declarations ds (in_statements ss u)) (in_declaration d (in_declarations ds (in_statements ss u))) (declaration_fills d p.0.0 (in_declarations ds (in_statements ss u))) (declarations_fill ds p.0.1 (in_statements ss u)))
-        (statements_fill Inside ss p.1 u)) silent_none))
+        (fills_both (declaration_events v d) (declarations_events v ds) (in_statements ss u) (in_declarations ds (in_statements ss u)) (in_declaration d (in_declarations ds (in_statements ss u))) (declaration_fills d (in_declarations ds (in_statements ss u))) (declarations_fill ds (in_statements ss u)))
+        (statements_fill Inside ss u)) silent_none))
 
     -- the body of a class
-    class_fills : (b : Block) → PlainBlock b → (l : List Spot) → Fills (class_body_events (judging s) b) l (in_block b l)
-    class_fills (Begin i ds ss end) p l =
+    class_fills : (b : Block) → (l : List Spot) → Fills (class_body_events (judging s) b) l (in_block b l)
+    class_fills (Begin i ds ss end) l =
         let v = judging s in
         let u = Behind end ∷ l in
         let es = declarations_events v ds ++ statements_events v ClassStatement ss in
         fills_more es i l (in_declarations ds (in_statements ss u))
         (fills_end es end l (in_declarations ds (in_statements ss u))
-        (fills_both (declarations_events v ds) (statements_events v ClassStatement ss) u (in_statements ss u) (in_declarations ds (in_statements ss u)) (declarations_fill ds p.0 (in_statements ss u)) (statements_fill ClassStatement ss p.1 u)))
+        (fills_both (declarations_events v ds) (statements_events v ClassStatement ss) u (in_statements ss u) (in_declarations ds (in_statements ss u)) (declarations_fill ds (in_statements ss u)) (statements_fill ClassStatement ss u)))
 
-    declarations_fill : (ds : Declarations) → PlainDeclarations ds → (l : List Spot) → Fills (declarations_events (judging s) ds) l (in_declarations ds l)
-    declarations_fill NoDeclaration p l = fills_silent [] l silent_none
-    declarations_fill (With d ds) p l =
+    declarations_fill : (ds : Declarations) → (l : List Spot) → Fills (declarations_events (judging s) ds) l (in_declarations ds l)
+    declarations_fill NoDeclaration l = fills_silent [] l silent_none
+    declarations_fill (With d ds) l =
         let v = judging s in
-        fills_both (declaration_events v d) (declarations_events v ds) l (in_declarations ds l) (in_declaration d (in_declarations ds l)) (declaration_fills d p.0 (in_declarations ds l)) (declarations_fill ds p.1 l)
+        fills_both (declaration_events v d) (declarations_events v ds) l (in_declarations ds l) (in_declaration d (in_declarations ds l)) (declaration_fills d (in_declarations ds l)) (declarations_fill ds l)
 
-    declaration_fills : (d : Declaration) → PlainDeclaration d → (l : List Spot) → Fills (declaration_events (judging s) d) l (in_declaration d l)
-    declaration_fills (Variables type vs) p l =
+    declaration_fills : (d : Declaration) → (l : List Spot) → Fills (declaration_events (judging s) d) l (in_declaration d l)
+    declaration_fills (Variables type vs) l =
         let u = in_each in_variable vs l in
         fills_both (type_events s type) (each (variable_events type) vs) l u (in_type type u) (type_fills s type u) (variables_fill type vs l)
-    declaration_fills (Arrays type i segments) p l =
+    declaration_fills (Arrays type i segments) l =
         let u = in_each in_segment segments l in
         fills_both (type_events s type) (each (array_events s) segments) l u (in_type type u) (type_fills s type u) (each_fills (array_events s) in_segment (segment_fills s) segments l)
-    declaration_fills (DeclareProcedure result i h a end) p l =
+    declaration_fills (DeclareProcedure result i h a end) l =
         let v = judging s in
         let u = Behind end ∷ l in
         let m = in_each in_name h.formals (in_statement a u) in
-        fills_both (result_events s result) (statement_events v Inside a ++ []) l (Token h.name.token.0 ∷ m) (in_result result (Token h.name.token.0 ∷ m)) (result_fills s result (Token h.name.token.0 ∷ m)) (headed_fills h end (statement_events v Inside a) l (in_statement a u) (statement_fills Inside a p.1 u))
-    declaration_fills (DeclareClass prefix i h interface a end) p l =
+        fills_both (result_events s result) (statement_events v Inside a ++ []) l (Token h.name.token.0 ∷ m) (in_result result (Token h.name.token.0 ∷ m)) (result_fills s result (Token h.name.token.0 ∷ m)) (headed_fills h end (statement_events v Inside a) l (in_statement a u) (statement_fills Inside a u))
+    declaration_fills (DeclareClass prefix i h interface a end) l =
         let v = judging s in
         let u = Behind end ∷ l in
         let m = in_each in_name h.formals (in_statement a u) in
-        fills_both (class_prefix_events s prefix h.name.token.0) (statement_events v ClassBody a ++ []) l (Token h.name.token.0 ∷ m) (in_prefix prefix (Token h.name.token.0 ∷ m)) (prefix_fills s prefix h.name.token.0 (Token h.name.token.0 ∷ m)) (headed_fills h end (statement_events v ClassBody a) l (in_statement a u) (statement_fills ClassBody a p.1 u))
+        fills_both (class_prefix_events s prefix h.name.token.0) (statement_events v ClassBody a ++ []) l (Token h.name.token.0 ∷ m) (in_prefix prefix (Token h.name.token.0 ∷ m)) (prefix_fills s prefix h.name.token.0 (Token h.name.token.0 ∷ m)) (headed_fills h end (statement_events v ClassBody a) l (in_statement a u) (statement_fills ClassBody a u))
 
-  start_fills : (o : Option Prefix) (b : Block) → PlainBlock b → Fills (program_prefix_events s o (begin_of b) ++ whole_events (judging s) b) [] (in_start o (in_block b []))
+  start_fills : (o : Option Prefix) (b : Block) → Fills (program_prefix_events s o (begin_of b) ++ whole_events (judging s) b) [] (in_start o (in_block b []))
   unfolding program_prefix_events
-  start_fills None b plain = whole_fills b plain []
-  start_fills (Some x) b plain =
-      fills_both (prefixed_events s x.class x.arguments (begin_of b)) (whole_events (judging s) b) [] (in_block b []) (in_expression (syntax.Named x.class x.arguments) (in_block b [])) (block_prefix_fills s x.class x.arguments (begin_of b) (in_block b [])) (whole_fills b plain [])
+  start_fills None b = whole_fills b []
+  start_fills (Some x) b =
+      fills_both (prefixed_events s x.class x.arguments (begin_of b)) (whole_events (judging s) b) [] (in_block b []) (in_expression (syntax.Named x.class x.arguments) (in_block b [])) (block_prefix_fills s x.class x.arguments (begin_of b) (in_block b [])) (whole_fills b [])
 
-  pub program_fills : (p : Program) → Plain p → Fills (program_events (judging s) p) [] (in_whole p)
+  pub program_fills : (p : Program) → Fills (program_events (judging s) p) [] (in_whole p)
   unfolding judging program_events
-  program_fills p plain = start_fills p.prefix p.block plain.block
+  program_fills p = start_fills p.prefix p.block
 
 -- ---- each token stands once
 
@@ -515,6 +514,6 @@ few i t (Token x ∷ l) a = go (few (x + 1) t l a.1) (nat_eq t x) refl
         (omega (arith, one), λ h. (let none = rest.1 (omega (arith, h, low)) in omega (arith, none)))
 few i t (Behind x ∷ l) a = let rest = few x t l a.1 in let low = a.0 in (rest.0, λ h. rest.1 (omega (arith, low, h)))
 
-pub told_once : (s : Tables) (p : Program) → Plain p → Ascends 0 (in_whole p) → (k : About) (t : ℕ) → told k t (program_events (judging s) p) ≤ 1
+pub told_once : (s : Tables) (p : Program) → Ascends 0 (in_whole p) → (k : About) (t : ℕ) → told k t (program_events (judging s) p) ≤ 1
 unfolding Fills
-told_once s p plain order k t = let a = program_fills s p plain k t in let b = few 0 t (in_whole p) order in let c = b.0 in omega (arith, a, c)
+told_once s p order k t = let a = program_fills s p k t in let b = few 0 t (in_whole p) order in let c = b.0 in omega (arith, a, c)

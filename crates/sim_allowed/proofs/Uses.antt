@@ -39,14 +39,15 @@ use Rattle.sim_meaning.specs.Names.{procedure_named, stream_named}
 use Rattle.sim_meaning.specs.Statements.{denoted_leaves, leaves}
 use Rattle.sim_meaning.specs.Virtuals.{text_of_procedure}
 use Rattle.sim_sound.specs.Held.{Holds, In, InBound, Place, Refers, Simply, held_by}
-use Rattle.sim_sound.specs.Expressions.{ActualsFit, AreIntegers, AreOf, DeclaredGives, DotGives, ExprIs, IdentifierGives, KnownAt, NamedGives, ObjectHas, OwnGives, OwnKnown, OwnNameGives, PlaceDeclared, PlaceDot, PlaceNamed, SetGives, SimulationGives, SimulationKnown, ThisFound}
+use Rattle.sim_sound.specs.Expressions.{ActualsFit, AreIntegers, AreOf, DeclaredGives, DotGives, ExprIs, IdentifierGives, KnownAt, NamedGives, ObjectHas, OwnGives, OwnKnown, OwnNameGives, ParametersAre, PlaceDeclared, PlaceDot, PlaceNamed, SetGives, SimulationGives, SimulationKnown, ThisFound, ProcedureDeclared, ProcedureDot, ProcedureNamed, ProcedureIs as GivesProcedure}
 use Rattle.sim_sound.specs.Statements.{LeftDeclared, OrTransferIs, TransferIs, is_given, LeftResultOr}
 use Rattle.sim_agree.specs.Facts.{PlainGiven}
 use Rattle.sim_agree.proofs.Unprefixed.{standard_is as standard_found}
+use Rattle.sim_meaning.specs.Checks.{denoted_passed, passed, value_passed}
 use Rattle.sim_allowed.proofs.Actuals.{AllFit, all_operands, size}
 use Rattle.sim_allowed.proofs.Calls.{call_means}
 use Rattle.sim_allowed.proofs.Classes.{plain_proper, plain_same}
-use Rattle.sim_allowed.proofs.Declared.{GivenFor, NoResult, UseGives, UseIs}
+use Rattle.sim_allowed.proofs.Declared.{GivenFor, NoResult, UseGives, UseIs, WhenAlone, shown_as}
 use Rattle.sim_allowed.proofs.Meant.{CallGiven, CallsFor, DotAs, GivesNone, InText, Means, NamedAs, TypeThere, Varies, NoOwn}
 use Rattle.sim_allowed.proofs.Names.{IsProcedure, NoAttribute, alone_name, call_kinds, call_result, detach_kinds, detach_result, given_by, kinds_of, parameter_kinds, resume_kinds, resume_result, standard_gives, standard_left, which_transfer}
 use Rattle.sim_allowed.proofs.Nowhere.{is_nowhere}
@@ -120,7 +121,7 @@ no_parameters : (first second : Option SimType) → first ≡ None → parameter
 no_parameters None second e = refl
 no_parameters (Some a) second e = absurd (cc)
 
-module _ (s : Source) (from : Place) (e : Expression) (name : StandardName) (naming : ℕ) (at : typed_token e ≡ naming) (stream : stream_of s e ≡ stream_named name) (unowned : NoOwn s e) (unplaced : is_placed s e ≡ false) (proper : PlainGiven (signature name).result) where
+module _ (s : Source) (from : Place) (e : Expression) (name : StandardName) (naming : ℕ) (at : typed_token e ≡ naming) (stream : stream_of s e ≡ stream_named name) (unowned : NoOwn s e) (unplaced : is_placed s e ≡ false) (shown : passed s e ≡ value_passed s e) (proper : PlainGiven (signature name).result) where
   type_there : (o : Outcome) → AllSay s (typed_if naming (signature name).result o).events → is_stream name ≡ false → TypeThere s e (signature name).result
   unfolding telling gives is_text
   type_there o said other = go (signature name).result proper said
@@ -143,6 +144,7 @@ module _ (s : Source) (from : Place) (e : Expression) (name : StandardName) (nam
         stream = stream;
         unowned = unowned;
         unplaced = unplaced;
+        shown = shown;
       })
 
       go : (b : Bool) → is_standard_class name ≡ b → AllSay s (if b then gives is.Class else typed_if naming (signature name).result (is.Standard name token)).events
@@ -160,7 +162,7 @@ module _ (s : Source) (from : Place) (e : Expression) (name : StandardName) (nam
       result other class same (Some f) is said = absurd said.0
       result other class same None is said =
           subst (λ z. Means true s from e z) (sym (typed_is naming (signature name).result (call_of (signature name).result)))
-          (call_means s from e (signature name).result (type_there (call_of (signature name).result) said other) (calls other class (all_operands s from name es (same ∙ count) (fits is))) true unowned unplaced)
+          (call_means s from e (signature name).result (type_there (call_of (signature name).result) said other) (calls other class (all_operands s from name es (same ∙ count) (fits is))) true unowned unplaced shown)
 
       counted : is_stream name ≡ false → is_standard_class name ≡ false → (b : Bool) → nat_eq (parameter_count (signature name)) a.count ≡ b → AllSay s (if b then resulting naming a.misfit (signature name).result else breaks token r.WrongNumber).events
           → Means true s from e (if b then resulting naming a.misfit (signature name).result else breaks token r.WrongNumber).value
@@ -193,7 +195,7 @@ dot_calls s from i a x es (Some type) g = g
 
 -- an identifier, with the connection through which it is seen, or as a procedure of SIMSET
 abbrev IdentifierAs : Source → Place → Identifier → Expressions → (connection : Option ℕ) → (own : Option DeclNo) → Option Holds → Type 0
-IdentifierAs s from x es c own h = IdentifierGives s from x.token.0 c own es (AreIntegers s from es) (λ ks. AreOf s from es ks) (λ fs. ActualsFit s from es fs) h
+IdentifierAs s from x es c own h = IdentifierGives s from x.token.0 c own es (AreIntegers s from es) (ParametersAre s from es) (λ ks. AreOf s from es ks) (λ fs. ActualsFit s from es fs) h
 
 -- whether an identifier denotes a transfer of control
 pub standard_transfers : (s : Source) (token : ℕ) (name : StandardName) → denoted s token ≡ Some (denotation.Standard name) → transfer_at s token ≡ transfer_named (procedure_named name)
@@ -268,7 +270,7 @@ standard_call s from x es name says unconnected around alone other class proper 
         named_given s from x es (given_by (signature name).result) (standard_transfers s x.token.0 name says ∙ none)
         (subst (λ c. IdentifierAs s from x es c (own_attribute s x.token.0) (given_by (signature name).result)) (sym (unconnected none))
         (subst (λ o. IdentifierAs s from x es None o (given_by (signature name).result)) (sym (own_standard s x.token.0 name says))
-        (subst (λ z. NamedGives s from None z es (AreIntegers s from es) (λ ks. AreOf s from es ks) (λ fs. ActualsFit s from es fs) (given_by (signature name).result)) (sym says)
+        (subst (λ z. NamedGives s from None z es (AreIntegers s from es) (ParametersAre s from es) (λ ks. AreOf s from es ks) (λ fs. ActualsFit s from es fs) (given_by (signature name).result)) (sym says)
         (standard_gives name (is_procedure name alone other class none) (λ ks. AreOf s from es ks) are))))
         (ap (denoted_leaves s) says ∙ sym (standard_left name))
         ))
@@ -398,36 +400,37 @@ known_here s from token d None None e at seen = at
 known_here s from token d None (Some q) e at seen = seen (own_is s q d e).is refl
 
 -- where it is none of `simulation` itself it gives what is declared
-declared_gives : (s : Source) (Known Indices : Type 0) (Actuals : List Formal → Type 0) (d : DeclNo) (es : Expressions) (o : Option Entry) (h : Option Holds) → AttributeThere o → UseGives s Known d es Indices Actuals o h → DeclaredGives s Known d es Indices Actuals o h
-declared_gives s K I A d es (Some (entry.Attribute name w result)) h is a = (is, a.0, a.1, a.2)
-declared_gives s K I A d es (Some (entry.Variable type)) h is a = a
-declared_gives s K I A d es (Some (entry.Constant type)) h is a = a
-declared_gives s K I A d es (Some (entry.Array type n)) h is a = a
-declared_gives s K I A d es (Some (entry.Procedure result k)) h is a = a
-declared_gives s K I A d es (Some (entry.Class k)) h is a = a
-declared_gives s K I A d es (Some (entry.Virtual result own)) h is a = a
-declared_gives s K I A d es (Some (entry.Formal f)) h is a = a
-declared_gives s K I A d es (Some (entry.Unspecified w)) h is a = a
-declared_gives s K I A d es None h is a = a
+declared_gives : (s : Source) (Known Indices Checked : Type 0) (Actuals : List Formal → Type 0) (d : DeclNo) (es : Expressions) (o : Option Entry) (h : Option Holds) → AttributeThere o → UseGives s Known d es Indices Checked Actuals o h → DeclaredGives s Known d es Indices Checked Actuals o h
+declared_gives s K I C A d es (Some (entry.Attribute name w result)) h is a = (is, a.0, a.1, a.2)
+declared_gives s K I C A d es (Some (entry.Variable type)) h is a = a
+declared_gives s K I C A d es (Some (entry.Constant type)) h is a = a
+declared_gives s K I C A d es (Some (entry.Array type n)) h is a = a
+declared_gives s K I C A d es (Some (entry.Procedure result k)) h is a = a
+declared_gives s K I C A d es (Some (entry.Class k)) h is a = a
+declared_gives s K I C A d es (Some (entry.Virtual result own)) h is a = a
+declared_gives s K I C A d es (Some (entry.Formal f)) (Some h) is a = a
+declared_gives s K I C A d es (Some (entry.Formal f)) None is a = a
+declared_gives s K I C A d es (Some (entry.Unspecified w)) h is a = a
+declared_gives s K I C A d es None h is a = a
 
 -- and an attribute is one of both
-own_gives : (s : Source) (from : Place) (token : ℕ) (d : DeclNo) (es : Expressions) (I : Type 0) (A : List Formal → Type 0) (o : Option Entry) (h : Option Holds) → EitherAttribute o → is_standard_attribute o ≡ true → UseGives s (OwnHere s from token d o) d es I A o h
-    → OwnGives s from token d A o h (DeclaredGives s (OwnKnown s from token d) d es I A o h)
-own_gives s from token d es I A (Some (entry.Attribute name w result)) h either e a = go (is_simulation_name name) refl a.1
+own_gives : (s : Source) (from : Place) (token : ℕ) (d : DeclNo) (es : Expressions) (I C : Type 0) (A : List Formal → Type 0) (o : Option Entry) (h : Option Holds) → EitherAttribute o → is_standard_attribute o ≡ true → UseGives s (OwnHere s from token d o) d es I C A o h
+    → OwnGives s from token d A o h (DeclaredGives s (OwnKnown s from token d) d es I C A o h)
+own_gives s from token d es I C A (Some (entry.Attribute name w result)) h either e a = go (is_simulation_name name) refl a.1
   where
     go : (c : Bool) → is_simulation_name name ≡ c → OwnNameGives c (SimulationKnown s from token d) (OwnKnown s from token d)
         → OwnNameGives c (SimulationGives s (SimulationKnown s from token d) w result A h) (SetGives s (OwnKnown s from token d) name w result A h)
     go true is known = (a.0, known, a.2)
     go false is known = (of_class name either is, a.0, known, a.2)
-own_gives s from token d es I A (Some (entry.Variable type)) h either e a = absurd (false≢true e)
-own_gives s from token d es I A (Some (entry.Constant type)) h either e a = absurd (false≢true e)
-own_gives s from token d es I A (Some (entry.Array type n)) h either e a = absurd (false≢true e)
-own_gives s from token d es I A (Some (entry.Procedure result k)) h either e a = absurd (false≢true e)
-own_gives s from token d es I A (Some (entry.Class k)) h either e a = absurd (false≢true e)
-own_gives s from token d es I A (Some (entry.Virtual result own)) h either e a = absurd (false≢true e)
-own_gives s from token d es I A (Some (entry.Formal f)) h either e a = absurd (false≢true e)
-own_gives s from token d es I A (Some (entry.Unspecified w)) h either e a = absurd (false≢true e)
-own_gives s from token d es I A None h either e a = absurd (false≢true e)
+own_gives s from token d es I C A (Some (entry.Variable type)) h either e a = absurd (false≢true e)
+own_gives s from token d es I C A (Some (entry.Constant type)) h either e a = absurd (false≢true e)
+own_gives s from token d es I C A (Some (entry.Array type n)) h either e a = absurd (false≢true e)
+own_gives s from token d es I C A (Some (entry.Procedure result k)) h either e a = absurd (false≢true e)
+own_gives s from token d es I C A (Some (entry.Class k)) h either e a = absurd (false≢true e)
+own_gives s from token d es I C A (Some (entry.Virtual result own)) h either e a = absurd (false≢true e)
+own_gives s from token d es I C A (Some (entry.Formal f)) h either e a = absurd (false≢true e)
+own_gives s from token d es I C A (Some (entry.Unspecified w)) h either e a = absurd (false≢true e)
+own_gives s from token d es I C A None h either e a = absurd (false≢true e)
 
 none_attribute : (o : Option Entry) (d : DeclNo) → None ≡ attribute_if (is_standard_attribute o) d → AttributeThere o
 none_attribute (Some (entry.Attribute name w result)) d e = absurd (cc)
@@ -443,17 +446,17 @@ none_attribute None d e = tt
 
 identifier_gives : (s : Source) (from : Place) (x : Identifier) (es : Expressions) (d : DeclNo) → denoted s x.token.0 ≡ Some (denotation.Declared d) → EitherAttribute (entry_of s.tables d) → (c : Option ℕ) → ((k : ℕ) → c ≡ Some k → AttributeThere (entry_of s.tables d))
     → (own : Option DeclNo) → own ≡ attribute_if (is_standard_attribute (entry_of s.tables d)) d → (h : Option Holds)
-    → UseGives s (KnownHere s from x.token.0 c own d) d es (AreIntegers s from es) (λ fs. ActualsFit s from es fs) (entry_of s.tables d) h → IdentifierAs s from x es c own h
+    → UseGives s (KnownHere s from x.token.0 c own d) d es (AreIntegers s from es) (ParametersAre s from es) (λ fs. ActualsFit s from es fs) (entry_of s.tables d) h → IdentifierAs s from x es c own h
 identifier_gives s from x es d says either (Some k) through own e h a =
-    subst (λ z. NamedGives s from (Some k) z es (AreIntegers s from es) (λ ks. AreOf s from es ks) (λ fs. ActualsFit s from es fs) h) (sym says)
-    (declared_gives s (KnownAt s from (Some k) d) (AreIntegers s from es) (λ fs. ActualsFit s from es fs) d es (entry_of s.tables d) h (through k refl) a)
+    subst (λ z. NamedGives s from (Some k) z es (AreIntegers s from es) (ParametersAre s from es) (λ ks. AreOf s from es ks) (λ fs. ActualsFit s from es fs) h) (sym says)
+    (declared_gives s (KnownAt s from (Some k) d) (AreIntegers s from es) (ParametersAre s from es) (λ fs. ActualsFit s from es fs) d es (entry_of s.tables d) h (through k refl) a)
 identifier_gives s from x es d says either None through None e h a =
-    subst (λ z. NamedGives s from None z es (AreIntegers s from es) (λ ks. AreOf s from es ks) (λ fs. ActualsFit s from es fs) h) (sym says)
-    (declared_gives s (KnownAt s from None d) (AreIntegers s from es) (λ fs. ActualsFit s from es fs) d es (entry_of s.tables d) h (none_attribute (entry_of s.tables d) d e) a)
+    subst (λ z. NamedGives s from None z es (AreIntegers s from es) (ParametersAre s from es) (λ ks. AreOf s from es ks) (λ fs. ActualsFit s from es fs) h) (sym says)
+    (declared_gives s (KnownAt s from None d) (AreIntegers s from es) (ParametersAre s from es) (λ fs. ActualsFit s from es fs) d es (entry_of s.tables d) h (none_attribute (entry_of s.tables d) d e) a)
 identifier_gives s from x es d says either None through (Some q) e h a =
     let own = own_is s q d e in
-    subst (λ z. OwnGives s from x.token.0 z (λ fs. ActualsFit s from es fs) (entry_of s.tables z) h (DeclaredGives s (OwnKnown s from x.token.0 z) z es (AreIntegers s from es) (λ fs. ActualsFit s from es fs) (entry_of s.tables z) h)) own.same
-    (own_gives s from x.token.0 d es (AreIntegers s from es) (λ fs. ActualsFit s from es fs) (entry_of s.tables d) h either own.is a)
+    subst (λ z. OwnGives s from x.token.0 z (λ fs. ActualsFit s from es fs) (entry_of s.tables z) h (DeclaredGives s (OwnKnown s from x.token.0 z) z es (AreIntegers s from es) (ParametersAre s from es) (λ fs. ActualsFit s from es fs) (entry_of s.tables z) h)) own.same
+    (own_gives s from x.token.0 d es (AreIntegers s from es) (ParametersAre s from es) (λ fs. ActualsFit s from es fs) (entry_of s.tables d) h either own.is a)
 
 -- it is no place
 attribute_no_place : (s : Source) (Known Indices : Type 0) (es : Expressions) (o : Option Entry) (h : Holds) → is_standard_attribute o ≡ true → PlaceDeclared s Known es Indices o h → ⊥
@@ -475,6 +478,48 @@ identifier_place s from token es I d (Some k) own e h a = a
 identifier_place s from token es I d None None e h a = a
 identifier_place s from token es I d None (Some q) e h a = absurd (attribute_no_place s (OwnHere s from token d (entry_of s.tables d)) I es (entry_of s.tables d) h (own_is s q d e).is a)
 
+-- nor does it stand for a procedure
+attribute_no_procedure : (s : Source) (Known : Type 0) (o : Option Entry) (wanted : Option SimType) → is_standard_attribute o ≡ true → ProcedureDeclared s Known o wanted → ⊥
+attribute_no_procedure s K (Some (entry.Attribute name w result)) wanted e a = a
+attribute_no_procedure s K (Some (entry.Variable type)) wanted e a = a
+attribute_no_procedure s K (Some (entry.Constant type)) wanted e a = a
+attribute_no_procedure s K (Some (entry.Array type n)) wanted e a = a
+attribute_no_procedure s K (Some (entry.Procedure result n)) wanted e a = false≢true e
+attribute_no_procedure s K (Some (entry.Class n)) wanted e a = a
+attribute_no_procedure s K (Some (entry.Virtual result own)) wanted e a = false≢true e
+attribute_no_procedure s K (Some (entry.Formal f)) wanted e a = false≢true e
+attribute_no_procedure s K (Some (entry.Unspecified w)) wanted e a = a
+attribute_no_procedure s K None wanted e a = a
+
+identifier_procedure : (s : Source) (from : Place) (token : ℕ) (d : DeclNo) (c : Option ℕ) (own : Option DeclNo) → own ≡ attribute_if (is_standard_attribute (entry_of s.tables d)) d → (wanted : Option SimType)
+    → ProcedureDeclared s (KnownHere s from token c own d) (entry_of s.tables d) wanted → ProcedureDeclared s (KnownAt s from c d) (entry_of s.tables d) wanted
+identifier_procedure s from token d (Some k) own e wanted a = a
+identifier_procedure s from token d None None e wanted a = a
+identifier_procedure s from token d None (Some q) e wanted a = absurd (attribute_no_procedure s (OwnHere s from token d (entry_of s.tables d)) (entry_of s.tables d) wanted (own_is s q d e).is a)
+
+named_stands : (s : Source) (from : Place) (x : Identifier) (es : Expressions) (d : DeclNo) → denoted s x.token.0 ≡ Some (denotation.Declared d)
+    → WhenAlone es ((wanted : Option SimType) → ProcedureDeclared s (KnownHere s from x.token.0 (connection_at s x.token.0) (own_attribute s x.token.0) d) (entry_of s.tables d) wanted → GivesProcedure s from (syntax.Named x es) wanted)
+named_stands s from x NoMore d says = λ wanted a.
+    subst (λ z. ProcedureNamed s from (connection_at s x.token.0) z wanted) (sym says)
+    (identifier_procedure s from x.token.0 d (connection_at s x.token.0) (own_attribute s x.token.0) (own_declared s x.token.0 d says) wanted a)
+named_stands s from x (Then e es) d says = tt
+
+dot_stands : (s : Source) (from : Place) (i : ℕ) (b : Expression) (x : Identifier) (es : Expressions) (d : DeclNo) → denoted s x.token.0 ≡ Some (denotation.Declared d)
+    → WhenAlone es ((wanted : Option SimType) → ProcedureDeclared s (ObjectHas s (λ c. ExprIs s from b (Refers c)) d) (entry_of s.tables d) wanted → GivesProcedure s from (syntax.Dot i b x es) wanted)
+dot_stands s from i b x NoMore d says = λ wanted a. subst (λ z. ProcedureDot s z (λ c. ExprIs s from b (Refers c)) wanted) (sym says) a
+dot_stands s from i b x (Then e es) d says = tt
+
+-- as an actual parameter
+named_shown : (s : Source) (x : Identifier) (es : Expressions) (d : DeclNo) → denoted s x.token.0 ≡ Some (denotation.Declared d) → passed s (syntax.Named x es) ≡ shown_as s (syntax.Named x es) d es
+unfolding passed
+named_shown s x NoMore d says = ap (λ z. denoted_passed s z (value_passed s (syntax.Named x NoMore))) says
+named_shown s x (Then e es) d says = refl
+
+dot_shown : (s : Source) (i : ℕ) (b : Expression) (x : Identifier) (es : Expressions) (d : DeclNo) → denoted s x.token.0 ≡ Some (denotation.Declared d) → passed s (syntax.Dot i b x es) ≡ shown_as s (syntax.Dot i b x es) d es
+unfolding passed
+dot_shown s i b x NoMore d says = ap (λ z. denoted_passed s z (value_passed s (syntax.Dot i b x NoMore))) says
+dot_shown s i b x (Then e es) d says = refl
+
 pub named_use : (s : Source) (from : Place) (x : Identifier) (es : Expressions) (d : DeclNo) → denoted s x.token.0 ≡ Some (denotation.Declared d) → EitherAttribute (entry_of s.tables d) → ThroughSeen s x.token.0 d → UseIs s from (syntax.Named x es) x.token.0 d es (KnownHere s from x.token.0 (connection_at s x.token.0) (own_attribute s x.token.0) d)
 unfolding is_placed stream_of
 named_use s from x es d says either through = record {
@@ -488,6 +533,8 @@ named_use s from x es d says either through = record {
   unowned = λ none. (let m = result_no_match s x d es says none in
       (meant_without s x es m ∙ ap (unless_connected (connection_at s x.token.0)) (no_own s x d es says none) ∙ unconnected_none (connection_at s x.token.0), m));
   unplaced = λ none. ap (λ z. is_attribute_denoted s z es) says ∙ none;
+  shown = named_shown s x es d says;
+  stands = named_stands s from x es d says;
 }
   where
     place : (type : SimType) → PlaceDeclared s (KnownHere s from x.token.0 (connection_at s x.token.0) (own_attribute s x.token.0) d) es (AreIntegers s from es) (entry_of s.tables d) (held_by s type) → Varies s from (syntax.Named x es) type
@@ -500,14 +547,16 @@ unfolding is_placed own_match result_meant stream_of
 dot_use s from i b x es d says plain = record {
   at = refl;
   stream = refl;
-  value = λ h a. subst (λ z. DotGives s z (stream_of s b) (ExprIs s from b (Simply kind.Text)) (λ c. ExprIs s from b (Refers c)) es (AreIntegers s from es) (λ ks. AreOf s from es ks) (λ fs. ActualsFit s from es fs) (Some h)) (sym says) (declared_gives s (ObjectHas s (λ c. ExprIs s from b (Refers c)) d) (AreIntegers s from es) (λ fs. ActualsFit s from es fs) d es (entry_of s.tables d) (Some h) plain a);
+  value = λ h a. subst (λ z. DotGives s z (stream_of s b) (ExprIs s from b (Simply kind.Text)) (λ c. ExprIs s from b (Refers c)) es (AreIntegers s from es) (ParametersAre s from es) (λ ks. AreOf s from es ks) (λ fs. ActualsFit s from es fs) (Some h)) (sym says) (declared_gives s (ObjectHas s (λ c. ExprIs s from b (Refers c)) d) (AreIntegers s from es) (ParametersAre s from es) (λ fs. ActualsFit s from es fs) d es (entry_of s.tables d) (Some h) plain a);
   call = λ h a left.
-      dot_given s from i b x es h (declared_transfers s x.token.0 d says) (subst (λ z. DotGives s z (stream_of s b) (ExprIs s from b (Simply kind.Text)) (λ c. ExprIs s from b (Refers c)) es (AreIntegers s from es) (λ ks. AreOf s from es ks) (λ fs. ActualsFit s from es fs) h) (sym says) (declared_gives s (ObjectHas s (λ c. ExprIs s from b (Refers c)) d) (AreIntegers s from es) (λ fs. ActualsFit s from es fs) d es (entry_of s.tables d) h plain a))
+      dot_given s from i b x es h (declared_transfers s x.token.0 d says) (subst (λ z. DotGives s z (stream_of s b) (ExprIs s from b (Simply kind.Text)) (λ c. ExprIs s from b (Refers c)) es (AreIntegers s from es) (ParametersAre s from es) (λ ks. AreOf s from es ks) (λ fs. ActualsFit s from es fs) h) (sym says) (declared_gives s (ObjectHas s (λ c. ExprIs s from b (Refers c)) d) (AreIntegers s from es) (ParametersAre s from es) (λ fs. ActualsFit s from es fs) d es (entry_of s.tables d) h plain a))
       (ap (denoted_leaves s) says ∙ left);
   calls = λ result g. dot_calls s from i b x es result g;
   place = place;
   unowned = λ none. (refl, refl);
   unplaced = λ none. ap (λ z. is_attribute_denoted s z es) says ∙ none;
+  shown = dot_shown s i b x es d says;
+  stands = dot_stands s from i b x es d says;
 }
   where
     place : (type : SimType) → PlaceDeclared s (ObjectHas s (λ c. ExprIs s from b (Refers c)) d) es (AreIntegers s from es) (entry_of s.tables d) (held_by s type) → Varies s from (syntax.Dot i b x es) type

@@ -19,7 +19,6 @@ use Rattle.sim_tree.specs.declared.stmt.TypeName.{TypeName}
 use Rattle.sim_tree.specs.Filled.{Filled}
 use Rattle.sim_tree.specs.Syntax.{Declarations, Expressions, Heading, NoDeclaration, NoStatement, Statement, Statements}
 use Rattle.sim_meaning.specs.Attributes.{is_connection}
-use Rattle.sim_values.specs.declared.kind.Kind.{Kind}
 use Rattle.sim_values.specs.declared.standard.Standard.{Standard}
 use Rattle.sim_code.specs.Sets.{is_attribute_name}
 use Rattle.sim_code.specs.Simulations.{is_simulation_name}
@@ -27,11 +26,12 @@ use Rattle.sim_meaning.specs.Closing.{class_parameters}
 use Rattle.sim_meaning.specs.Entries.{formals_of, numbers_of}
 use Rattle.sim_meaning.specs.Texts.{BlockText, ClassText, ConnectionText, PrefixedText, ProcedureText, StandardText, Text, is_class_free, text}
 use Rattle.sim_meaning.specs.Virtuals.{match_in_text}
-use Rattle.sim_sound.specs.Held.{Among, ArrayOf, ByName, Holds, IsFormal, entry_holds, result_holds}
-use Rattle.sim_sound.specs.Typed.{BlockTyped, ClassThere, ClassTyped, ConnectionTyped, Distinct, FormalsAre, IsAttribute, NoFormals, ProcedureThere, ProcessClassThere, ResultWritten, SetClassThere, SetProcedureThere, SimulationClasses, SimulationProcedureThere, Starts, TextTyped, Typed, arrays_of_block, MatchThere}
+use Rattle.sim_sound.specs.Held.{Among, ArrayOf, ByName, Holds, IsFormal, entry_holds, result_holds, Procedure, In, InBound, Place}
+use Rattle.sim_sound.specs.Expressions.{ProcessClassThere}
+use Rattle.sim_sound.specs.Typed.{BlockTyped, ClassThere, ClassTyped, ConnectionTyped, Distinct, FormalsAre, IsAttribute, NoFormals, ProcedureThere, ResultWritten, SetClassThere, SetProcedureThere, SimulationClasses, SimulationProcedureThere, Starts, TextTyped, Typed, arrays_of_block, MatchThere, FormalsNear}
 use Rattle.sim_agree.specs.Facts.{Tabled}
 use Rattle.sim_agree.specs.Places.{PlacedArrays, PlacedStatement, PlacedStatements}
-use Rattle.sim_agree.specs.Plain.{Plain}
+use Rattle.sim_allowed.proofs.Expressions.{AllNear}
 use Rattle.sim_allowed.proofs.Bounds.{ArraysNamed, arrays_typed}
 use Rattle.sim_allowed.proofs.Said.{AllSay}
 use Rattle.sim_allowed.proofs.Statements.{statement_typed, statements_typed, NoBody}
@@ -52,13 +52,15 @@ pub record BlockIs (s : Source) (k : ℕ) (ds : Declarations) (ss : Statements) 
 pub record ProcedureIs (s : Source) (k : ℕ) (result : Option TypeName) (a : Statement) : Type 0 where
   pub written : ResultWritten result (result_holds s k)
   pub formals : FormalsAre s (numbers_of s k) (formals_of s k)
+  pub near : (around : ℕ) → encloser s.tables k ≡ Some around → FormalsNear s around (formals_of s k)
   pub body : PlacedStatement s k a
 
 pub record ClassIs (s : Source) (k : ℕ) (ds : Declarations) (ss : Statements) : Type 0 where
   pub formals : FormalsAre s (class_formals s.tables k) (class_parameters s (Some k))
   pub parameters : (d : DeclNo) → Among d (numbers_of s k) → IsFormal (entry_of s.tables d) → Among d (class_formals s.tables k)
   pub different : Distinct (numbers_of s k)
-  pub not_by_name : (d : DeclNo) (kind : Kind) → Among d (numbers_of s k) → entry_holds s true (entry_of s.tables d) ≡ Some (ByName kind) → ⊥
+  pub not_by_name : (d : DeclNo) (h : Holds) → Among d (numbers_of s k) → entry_holds s true (entry_of s.tables d) ≡ Some (ByName h) → ⊥
+  pub no_procedure : (d : DeclNo) (result : Option SimType) → Among d (numbers_of s k) → entry_holds s true (entry_of s.tables d) ≡ Some (Procedure result) → ⊥
   pub distinct : Distinct (arrays_of_block s ds)
   pub made : (d : DeclNo) (element : SimType) (dimensions : ℕ) → Among d (numbers_of s k) → entry_of s.tables d ≡ Some (entry.Array element dimensions) → Among d (arrays_of_block s ds)
   pub own : (d : DeclNo) → Among d (arrays_of_block s ds) → Among d (numbers_of s k)
@@ -91,20 +93,20 @@ pub record Agreed (s : Source) : Type 0 where
   pub not_class_free : (t u : ℕ) → encloser s.tables t ≡ Some u → is_class_free s t ≡ false → is_class_free s u ≡ false
   pub no_set_block : (k u : ℕ) (which : StandardClass) (class : Identifier) (es : Expressions) (ds : Declarations) (ss : Statements) → text s k ≡ Some (PrefixedText class es ds ss) → has_level s.tables k u ≡ true → text s u ≡ Some (StandardText which) → ⊥
 
-module _ (s : Source) (agreed : Agreed s) (plain : Plain s.program) (filled : Filled s.program) (said : AllSay s (program_events (judging s.tables) s.program)) where
+module _ (s : Source) (agreed : Agreed s) (filled : Filled s.program) (said : AllSay s (program_events (judging s.tables) s.program)) (near : (f : Place) → AllNear s f) where
   fine_text : (k : ℕ) (x : Text) → text s k ≡ Some x → TextFine s x
-  fine_text k x at = text_fine s plain filled (constants_there s) said k x at
+  fine_text k x at = text_fine s filled (constants_there s) said k x at
 
   block_typed : (k i : ℕ) (ds : Declarations) (ss : Statements) → text s k ≡ Some (BlockText i ds ss) → BlockTyped s k ds ss
   block_typed k i ds ss at =
       let fine = fine_text k (BlockText i ds ss) at in
       let b = agreed.blocks k i ds ss at in record {
         no_formals = b.no_formals;
-        arrays = arrays_typed s agreed.tabled k (ap is_connection at) ds fine.0.0 b.arrays b.named fine.0.1 fine.0.2;
+        arrays = arrays_typed s agreed.tabled k (ap is_connection at) (near (InBound k)) ds b.arrays b.named fine.0.0 fine.0.1;
         distinct = b.distinct;
         made = b.made;
         own = b.own;
-        statements = statements_typed s agreed.tabled k Inside ss tt fine.1.0 b.statements fine.1.1 fine.1.2;
+        statements = statements_typed s agreed.tabled (λ k. near (In k)) k Inside ss tt b.statements fine.1.0 fine.1.1;
       }
 
   class_typed : (k : ℕ) (q : Position) → NoBody q → (ds : Declarations) (ss : Statements) → is_connection (text s k) ≡ false → BlockFine s q ds ss → ClassIs s k ds ss → ClassTyped s k ds ss
@@ -114,12 +116,13 @@ module _ (s : Source) (agreed : Agreed s) (plain : Plain s.program) (filled : Fi
         parameters = b.parameters;
         different = b.different;
         not_by_name = b.not_by_name;
+        no_procedure = b.no_procedure;
         constants = λ d type among e. (let c = tabled.constants d type e in record { value = c.value; is = c.is; of_type = c.of_type });
-        arrays = arrays_typed s agreed.tabled k solid ds fine.0.0 b.arrays b.named fine.0.1 fine.0.2;
+        arrays = arrays_typed s agreed.tabled k solid (near (InBound k)) ds b.arrays b.named fine.0.0 fine.0.1;
         distinct = b.distinct;
         made = b.made;
         own = b.own;
-        statements = statements_typed s agreed.tabled k q ss no_body fine.1.0 b.statements fine.1.1 fine.1.2;
+        statements = statements_typed s agreed.tabled (λ k. near (In k)) k q ss no_body b.statements fine.1.0 fine.1.1;
         stays = b.stays;
       }
 
@@ -128,11 +131,11 @@ module _ (s : Source) (agreed : Agreed s) (plain : Plain s.program) (filled : Fi
   texts_typed k (ProcedureText result h a) at =
       let fine = fine_text k (ProcedureText result h a) at in
       let p = agreed.bodies k result h a at in
-      record { result = p.written; formals = p.formals; body = statement_typed s agreed.tabled k Inside a tt fine.0 p.body fine.1 fine.2 }
+      record { result = p.written; formals = p.formals; near = p.near; body = statement_typed s agreed.tabled (λ k. near (In k)) k Inside a tt p.body fine.0 fine.1 }
   texts_typed k (ClassText prefix h ds ss) at = class_typed k ClassStatement tt ds ss (ap is_connection at) (fine_text k (ClassText prefix h ds ss) at) (agreed.class_bodies k prefix h ds ss at)
   texts_typed k ConnectionText at = agreed.connections k at
   texts_typed k (PrefixedText class es ds ss) at = class_typed k Inside tt ds ss (ap is_connection at) (fine_text k (PrefixedText class es ds ss) at) (agreed.prefixed_bodies k class es ds ss at)
-  texts_typed k (StandardText which) at = class_typed k Inside tt NoDeclaration NoStatement (ap is_connection at) ((tt, tt, tt), (tt, tt, tt), tt) (agreed.standard_bodies k which at)
+  texts_typed k (StandardText which) at = class_typed k Inside tt NoDeclaration NoStatement (ap is_connection at) ((tt, tt), (tt, tt), tt) (agreed.standard_bodies k which at)
 
   pub said_typed : Typed s
   said_typed = let tabled = agreed.tabled in record {

@@ -1,5 +1,5 @@
 //! That what the static rules allow is typed. Each law is a function that does nothing; its clause is the law.
-ghost use Rattle.std.specs.Prelude.{◌≡◌, ℕ, false, List};
+ghost use Rattle.std.specs.Prelude.{◌≡◌, ℕ, List};
 ghost use Rattle.sim_base.specs.declared.limits.Limits.{Limits};
 ghost use Rattle.sim_base.specs.declared.token.Token.{Token};
 ghost use Rattle.sim_tree.specs.declared.program.Program.{Program as Tree};
@@ -10,18 +10,16 @@ ghost use Rattle.sim_static.specs.Check.{Allowed, check_of};
 ghost use Rattle.sim_code.specs.Outcome.{Ended, NoRule, World};
 ghost use Rattle.sim_meaning.specs.Meaning.{run};
 ghost use Rattle.sim_sound.specs.Typed.{Typed};
-ghost use Rattle.sim_agree.specs.Plain.{Plain};
-ghost use Rattle.sim_allowed.specs.MatchParameters.{has_match_with_parameters};
 
-/// A program of tokens that the static rules allow is typed, where it has only forms that are built, and no match of a virtual has parameters.
+/// A program of tokens that the static rules allow is typed.
 #[tactic(auto, using(crate::proofs::Main::allowed_typed))]
 pub fn allowed_programs_are_typed()
-    ensures { (tokens : List Token) (tree : Tree) (s : Source) → IsTree tokens tree → s.program ≡ program_syntax tree → check_of tree ≡ Allowed s.tables s.uses s.found_in s.types → Plain s.program → has_match_with_parameters s ≡ false → Typed s }
+    ensures { (tokens : List Token) (tree : Tree) (s : Source) → IsTree tokens tree → s.program ≡ program_syntax tree → check_of tree ≡ Allowed s.tables s.uses s.found_in s.types → Typed s }
 {}
 
 /// So no such program comes to where there is no rule, whatever the limits and the input are.
 #[tactic(auto, using(crate::proofs::Main::allowed_never_no_rule))]
 pub fn allowed_programs_have_a_rule()
-    ensures { (tokens : List Token) (tree : Tree) (s : Source) → IsTree tokens tree → s.program ≡ program_syntax tree → check_of tree ≡ Allowed s.tables s.uses s.found_in s.types → Plain s.program → has_match_with_parameters s ≡ false
+    ensures { (tokens : List Token) (tree : Tree) (s : Source) → IsTree tokens tree → s.program ≡ program_syntax tree → check_of tree ≡ Allowed s.tables s.uses s.found_in s.types
         → (l : Limits) (input : List ℕ) (n : ℕ) (o : World) → run s l input n ≡ Ended o NoRule → ⊥ }
 {}

@@ -1,7 +1,7 @@
 -- The static rules: the printed number of each, and its words.
 use Rattle.std.specs.Prelude.{ℕ, ◌++◌, List, codes}
 use Rattle.sim_base.specs.declared.rule.Rule.{Rule}
-use Rattle.sim_base.specs.declared.rule.Rule.TheVariants.{ByteBeginsNoToken, TextConstantNotClosed, BadCharacterConstant, RealConstant, IntegerTooLarge, CommentNotClosed, Directive, SourceTooLong, WordLeftOut, UnexpectedToken, NestedTooDeeply, FormNotBuilt, DeclaredTwice, PrefixIsNoClass, ClassInItsOwnChain, SpecificationDisagrees, ModeNotAllowed, InnerOutOfPlace, TooManyLevels, TooManyCells, TooManyDeclarations, QualificationIsNoClass, MatchDoesNotFit, ProtectionOfNoAttribute, NotDeclared, NotAccessible, WrongKind, WrongType, LeftSideIsNoVariable, WrongNumber, DifferentChains, ClassWithClasses, ThisOutsideItsClass, ControlledVariableNotSimple, ActivationOutsideSimulation, OnlyForPrefixing, BoundDependsOnItsBlock, StandardNameLeftOut, RealFunction, RandomDrawing, FileOrLayout, EnvironmentName}
+use Rattle.sim_base.specs.declared.rule.Rule.TheVariants.{ByteBeginsNoToken, TextConstantNotClosed, BadCharacterConstant, RealConstant, IntegerTooLarge, CommentNotClosed, Directive, SourceTooLong, WordLeftOut, UnexpectedToken, NestedTooDeeply, DeclaredTwice, PrefixIsNoClass, ClassInItsOwnChain, SpecificationDisagrees, ModeNotAllowed, InnerOutOfPlace, TooManyLevels, TooManyCells, TooManyDeclarations, QualificationIsNoClass, MatchDoesNotFit, ProtectionOfNoAttribute, NotDeclared, NotAccessible, WrongKind, WrongType, LeftSideIsNoVariable, WrongNumber, DifferentChains, ClassWithClasses, ThisOutsideItsClass, ControlledVariableNotSimple, ActivationOutsideSimulation, OnlyForPrefixing, BoundDependsOnItsBlock, StandardNameLeftOut, RealFunction, RandomDrawing, FileOrLayout, EnvironmentName}
 
 abbrev pub rule_entry : Rule → List ℕ × List ℕ
 rule_entry ByteBeginsNoToken = (codes "X1", codes "byte begins no token")
@@ -15,7 +15,6 @@ rule_entry SourceTooLong = (codes "X8", codes "source too long")
 rule_entry WordLeftOut = (codes "X9", codes "word left out")
 rule_entry UnexpectedToken = (codes "Y1", codes "unexpected token")
 rule_entry NestedTooDeeply = (codes "Y2", codes "nested too deeply")
-rule_entry FormNotBuilt = (codes "Z1", codes "form not built")
 rule_entry DeclaredTwice = (codes "S1", codes "identifier declared twice")
 rule_entry PrefixIsNoClass = (codes "S2", codes "prefix is no class of this block")
 rule_entry ClassInItsOwnChain = (codes "S3", codes "class in its own prefix chain")

@@ -5,9 +5,7 @@ ghost use Rattle.sim_base.specs.Rule.{rule_code, rule_text};
 use std::fmt;
 
 /// A static rule. A source that breaks one is refused, by the first that it breaks: the lexical rules
-/// `X`, then the grammar `Y`, then `Z1`, then the rules `S`, `L` and `N` on names and types.
-///
-/// `Z1` stands for a form of the language that this version of the program does not run.
+/// `X`, then the grammar `Y`, then the rules `S`, `L` and `N` on names and types.
 #[derive(Clone, Copy, Debug, PartialEq, Eq)]
 pub enum Rule {
     /// `X1`: byte begins no token.
@@ -32,8 +30,6 @@ pub enum Rule {
     UnexpectedToken,
     /// `Y2`: nested too deeply.
     NestedTooDeeply,
-    /// `Z1`: form not built.
-    FormNotBuilt,
     /// `S1`: identifier declared twice.
     DeclaredTwice,
     /// `S2`: prefix is no class of this block.
@@ -113,7 +109,6 @@ impl Rule {
             Rule::WordLeftOut => "X9 word left out",
             Rule::UnexpectedToken => "Y1 unexpected token",
             Rule::NestedTooDeeply => "Y2 nested too deeply",
-            Rule::FormNotBuilt => "Z1 form not built",
             Rule::DeclaredTwice => "S1 identifier declared twice",
             Rule::PrefixIsNoClass => "S2 prefix is no class of this block",
             Rule::ClassInItsOwnChain => "S3 class in its own prefix chain",
@@ -163,7 +158,6 @@ impl Rule {
             Rule::WordLeftOut => "X9",
             Rule::UnexpectedToken => "Y1",
             Rule::NestedTooDeeply => "Y2",
-            Rule::FormNotBuilt => "Z1",
             Rule::DeclaredTwice => "S1",
             Rule::PrefixIsNoClass => "S2",
             Rule::ClassInItsOwnChain => "S3",

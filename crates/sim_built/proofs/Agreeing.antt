@@ -20,7 +20,7 @@ use Rattle.sim_meaning.specs.Levels.{has_levels, is_class}
 use Rattle.sim_meaning.specs.Meaning.{has_result}
 use Rattle.sim_meaning.specs.Texts.{BlockText, ClassText, ConnectionText, PrefixedText, ProcedureText, StandardText, Text, text}
 use Rattle.sim_meaning.specs.Virtuals.{match_in_text}
-use Rattle.sim_sound.specs.Held.{Among, FitsIn, first, given_by, later}
+use Rattle.sim_sound.specs.Held.{Among, ResultFits, first, given_by, later}
 use Rattle.sim_sound.specs.Typed as typed
 use Rattle.sim_sound.specs.Typed.{ConnectionTyped, Distinct, Ends as BaseEnds, Home, ResultWritten, Typed, connected, outermost, prefixed, set_place, stands}
 use Rattle.sim_sound.proofs.Attributes.{holds_result}
@@ -82,7 +82,7 @@ module _ (s : Source) (ok : Typed s) (laid : Laid s) where
       }
 
   -- what matches a virtual in a text with levels stands in one of these
-  fits_both : (own result : Option SimType) → FitsIn s (given_by s own) (given_by s result) → has_type own ≡ has_type result
+  fits_both : (own result : Option SimType) → ResultFits s (given_by s own) (given_by s result) → has_type own ≡ has_type result
   fits_both None None f = refl
   fits_both (Some t) (Some u) f = refl
   fits_both None (Some u) f = absurd f
@@ -293,7 +293,6 @@ module _ (s : Source) (ok : Typed s) (laid : Laid s) where
         heading = there.heading;
         body = there.body;
         procedure = there.is;
-        alone = p.alone;
         same = there.same ∙ fits_both p.own (result_in (entry_of s.tables (record { 0 = v }))) p.gives;
       }
 

@@ -25,18 +25,18 @@ use Rattle.sim_meaning.specs.Closing.{block_if, by_name, formal_by_name, name_de
 use Rattle.sim_meaning.specs.Pending.{Declared, Key, Result}
 use Rattle.sim_meaning.specs.Texts.{Text, text}
 use Rattle.sim_meaning.specs.Virtuals.{procedure_text, text_of_procedure}
-use Rattle.sim_sound.specs.Held.{Around, ArrayOf, Holds, In, Refers, Sees, SeesConnected, Simply, entry_holds, formal_holds, formal_names, held_by, result_holds}
+use Rattle.sim_sound.specs.Held.{Around, ArrayOf, Holds, In, Refers, Sees, SeesConnected, Simply, entry_holds, formal_holds, formal_means, held_by, result_holds}
 use Rattle.sim_sound.specs.Expressions.{AreIntegers, ExprIs, LeftHeld, ObjectHas, PlaceDeclared, PlaceDot, PlaceIs, PlaceNamed}
 use Rattle.sim_sound.specs.Statements.{ControlIs, LeftDot, LeftIs, LeftNamed, LeftOf, LeftResultOr, NoText, OwnText, ReferenceAt, ReferenceLeft, TextLeft}
 use Rattle.sim_sound.specs.Typed.{Typed}
 use Rattle.codegen_expr.specs.Built.{AreBuilt, CellBuilt, ClassBuilt, IsBuilt, KeyBuilt, PlaceBuilt, PlaceOrResultBuilt, ReferenceBuilt, StandsIn, is_there, slot_in}
 use Rattle.codegen.specs.BuiltProgram.{LeftBuilt, StepsBuilt, VariableBuilt}
 use Rattle.codegen.specs.CodeFor.{Variable, assigned_by, variable_of, variable_stored}
-use Rattle.codegen.specs.CodeLeft.{AtAttribute, InCell, Stored, stored_by_sign, stored_declared, stored_element, stored_formal, stored_found, stored_left, stored_match, stored_named, stored_of, stored_or_named, stored_text, stored_variable}
+use Rattle.codegen.specs.CodeLeft.{AtAttribute, InCell, Stored, stored_anew, stored_by_sign, stored_declared, stored_element, stored_formal, stored_found, stored_left, stored_match, stored_named, stored_of, stored_or_named, stored_text, stored_variable}
 use Rattle.sim_built.specs.Laid.{Laid}
 use Rattle.sim_built.proofs.Cells.{declared_has, result_has, result_typed, stands}
 use Rattle.sim_built.proofs.Expressions.{Stands, integers_built, is_built, place_built}
-use Rattle.sim_built.proofs.Lists.{Alone, Indexed, LeftCase, a_place, a_result, left_alone, left_case, left_indexed, left_none, left_place, no_array}
+use Rattle.sim_built.proofs.Lists.{Alone, Indexed, LeftCase, a_place, a_result, left_alone, left_case, left_indexed, left_none, left_place, left_procedure, no_array}
 use Rattle.sim_built.proofs.NamedSides.{named_built}
 use Rattle.sim_built.proofs.Standing.{stands_here}
 
@@ -164,36 +164,46 @@ module _ (s : Source) (ok : Typed s) (laid : Laid s) (t : ℕ) (x : Text) (there
   element_left d NoMore line h e a = absurd a
   element_left d (Then y ys) line h e a = (cell d (ArrayOf h) e a.0, integers (Then y ys) a.1)
 
-  formal_left : (d : DeclNo) (es : Expressions) (line : ℕ) (m : Mode) (f : FormalKind) (ty : Option SimType) (h : Holds) → (es ≡ NoMore → named_formal m f d ≡ None) → entry_holds s false (entry_of s.tables d) ≡ formal_holds s m f ty → LeftHeld (Sees s (In t) d) es (AreIntegers s (In t) es) (formal_names s m f ty) h → LeftBuilt s t (stored_formal s d es line m f)
-  formal_left d es line mode.ByValue shape.Simple (Some ty) h other e a = variable_left d es (held_by s ty) e (left_alone s (Sees s (In t) d) (AreIntegers s (In t) es) es (held_by s ty) h (no_array s ty) a)
-  formal_left d es line mode.ByReference shape.Simple (Some ty) h other e a = variable_left d es (held_by s ty) e (left_alone s (Sees s (In t) d) (AreIntegers s (In t) es) es (held_by s ty) h (no_array s ty) a)
-  formal_left d es line mode.ByValue shape.Array (Some ty) h other e a = element_left d es line (held_by s ty) e (left_indexed s (Sees s (In t) d) (AreIntegers s (In t) es) es (held_by s ty) h a)
-  formal_left d es line mode.ByReference shape.Array (Some ty) h other e a = element_left d es line (held_by s ty) e (left_indexed s (Sees s (In t) d) (AreIntegers s (In t) es) es (held_by s ty) h a)
-  formal_left d es line mode.ByName shape.Simple (Some ty) h other e a = absurd (by_list es other (left_alone s (Sees s (In t) d) (AreIntegers s (In t) es) es (held_by s ty) h (no_array s ty) a))
+  -- an element of an array by name is found anew
+  anew_left : (e : Expression) (es : Expressions) (Known Indices : Type 0) → PlaceBuilt s t e → Indexed Known es Indices → LeftBuilt s t (stored_anew e es)
+  anew_left e NoMore Known Indices b a = absurd a
+  anew_left e (Then y ys) Known Indices b a = b
+
+  formal_left : (left : Expression) (d : DeclNo) (es : Expressions) (line : ℕ) (m : Mode) (f : FormalKind) (ty : Option SimType) (h : Holds) → PlaceBuilt s t left → (es ≡ NoMore → named_formal m f d ≡ None) → entry_holds s false (entry_of s.tables d) ≡ formal_holds s m f ty → LeftHeld (Sees s (In t) d) es (AreIntegers s (In t) es) (formal_means s f ty) h → LeftBuilt s t (stored_formal s left d es line m f)
+  formal_left left d es line mode.ByValue shape.Simple (Some ty) h b other e a = variable_left d es (held_by s ty) e (left_alone s (Sees s (In t) d) (AreIntegers s (In t) es) es (held_by s ty) h (no_array s ty) a)
+  formal_left left d es line mode.ByReference shape.Simple (Some ty) h b other e a = variable_left d es (held_by s ty) e (left_alone s (Sees s (In t) d) (AreIntegers s (In t) es) es (held_by s ty) h (no_array s ty) a)
+  formal_left left d es line mode.ByValue shape.Array (Some ty) h b other e a = element_left d es line (held_by s ty) e (left_indexed s (Sees s (In t) d) (AreIntegers s (In t) es) es (held_by s ty) h a)
+  formal_left left d es line mode.ByReference shape.Array (Some ty) h b other e a = element_left d es line (held_by s ty) e (left_indexed s (Sees s (In t) d) (AreIntegers s (In t) es) es (held_by s ty) h a)
+  formal_left left d es line mode.ByName shape.Array (Some ty) h b other e a = anew_left left es (Sees s (In t) d) (AreIntegers s (In t) es) b (left_indexed s (Sees s (In t) d) (AreIntegers s (In t) es) es (held_by s ty) h a)
+  formal_left left d es line mode.ByName shape.Simple (Some ty) h b other e a = absurd (by_list es other (left_alone s (Sees s (In t) d) (AreIntegers s (In t) es) es (held_by s ty) h (no_array s ty) a))
     where
       by_list : (es : Expressions) → (es ≡ NoMore → named_formal mode.ByName shape.Simple d ≡ None) → Alone (Sees s (In t) d) es → ⊥
       by_list NoMore other a = let none = other refl in cc
       by_list (Then y ys) other a = a
-  formal_left d es line _ _ _ h other e a = absurd (left_none s (Sees s (In t) d) (AreIntegers s (In t) es) es h a)
+  formal_left left d es line m shape.Simple None h b other e a = absurd (left_none s (Sees s (In t) d) (AreIntegers s (In t) es) es h a)
+  formal_left left d es line m shape.Array None h b other e a = absurd (left_none s (Sees s (In t) d) (AreIntegers s (In t) es) es h a)
+  formal_left left d es line m shape.Procedure ty h b other e a = absurd (left_procedure s (Sees s (In t) d) (AreIntegers s (In t) es) es ty h a)
 
-  place_left : (d : DeclNo) (es : Expressions) (line : ℕ) (y : Option Entry) (h : Holds) → (es ≡ NoMore → formal_by_name d y ≡ None) → entry_of s.tables d ≡ y → PlaceDeclared s (Sees s (In t) d) es (AreIntegers s (In t) es) y h → LeftBuilt s t (stored_declared s d es line y)
-  place_left d es line (Some (entry.Variable ty)) h other e a = variable_left d es (held_by s ty) (ap (entry_holds s false) e) (left_alone s (Sees s (In t) d) (AreIntegers s (In t) es) es (held_by s ty) h (no_array s ty) a)
-  place_left d es line (Some (entry.Array ty n)) h other e a = element_left d es line (held_by s ty) (ap (entry_holds s false) e) (left_indexed s (Sees s (In t) d) (AreIntegers s (In t) es) es (held_by s ty) h a)
-  place_left d es line (Some (entry.Formal f)) h other e a = formal_left d es line f.mode f.kind f.ty h other (ap (entry_holds s false) e) a
-  place_left d es line (Some (entry.Procedure r k)) h other e a = absurd a
-  place_left d es line None h other e a = absurd a
-  place_left d es line (Some _) h other e a = absurd (left_none s (Sees s (In t) d) (AreIntegers s (In t) es) es h a)
+  place_left : (left : Expression) (d : DeclNo) (es : Expressions) (line : ℕ) (y : Option Entry) (h : Holds) → (PlaceDeclared s (Sees s (In t) d) es (AreIntegers s (In t) es) y h → PlaceBuilt s t left) → (es ≡ NoMore → formal_by_name d y ≡ None) → entry_of s.tables d ≡ y → PlaceDeclared s (Sees s (In t) d) es (AreIntegers s (In t) es) y h
+      → LeftBuilt s t (stored_declared s left d es line y)
+  place_left left d es line (Some (entry.Variable ty)) h b other e a = variable_left d es (held_by s ty) (ap (entry_holds s false) e) (left_alone s (Sees s (In t) d) (AreIntegers s (In t) es) es (held_by s ty) h (no_array s ty) a)
+  place_left left d es line (Some (entry.Array ty n)) h b other e a = element_left d es line (held_by s ty) (ap (entry_holds s false) e) (left_indexed s (Sees s (In t) d) (AreIntegers s (In t) es) es (held_by s ty) h a)
+  place_left left d es line (Some (entry.Formal f)) h b other e a = formal_left left d es line f.mode f.kind f.ty h (b a) other (ap (entry_holds s false) e) a
+  place_left left d es line (Some (entry.Procedure r k)) h b other e a = absurd a
+  place_left left d es line None h b other e a = absurd a
+  place_left left d es line (Some _) h b other e a = absurd (left_none s (Sees s (In t) d) (AreIntegers s (In t) es) es h a)
 
-  declared_left : (d : DeclNo) (es : Expressions) (line : ℕ) (y : Option Entry) (h : Holds) → (es ≡ NoMore → formal_by_name d y ≡ None) → entry_of s.tables d ≡ y → LeftCase s (Sees s (In t) d) (AreIntegers s (In t) es) (λ k. Around s.tables t k) h es y → LeftBuilt s t (stored_declared s d es line y)
-  declared_left d _ line _ h other e (a_result {type = type} {k = k} a) = result_around k (result_typed s ok laid d type k e) a
-  declared_left d es line y h other e (a_place a) = place_left d es line y h other e a
+  declared_left : (left : Expression) (d : DeclNo) (es : Expressions) (line : ℕ) (y : Option Entry) (h : Holds) → (PlaceDeclared s (Sees s (In t) d) es (AreIntegers s (In t) es) y h → PlaceBuilt s t left) → (es ≡ NoMore → formal_by_name d y ≡ None) → entry_of s.tables d ≡ y → LeftCase s (Sees s (In t) d) (AreIntegers s (In t) es) (λ k. Around s.tables t k) h es y
+      → LeftBuilt s t (stored_declared s left d es line y)
+  declared_left left d _ line _ h b other e (a_result {type = type} {k = k} a) = result_around k (result_typed s ok laid d type k e) a
+  declared_left left d es line y h b other e (a_place a) = place_left left d es line y h b other e a
 
   -- an identifier, not seen through a connection or seen through one
-  named_left : (y : Option Denotation) (es : Expressions) (line : ℕ) (h : Holds) → (es ≡ NoMore → name_denoted s y ≡ None) → LeftNamed s t None y es (AreIntegers s (In t) es) h → LeftBuilt s t (stored_named s y es line)
-  named_left None es line h other a = absurd a
-  named_left (Some (denotation.Standard n)) es line h other a = absurd a
-  named_left (Some (denotation.Declared d)) es line h other a =
-      declared_left d es line (entry_of s.tables d) h other refl (left_case s (Sees s (In t) d) (AreIntegers s (In t) es) (λ k. Around s.tables t k) es (entry_of s.tables d) h a)
+  named_left : (left : Expression) (y : Option Denotation) (es : Expressions) (line : ℕ) (h : Holds) → (PlaceNamed s (In t) None y es (AreIntegers s (In t) es) h → PlaceBuilt s t left) → (es ≡ NoMore → name_denoted s y ≡ None) → LeftNamed s t None y es (AreIntegers s (In t) es) h → LeftBuilt s t (stored_named s left y es line)
+  named_left left None es line h b other a = absurd a
+  named_left left (Some (denotation.Standard n)) es line h b other a = absurd a
+  named_left left (Some (denotation.Declared d)) es line h b other a =
+      declared_left left d es line (entry_of s.tables d) h b other refl (left_case s (Sees s (In t) d) (AreIntegers s (In t) es) (λ k. Around s.tables t k) es (entry_of s.tables d) h a)
 
   connected_left : (k : ℕ) (y : Option Denotation) (es : Expressions) (e : Expression) (h : Holds) → (PlaceNamed s (In t) (Some k) y es (AreIntegers s (In t) es) h → PlaceBuilt s t e) → LeftNamed s t (Some k) y es (AreIntegers s (In t) es) h → PlaceBuilt s t e
   connected_left k None es e h f a = absurd a
@@ -212,9 +222,10 @@ module _ (s : Source) (ok : Typed s) (laid : Laid s) (t : ℕ) (x : Text) (there
   not_named name es other same = sym (ap (λ z. by_name s (syntax.Named name z)) same) ∙ other
 
   match_or_named : (name : Identifier) (es : Expressions) (c match : Option ℕ) (h : Holds) → by_name s (syntax.Named name es) ≡ None → connection_at s name.token.0 ≡ c → text_of_procedure s (own_match s (syntax.Named name es)) ≡ match → LeftResultOr s t c match h (LeftNamed s t c (denoted s name.token.0) es (AreIntegers s (In t) es) h)
-      → LeftBuilt s t (stored_found c (syntax.Named name es) (stored_match match (stored_named s (denoted s name.token.0) es (line_at s name.token.0))))
+      → LeftBuilt s t (stored_found c (syntax.Named name es) (stored_match match (stored_named s (syntax.Named name es) (denoted s name.token.0) es (line_at s name.token.0))))
   match_or_named name es None (Some block) h other at is a = result_around block (match_has s ok laid (own_match s (syntax.Named name es)) block h is a.1) a.0
-  match_or_named name es None None h other at is a = named_left (denoted s name.token.0) es (line_at s name.token.0) h (not_named name es other) a
+  match_or_named name es None None h other at is a =
+      named_left (syntax.Named name es) (denoted s name.token.0) es (line_at s name.token.0) h (λ z. place_is_built (syntax.Named name es) h (subst (λ x. PlaceNamed s (In t) x (denoted s name.token.0) es (AreIntegers s (In t) es) h) (sym at) z)) (not_named name es other) a
   match_or_named name es (Some c) match h other at is a =
       connected_left c (denoted s name.token.0) es (syntax.Named name es) h (λ z. place_is_built (syntax.Named name es) h (subst (λ x. PlaceNamed s (In t) x (denoted s name.token.0) es (AreIntegers s (In t) es) h) (sym at) z)) a
 
@@ -256,34 +267,36 @@ module _ (s : Source) (ok : Typed s) (laid : Laid s) (t : ℕ) (x : Text) (there
     in_cell : (home : ℕ) (key : Key) → KeyBuilt s t home key → InPlace (InCell home key)
     at_place : (e : Expression) → PlaceBuilt s t e → InPlace (AtAttribute e)
 
-  formal_alone : (d : DeclNo) (line : ℕ) (m : Mode) (f : FormalKind) → LeftBuilt s t (stored_formal s d NoMore line m f) → InPlace (stored_formal s d NoMore line m f)
-  formal_alone d line mode.ByName f b = absurd b
-  formal_alone d line mode.ByValue shape.Simple b = in_cell (block_of s d) (Declared d.0) b
-  formal_alone d line mode.ByReference shape.Simple b = in_cell (block_of s d) (Declared d.0) b
-  formal_alone d line mode.ByValue shape.Array b = absurd b
-  formal_alone d line mode.ByReference shape.Array b = absurd b
-  formal_alone d line mode.ByValue shape.Procedure b = absurd b
-  formal_alone d line mode.ByReference shape.Procedure b = absurd b
+  formal_alone : (e : Expression) (d : DeclNo) (line : ℕ) (m : Mode) (f : FormalKind) → LeftBuilt s t (stored_formal s e d NoMore line m f) → InPlace (stored_formal s e d NoMore line m f)
+  formal_alone e d line mode.ByName shape.Simple b = absurd b
+  formal_alone e d line mode.ByName shape.Array b = absurd b
+  formal_alone e d line mode.ByName shape.Procedure b = absurd b
+  formal_alone e d line mode.ByValue shape.Simple b = in_cell (block_of s d) (Declared d.0) b
+  formal_alone e d line mode.ByReference shape.Simple b = in_cell (block_of s d) (Declared d.0) b
+  formal_alone e d line mode.ByValue shape.Array b = absurd b
+  formal_alone e d line mode.ByReference shape.Array b = absurd b
+  formal_alone e d line mode.ByValue shape.Procedure b = absurd b
+  formal_alone e d line mode.ByReference shape.Procedure b = absurd b
 
-  entry_alone : (d : DeclNo) (line : ℕ) (y : Option Entry) → LeftBuilt s t (stored_declared s d NoMore line y) → InPlace (stored_declared s d NoMore line y)
-  entry_alone d line (Some (entry.Variable ty)) b = in_cell (block_of s d) (Declared d.0) b
-  entry_alone d line (Some (entry.Array ty n)) b = absurd b
-  entry_alone d line (Some (entry.Formal f)) b = formal_alone d line f.mode f.kind b
-  entry_alone d line (Some (entry.Procedure r k)) b = in_cell k Result b
-  entry_alone d line None b = absurd b
-  entry_alone d line (Some _) b = absurd b
+  entry_alone : (e : Expression) (d : DeclNo) (line : ℕ) (y : Option Entry) → LeftBuilt s t (stored_declared s e d NoMore line y) → InPlace (stored_declared s e d NoMore line y)
+  entry_alone e d line (Some (entry.Variable ty)) b = in_cell (block_of s d) (Declared d.0) b
+  entry_alone e d line (Some (entry.Array ty n)) b = absurd b
+  entry_alone e d line (Some (entry.Formal f)) b = formal_alone e d line f.mode f.kind b
+  entry_alone e d line (Some (entry.Procedure r k)) b = in_cell k Result b
+  entry_alone e d line None b = absurd b
+  entry_alone e d line (Some _) b = absurd b
 
-  named_alone : (y : Option Denotation) (line : ℕ) → LeftBuilt s t (stored_named s y NoMore line) → InPlace (stored_named s y NoMore line)
-  named_alone None line b = absurd b
-  named_alone (Some (denotation.Declared d)) line b = entry_alone d line (entry_of s.tables d) b
-  named_alone (Some (denotation.Standard n)) line b = absurd b
+  named_alone : (e : Expression) (y : Option Denotation) (line : ℕ) → LeftBuilt s t (stored_named s e y NoMore line) → InPlace (stored_named s e y NoMore line)
+  named_alone e None line b = absurd b
+  named_alone e (Some (denotation.Declared d)) line b = entry_alone e d line (entry_of s.tables d) b
+  named_alone e (Some (denotation.Standard n)) line b = absurd b
 
-  match_alone : (match : Option ℕ) (y : Option Denotation) (line : ℕ) → LeftBuilt s t (stored_match match (stored_named s y NoMore line)) → InPlace (stored_match match (stored_named s y NoMore line))
-  match_alone None y line b = named_alone y line b
-  match_alone (Some k) y line b = in_cell k Result b
+  match_alone : (e : Expression) (match : Option ℕ) (y : Option Denotation) (line : ℕ) → LeftBuilt s t (stored_match match (stored_named s e y NoMore line)) → InPlace (stored_match match (stored_named s e y NoMore line))
+  match_alone e None y line b = named_alone e y line b
+  match_alone e (Some k) y line b = in_cell k Result b
 
-  found_alone : (c match : Option ℕ) (e : Expression) (y : Option Denotation) (line : ℕ) → LeftBuilt s t (stored_found c e (stored_match match (stored_named s y NoMore line))) → InPlace (stored_found c e (stored_match match (stored_named s y NoMore line)))
-  found_alone None match e y line b = match_alone match y line b
+  found_alone : (c match : Option ℕ) (e : Expression) (y : Option Denotation) (line : ℕ) → LeftBuilt s t (stored_found c e (stored_match match (stored_named s e y NoMore line))) → InPlace (stored_found c e (stored_match match (stored_named s e y NoMore line)))
+  found_alone None match e y line b = match_alone e match y line b
   found_alone (Some k) match e y line b = at_place e b
 
   abbrev pub Controls : Option Variable → (Steps : Type 0) → Type 0

@@ -27,7 +27,7 @@ use Rattle.sim_meaning.specs.Levels.{qualification}
 use Rattle.sim_meaning.specs.Texts.{Text, kind_of_type, text}
 use Rattle.sim_meaning.specs.Virtuals.{text_of_procedure}
 use Rattle.sim_sound.specs.Held.{ByName, Holds, In, Refers, Simply, entry_names, held_by}
-use Rattle.sim_sound.specs.Expressions.{ActualsFit, AreIntegers, AreOf, ExprIs, IdentifierGives, KnownAt, LeftHeld, NamedGives, PlaceDeclared, PlaceNamed}
+use Rattle.sim_sound.specs.Expressions.{ActualsFit, AreIntegers, AreOf, ExprIs, IdentifierGives, KnownAt, LeftHeld, NamedGives, ParametersAre, PlaceDeclared, PlaceNamed}
 use Rattle.sim_sound.specs.Statements.{LeftDeclared, LeftIs, LeftNamed, LeftOf, LeftResultOr, OwnText, ReferenceAt, TextLeft}
 use Rattle.sim_sound.specs.Typed.{Typed}
 use Rattle.sim_sound.proofs.Attributes.{NamedEntry, held_qualified, named_entry, not_named}
@@ -98,10 +98,10 @@ module _ (s : Source) (ok : Typed s) (laid : Laid s) (t : ℕ) (x : Text) (there
 
   -- no parameter by name is seen through a connection
   named_cell : (c : Option ℕ) (d named : DeclNo) (h : Holds) → NamedEntry s d named (entry_of s.tables d) (KnownAt s (In t) c d) NoMore h → CellBuilt s t d
-  named_cell None d named h n = record { has = declared_has s ok laid d (ByName (kind_of_type n.type)) false (here.solid d n.known) (n.holds false); inside = here.seen d n.known }
+  named_cell None d named h n = record { has = declared_has s ok laid d (ByName (Simply (kind_of_type n.type))) false (here.solid d n.known) (n.holds false); inside = here.seen d n.known }
   named_cell (Some k) d named h n =
       let seen = n.known in
-      absurd (not_named s ok d seen.class seen.level (kind_of_type n.type) (n.holds true) (level_has_levels s ok (class_has s ok seen.class seen.is_class) (level_is s seen.class (block_of s d) seen.level)))
+      absurd (not_named s ok d seen.class seen.level (Simply (kind_of_type n.type)) (n.holds true) (level_has_levels s ok (class_has s ok seen.class seen.is_class) (level_is s seen.class (block_of s d) seen.level)))
 
   held_named : (c : Option ℕ) (d named : DeclNo) (Indices : Type 0) (h : Holds) → formal_by_name d (entry_of s.tables d) ≡ Some named → LeftHeld (KnownAt s (In t) c d) NoMore Indices (entry_names s (entry_of s.tables d)) h → IsNamed named h
   held_named c d named Indices h by a =
@@ -158,11 +158,11 @@ module _ (s : Source) (ok : Typed s) (laid : Laid s) (t : ℕ) (x : Text) (there
   no_attribute d named None by is = cc
   no_attribute d named (Some _) by is = cc
 
-  text_named : (c : Option ℕ) (y : Option Denotation) (named : DeclNo) (Operands : List Kind → Type 0) (Actuals : List Formal → Type 0) → name_denoted s y ≡ Some named → NamedGives s (In t) c y NoMore (AreIntegers s (In t) NoMore) Operands Actuals (Some (Simply kind.Text))
+  text_named : (c : Option ℕ) (y : Option Denotation) (named : DeclNo) (Operands : List Kind → Type 0) (Actuals : List Formal → Type 0) → name_denoted s y ≡ Some named → NamedGives s (In t) c y NoMore (AreIntegers s (In t) NoMore) (ParametersAre s (In t) NoMore) Operands Actuals (Some (Simply kind.Text))
       → (h : Holds) × IsNamed named h
   text_named c (Some (denotation.Declared d)) named Operands Actuals by a =
       let e = entry_of s.tables d in
-      let z = gives_place s (KnownAt s (In t) c d) (AreIntegers s (In t) NoMore) d NoMore Actuals e kind.Text (variable_named d named e by) a in
+      let z = gives_place s (KnownAt s (In t) c d) (AreIntegers s (In t) NoMore) (ParametersAre s (In t) NoMore) d NoMore Actuals e kind.Text (variable_named d named e by) a in
       (z.0, held_named c d named (AreIntegers s (In t) NoMore) z.0 by (place_held d named (KnownAt s (In t) c d) (AreIntegers s (In t) NoMore) e z.0 by z.1))
   text_named c (Some (denotation.Standard n)) named Operands Actuals by a = absurd (cc)
   text_named c None named Operands Actuals by a = absurd (cc)
@@ -176,7 +176,7 @@ module _ (s : Source) (ok : Typed s) (laid : Laid s) (t : ℕ) (x : Text) (there
       Actuals : List Formal → Type 0
       Actuals fs = ActualsFit s (In t) NoMore fs
 
-      by_own : (c : Option ℕ) (own : Option DeclNo) → own_attribute s name.token.0 ≡ own → IdentifierGives s (In t) name.token.0 c own NoMore (AreIntegers s (In t) NoMore) (λ ks. AreOf s (In t) NoMore ks) (λ fs. ActualsFit s (In t) NoMore fs) (Some (Simply kind.Text)) → (h : Holds) × IsNamed named h
+      by_own : (c : Option ℕ) (own : Option DeclNo) → own_attribute s name.token.0 ≡ own → IdentifierGives s (In t) name.token.0 c own NoMore (AreIntegers s (In t) NoMore) (ParametersAre s (In t) NoMore) (λ ks. AreOf s (In t) NoMore ks) (λ fs. ActualsFit s (In t) NoMore fs) (Some (Simply kind.Text)) → (h : Holds) × IsNamed named h
       by_own None None e a = text_named None (denoted s name.token.0) named Operands Actuals by a
       by_own (Some k) own e a = text_named (Some k) (denoted s name.token.0) named Operands Actuals by a
       by_own None (Some d) e a =

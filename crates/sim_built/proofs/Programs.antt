@@ -16,7 +16,7 @@ use Rattle.sim_meaning.specs.Entries.{numbers_of}
 use Rattle.sim_meaning.specs.Levels.{writes_inner}
 use Rattle.sim_meaning.specs.Texts.{BlockText, ClassText, ConnectionText, PrefixedText, ProcedureText, StandardText, Text, arms_texts, block_texts, declaration_texts, declarations_texts, declared_at, prefix_texts, prefixed_texts, program_texts, statement_texts, statements_texts, text}
 use Rattle.sim_agree.specs.Inners.{InnersIn}
-use Rattle.sim_agree.specs.Plain.{Each, Plain, PlainArms, PlainBlock, PlainDeclaration, PlainDeclarations, PlainStatement, PlainStatements}
+use Rattle.sim_agree.specs.Places.{Each}
 use Rattle.sim_agree.proofs.StandardPrefixes.{behind_prefix, brought_texts}
 use Rattle.sim_sound.specs.Held.{Among, ArrayOf, Holds, InBound, Simply, entry_holds, first, held_by, later}
 use Rattle.sim_sound.specs.Statements.{StatementsAre}
@@ -106,63 +106,63 @@ fit_prefix : (prefix : Option Identifier) (xs : List Text) → Each Fit xs → E
 fit_prefix prefix xs a = behind_prefix (λ z. Each Fit z) prefix xs a (λ p. brought_fit p xs a)
 
 mutual
-  statement_fit : (a : Statement) → PlainStatement a → FilledStatement a → Each Fit (statement_texts a)
-  statement_fit (syntax.Empty i) p f = tt
-  statement_fit (syntax.Compound b) p f = block_fit b p f
-  statement_fit (syntax.Call e) p f = tt
-  statement_fit (syntax.Assign e rs) p f = tt
-  statement_fit (syntax.Choose i c x y) p f = both_each (statement_texts x) (statements_texts y) (statement_fit x p.1 f.0) (statements_fit y p.2 f.1)
-  statement_fit (syntax.Repeat i c x) p f = statement_fit x p.1 f
-  statement_fit (syntax.For i name sign assign es x) p f = statement_fit x p.1 f.1
-  statement_fit (syntax.Inner i) p f = tt
-  statement_fit (syntax.Inspect i e opening x end other) p f = (tt, both_each (statement_texts x) (statements_texts other) (statement_fit x p.1 f.0) (statements_fit other p.2 f.1))
-  statement_fit (syntax.InspectWhen i e arms other) p f = both_each (arms_texts arms) (statements_texts other) (arms_fit arms p.1 f.0) (statements_fit other p.2 f.1)
-  statement_fit (syntax.Prefixed class arguments b) p f = prefixed_fit class arguments b p.1 f
-  statement_fit (syntax.Activate i word e schedule) p f = tt
+  statement_fit : (a : Statement) → FilledStatement a → Each Fit (statement_texts a)
+  statement_fit (syntax.Empty i) f = tt
+  statement_fit (syntax.Compound b) f = block_fit b f
+  statement_fit (syntax.Call e) f = tt
+  statement_fit (syntax.Assign e rs) f = tt
+  statement_fit (syntax.Choose i c x y) f = both_each (statement_texts x) (statements_texts y) (statement_fit x f.0) (statements_fit y f.1)
+  statement_fit (syntax.Repeat i c x) f = statement_fit x f
+  statement_fit (syntax.For i name sign assign es x) f = statement_fit x f.1
+  statement_fit (syntax.Inner i) f = tt
+  statement_fit (syntax.Inspect i e opening x end other) f = (tt, both_each (statement_texts x) (statements_texts other) (statement_fit x f.0) (statements_fit other f.1))
+  statement_fit (syntax.InspectWhen i e arms other) f = both_each (arms_texts arms) (statements_texts other) (arms_fit arms f.0) (statements_fit other f.1)
+  statement_fit (syntax.Prefixed class arguments b) f = prefixed_fit class arguments b f
+  statement_fit (syntax.Activate i word e schedule) f = tt
 
-  prefixed_fit : (class : Identifier) (es : Expressions) (b : Block) → PlainBlock b → FilledBlock b → Each Fit (prefixed_texts class es b)
-  prefixed_fit class es (Begin i ds ss end) p f =
-      (f.1, fit_prefix (Some class) (declarations_texts ds ++ statements_texts ss) (both_each (declarations_texts ds) (statements_texts ss) (declarations_fit ds p.0 f.0) (statements_fit ss p.1 f.1)))
+  prefixed_fit : (class : Identifier) (es : Expressions) (b : Block) → FilledBlock b → Each Fit (prefixed_texts class es b)
+  prefixed_fit class es (Begin i ds ss end) f =
+      (f.1, fit_prefix (Some class) (declarations_texts ds ++ statements_texts ss) (both_each (declarations_texts ds) (statements_texts ss) (declarations_fit ds f.0) (statements_fit ss f.1)))
 
-  arms_fit : (arms : Arms) → PlainArms arms → FilledArms arms → Each Fit (arms_texts arms)
-  arms_fit NoArm p f = tt
-  arms_fit (When i class opening x end more) p f = (tt, both_each (statement_texts x) (arms_texts more) (statement_fit x p.0 f.0) (arms_fit more p.1 f.1))
+  arms_fit : (arms : Arms) → FilledArms arms → Each Fit (arms_texts arms)
+  arms_fit NoArm f = tt
+  arms_fit (When i class opening x end more) f = (tt, both_each (statement_texts x) (arms_texts more) (statement_fit x f.0) (arms_fit more f.1))
 
-  statements_fit : (ss : Statements) → PlainStatements ss → FilledStatements ss → Each Fit (statements_texts ss)
-  statements_fit NoStatement p f = tt
-  statements_fit (Also x more) p f = both_each (statement_texts x) (statements_texts more) (statement_fit x p.0 f.0) (statements_fit more p.1 f.1)
+  statements_fit : (ss : Statements) → FilledStatements ss → Each Fit (statements_texts ss)
+  statements_fit NoStatement f = tt
+  statements_fit (Also x more) f = both_each (statement_texts x) (statements_texts more) (statement_fit x f.0) (statements_fit more f.1)
 
-  block_fit : (b : Block) → PlainBlock b → FilledBlock b → Each Fit (block_texts b)
-  block_fit (Begin i NoDeclaration ss end) p f = statements_fit ss p.1 f.1
-  block_fit (Begin i (With d ds) ss end) p f =
-      (f.1, both_each (declaration_texts d) (declarations_texts ds ++ statements_texts ss) (declaration_fit d (p.0).0 (f.0).0) (both_each (declarations_texts ds) (statements_texts ss) (declarations_fit ds (p.0).1 (f.0).1) (statements_fit ss p.1 f.1)))
+  block_fit : (b : Block) → FilledBlock b → Each Fit (block_texts b)
+  block_fit (Begin i NoDeclaration ss end) f = statements_fit ss f.1
+  block_fit (Begin i (With d ds) ss end) f =
+      (f.1, both_each (declaration_texts d) (declarations_texts ds ++ statements_texts ss) (declaration_fit d (f.0).0) (both_each (declarations_texts ds) (statements_texts ss) (declarations_fit ds (f.0).1) (statements_fit ss f.1)))
 
-  declarations_fit : (ds : Declarations) → PlainDeclarations ds → FilledDeclarations ds → Each Fit (declarations_texts ds)
-  declarations_fit NoDeclaration p f = tt
-  declarations_fit (With d ds) p f = both_each (declaration_texts d) (declarations_texts ds) (declaration_fit d p.0 f.0) (declarations_fit ds p.1 f.1)
+  declarations_fit : (ds : Declarations) → FilledDeclarations ds → Each Fit (declarations_texts ds)
+  declarations_fit NoDeclaration f = tt
+  declarations_fit (With d ds) f = both_each (declaration_texts d) (declarations_texts ds) (declaration_fit d f.0) (declarations_fit ds f.1)
 
-  declaration_fit : (d : Declaration) → PlainDeclaration d → FilledDeclaration d → Each Fit (declaration_texts d)
-  declaration_fit (Variables type vs) p f = tt
-  declaration_fit (Arrays type i gs) p f = tt
-  declaration_fit (DeclareProcedure result i h a end) p f = (f, statement_fit a p.1 f)
-  declaration_fit (DeclareClass prefix i h interface (syntax.Compound (Begin j ds ss e)) end) p f =
-      (f.1, fit_prefix prefix (declarations_texts ds ++ statements_texts ss) (both_each (declarations_texts ds) (statements_texts ss) (declarations_fit ds (p.1).0 f.0) (statements_fit ss (p.1).1 f.1)))
-  declaration_fit (DeclareClass prefix i h interface (syntax.Empty j) end) p f = ((f, tt), fit_prefix prefix (statement_texts (syntax.Empty j)) (statement_fit (syntax.Empty j) p.1 f))
-  declaration_fit (DeclareClass prefix i h interface (syntax.Call e) end) p f = ((f, tt), fit_prefix prefix (statement_texts (syntax.Call e)) (statement_fit (syntax.Call e) p.1 f))
-  declaration_fit (DeclareClass prefix i h interface (syntax.Assign e rs) end) p f = ((f, tt), fit_prefix prefix (statement_texts (syntax.Assign e rs)) (statement_fit (syntax.Assign e rs) p.1 f))
-  declaration_fit (DeclareClass prefix i h interface (syntax.Choose j c x y) end) p f = ((f, tt), fit_prefix prefix (statement_texts (syntax.Choose j c x y)) (statement_fit (syntax.Choose j c x y) p.1 f))
-  declaration_fit (DeclareClass prefix i h interface (syntax.Repeat j c x) end) p f = ((f, tt), fit_prefix prefix (statement_texts (syntax.Repeat j c x)) (statement_fit (syntax.Repeat j c x) p.1 f))
-  declaration_fit (DeclareClass prefix i h interface (syntax.For j name sign assign es x) end) p f = ((f, tt), fit_prefix prefix (statement_texts (syntax.For j name sign assign es x)) (statement_fit (syntax.For j name sign assign es x) p.1 f))
-  declaration_fit (DeclareClass prefix i h interface (syntax.Inner j) end) p f = ((f, tt), fit_prefix prefix (statement_texts (syntax.Inner j)) (statement_fit (syntax.Inner j) p.1 f))
-  declaration_fit (DeclareClass prefix i h interface (syntax.Inspect j e opening x close other) end) p f = ((f, tt), fit_prefix prefix (statement_texts (syntax.Inspect j e opening x close other)) (statement_fit (syntax.Inspect j e opening x close other) p.1 f))
-  declaration_fit (DeclareClass prefix i h interface (syntax.InspectWhen j e arms other) end) p f = ((f, tt), fit_prefix prefix (statement_texts (syntax.InspectWhen j e arms other)) (statement_fit (syntax.InspectWhen j e arms other) p.1 f))
-  declaration_fit (DeclareClass prefix i h interface (syntax.Prefixed class arguments b) end) p f = ((f, tt), fit_prefix prefix (statement_texts (syntax.Prefixed class arguments b)) (statement_fit (syntax.Prefixed class arguments b) p.1 f))
-  declaration_fit (DeclareClass prefix i h interface (syntax.Activate j word e schedule) end) p f = ((f, tt), fit_prefix prefix (statement_texts (syntax.Activate j word e schedule)) (statement_fit (syntax.Activate j word e schedule) p.1 f))
+  declaration_fit : (d : Declaration) → FilledDeclaration d → Each Fit (declaration_texts d)
+  declaration_fit (Variables type vs) f = tt
+  declaration_fit (Arrays type i gs) f = tt
+  declaration_fit (DeclareProcedure result i h a end) f = (f, statement_fit a f)
+  declaration_fit (DeclareClass prefix i h interface (syntax.Compound (Begin j ds ss e)) end) f =
+      (f.1, fit_prefix prefix (declarations_texts ds ++ statements_texts ss) (both_each (declarations_texts ds) (statements_texts ss) (declarations_fit ds f.0) (statements_fit ss f.1)))
+  declaration_fit (DeclareClass prefix i h interface (syntax.Empty j) end) f = ((f, tt), fit_prefix prefix (statement_texts (syntax.Empty j)) (statement_fit (syntax.Empty j) f))
+  declaration_fit (DeclareClass prefix i h interface (syntax.Call e) end) f = ((f, tt), fit_prefix prefix (statement_texts (syntax.Call e)) (statement_fit (syntax.Call e) f))
+  declaration_fit (DeclareClass prefix i h interface (syntax.Assign e rs) end) f = ((f, tt), fit_prefix prefix (statement_texts (syntax.Assign e rs)) (statement_fit (syntax.Assign e rs) f))
+  declaration_fit (DeclareClass prefix i h interface (syntax.Choose j c x y) end) f = ((f, tt), fit_prefix prefix (statement_texts (syntax.Choose j c x y)) (statement_fit (syntax.Choose j c x y) f))
+  declaration_fit (DeclareClass prefix i h interface (syntax.Repeat j c x) end) f = ((f, tt), fit_prefix prefix (statement_texts (syntax.Repeat j c x)) (statement_fit (syntax.Repeat j c x) f))
+  declaration_fit (DeclareClass prefix i h interface (syntax.For j name sign assign es x) end) f = ((f, tt), fit_prefix prefix (statement_texts (syntax.For j name sign assign es x)) (statement_fit (syntax.For j name sign assign es x) f))
+  declaration_fit (DeclareClass prefix i h interface (syntax.Inner j) end) f = ((f, tt), fit_prefix prefix (statement_texts (syntax.Inner j)) (statement_fit (syntax.Inner j) f))
+  declaration_fit (DeclareClass prefix i h interface (syntax.Inspect j e opening x close other) end) f = ((f, tt), fit_prefix prefix (statement_texts (syntax.Inspect j e opening x close other)) (statement_fit (syntax.Inspect j e opening x close other) f))
+  declaration_fit (DeclareClass prefix i h interface (syntax.InspectWhen j e arms other) end) f = ((f, tt), fit_prefix prefix (statement_texts (syntax.InspectWhen j e arms other)) (statement_fit (syntax.InspectWhen j e arms other) f))
+  declaration_fit (DeclareClass prefix i h interface (syntax.Prefixed class arguments b) end) f = ((f, tt), fit_prefix prefix (statement_texts (syntax.Prefixed class arguments b)) (statement_fit (syntax.Prefixed class arguments b) f))
+  declaration_fit (DeclareClass prefix i h interface (syntax.Activate j word e schedule) end) f = ((f, tt), fit_prefix prefix (statement_texts (syntax.Activate j word e schedule)) (statement_fit (syntax.Activate j word e schedule) f))
 
-program_fit : (prefix : Option Prefix) (b : Block) → PlainBlock b → FilledBlock b → Each Fit (program_texts prefix b)
-program_fit None (Begin i ds ss end) p f = (f.1, both_each (declarations_texts ds) (statements_texts ss) (declarations_fit ds p.0 f.0) (statements_fit ss p.1 f.1))
-program_fit (Some x) (Begin i ds ss end) p f =
-    (f.1, fit_prefix (Some x.class) (declarations_texts ds ++ statements_texts ss) (both_each (declarations_texts ds) (statements_texts ss) (declarations_fit ds p.0 f.0) (statements_fit ss p.1 f.1)))
+program_fit : (prefix : Option Prefix) (b : Block) → FilledBlock b → Each Fit (program_texts prefix b)
+program_fit None (Begin i ds ss end) f = (f.1, both_each (declarations_texts ds) (statements_texts ss) (declarations_fit ds f.0) (statements_fit ss f.1))
+program_fit (Some x) (Begin i ds ss end) f =
+    (f.1, fit_prefix (Some x.class) (declarations_texts ds ++ statements_texts ss) (both_each (declarations_texts ds) (statements_texts ss) (declarations_fit ds f.0) (statements_fit ss f.1)))
 
 module _ (s : Source) (ok : Typed s) (laid : Laid s) where
   level_built : (k : ℕ) (prefix : Option Identifier) (h : Heading) (ds : Declarations) (ss : Statements) → text s k ≡ Some (ClassText prefix h ds ss) → (written : Bool) → InnersIn written (ClassText prefix h ds ss) → FilledStatements ss → StatementsAre s k ss → LevelBuilt s k written ss
@@ -217,10 +217,10 @@ module _ (s : Source) (ok : Typed s) (laid : Laid s) where
       next : (i : ℕ) → suc k + i ≡ k + suc i
       next i = omega arith
 
-  pub program_built : Plain s.program → Filled s.program → ProgramBuilt s
+  pub program_built : Filled s.program → ProgramBuilt s
   unfolding texts_of text
-  program_built p f =
-      let fit = program_fit s.program.prefix s.program.block p.block f in
+  program_built f =
+      let fit = program_fit s.program.prefix s.program.block f in
       record {
         texts = texts_built 0 (program_texts s.program.prefix s.program.block) (λ i x e. ap (slice_get (program_texts s.program.prefix s.program.block)) (omega arith) ∙ e) fit;
         agrees = agrees s ok laid;

@@ -10,7 +10,7 @@ use Rattle.sim_sound.specs.Typed.{Typed}
 use Rattle.codegen_expr.specs.Built.{ConnectedBuilt, StandsIn}
 use Rattle.sim_built.specs.Laid.{Laid}
 use Rattle.sim_built.proofs.Cells.{class_is_solid, connection_has, level_solid, stands, stands_level}
-use Rattle.sim_built.proofs.Expressions.{Stands}
+use Rattle.sim_built.proofs.Expressions.{Stands, class_never}
 
 module _ (s : Source) (ok : Typed s) (laid : Laid s) (t : ℕ) (x : Text) (there : text s t ≡ Some x) where
   pub seen_here : (v : ℕ) → Seen s t v → StandsIn s t v
@@ -46,6 +46,7 @@ module _ (s : Source) (ok : Typed s) (laid : Laid s) (t : ℕ) (x : Text) (there
     connected = λ k d a. connected_here k (block_of s d) a;
     behind = λ k d a. connected_solid t k (block_of s d) a;
     around = λ k a. stands s ok laid t k x there a;
+    never = λ k d a. class_never s ok d a.class a.is_class a.level;
   }
 
   pub stands_in_bound : is_connection (text s t) ≡ false → Stands s t (InBound t)
@@ -55,6 +56,7 @@ module _ (s : Source) (ok : Typed s) (laid : Laid s) (t : ℕ) (x : Text) (there
     connected = λ k d a. connected_here k (block_of s d) (connected_further k (block_of s d) a);
     behind = λ k d a. connected_solid t k (block_of s d) (connected_further k (block_of s d) a);
     around = λ k a. stands s ok laid t k x there (further a.stands_in a.around);
+    never = λ k d a. class_never s ok d (a.seen).class (a.seen).is_class (a.seen).level;
   }
     where
       seen : (d : DeclNo) → SeenInBound s t d → StandsIn s t (block_of s d)

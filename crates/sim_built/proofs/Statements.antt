@@ -19,11 +19,11 @@ use Rattle.sim_meaning.specs.Statements.{begin_of, leaves, simulation_around}
 use Rattle.sim_meaning.specs.Texts.{ConnectionText, PrefixedText, Text, text}
 use Rattle.sim_agree.specs.Inners.{NoInner, NoInnerArms, NoInners, OneInner, behind, here}
 use Rattle.sim_sound.specs.Held.{Holds, In, Refers, Simply, reference_to}
-use Rattle.sim_sound.specs.Expressions.{ActualsFit, AreIntegers, AreOf, DotGives, ExprIs, IdentifierGives}
+use Rattle.sim_sound.specs.Expressions.{ActualsFit, AreIntegers, AreOf, DotGives, ExprIs, IdentifierGives, ParametersAre}
 use Rattle.sim_sound.specs.Statements.{ArmsAre, BlockIs, CallIs, ConnectionIs, ElementIs, ElementsAre, LeftsAre, OrTransferIs, PrefixedIs, SimulationIs, StatementIs, StatementsAre, TimingIs, TransferIs, is_given}
 use Rattle.sim_sound.specs.Typed.{Typed}
 use Rattle.codegen_expr.specs.Built.{ActualsBuilt, AreBuilt, ClassBuilt, ConnectedNameBuilt, DotBuilt, IsBuilt, NamedBuilt, OfObjectBuilt, OwnBuilt, OwnNameBuilt, PlaceBuilt, ThisFoundBuilt, ThroughBuilt, is_there, slot_in}
-use Rattle.codegen_expr.specs.CodeExpr.{gives}
+use Rattle.codegen_expr.specs.CodeExpr.{Listed, gives, parameters_at}
 use Rattle.codegen_expr.specs.Sites.{frame_text}
 use Rattle.codegen.specs.BuiltProgram.{ActivatesBuilt, ArmsBuilt, AssignBuilt, CalledBuilt, ConnectsBuilt, ElementBuilt, ElementsBuilt, EnterBuilt, ForBuilt, InnerOrBuilt, LeftsBuilt, ListBuilt, OperandBuilt, OrTransferBuilt, PrefixBuilt, StatementBuilt, StatementsBuilt, StepsBuilt, TransferBuilt, WithInnerBuilt}
 use Rattle.codegen.specs.CodeFor.{Variable, assigned_by, variable_of}
@@ -31,7 +31,7 @@ use Rattle.codegen.specs.CodeLeft.{each_stored}
 use Rattle.codegen.specs.CodeStm.{inner_of}
 use Rattle.sim_built.specs.Laid.{Laid}
 use Rattle.sim_built.proofs.Cells.{connection_has}
-use Rattle.sim_built.proofs.Expressions.{Stands, actuals_built, are_built, dot_built, dot_gives, fitted, identifier_built, identifier_gives, integers_built, text_place, this_built}
+use Rattle.sim_built.proofs.Expressions.{Stands, actuals_built, are_built, dot_built, dot_gives, fitted, identifier_built, identifier_gives, integers_built, parameters_built, text_place, this_built}
 use Rattle.sim_built.proofs.LeftSides.{Controls, built, controls, side_built}
 use Rattle.sim_built.proofs.Standing.{seen_here, stands_here}
 
@@ -97,25 +97,25 @@ module _ (s : Source) (ok : Typed s) (laid : Laid s) (t : ℕ) (x : Text) (there
   call_built : (e : Expression) → CallIs s t e → CalledBuilt s t e
   call_built (syntax.Named name es) a =
       or_built (transfer_at s name.token.0) (λ c. TransferIs s t c (found_at s name.token.0) es) (λ c. TransferBuilt c es (ThisFoundBuilt s t (found_at s name.token.0)) (AreBuilt s t es))
-      ((h : Option Holds) × IdentifierGives s (In t) name.token.0 (connection_at s name.token.0) (own_attribute s name.token.0) es (AreIntegers s (In t) es) (λ ks. AreOf s (In t) es ks) (λ fs. ActualsFit s (In t) es fs) h × (leaves s (syntax.Named name es) ≡ is_given h))
+      ((h : Option Holds) × IdentifierGives s (In t) name.token.0 (connection_at s name.token.0) (own_attribute s name.token.0) es (AreIntegers s (In t) es) (ParametersAre s (In t) es) (λ ks. AreOf s (In t) es ks) (λ fs. ActualsFit s (In t) es fs) h × (leaves s (syntax.Named name es) ≡ is_given h))
       ((leaves s (syntax.Named name es) ≡ gives s (denoted s name.token.0))
-      × ThroughBuilt (connection_at s name.token.0) (λ k. ConnectedNameBuilt s t k (denoted s name.token.0) es (AreBuilt s t es) (λ fs. ActualsBuilt s t es fs))
-      (OwnBuilt (own_attribute s name.token.0) (λ d. OwnNameBuilt s t (found_at s name.token.0) (entry_of s.tables d) es (ActualsBuilt s t es (formals_at s d)) (OfObjectBuilt s d (entry_of s.tables d) es (ThisFoundBuilt s t (found_at s name.token.0)) (AreBuilt s t es) (ActualsBuilt s t es (formals_at s d)))) (NamedBuilt s t (denoted s name.token.0) es (AreBuilt s t es) (λ fs. ActualsBuilt s t es fs))))
+      × ThroughBuilt (connection_at s name.token.0) (λ k. ConnectedNameBuilt s t k (denoted s name.token.0) es (AreBuilt s t es) (λ ps. ActualsBuilt s t es ps))
+      (OwnBuilt (own_attribute s name.token.0) (λ d. OwnNameBuilt s t (found_at s name.token.0) (entry_of s.tables d) es (ActualsBuilt s t es (Listed (formals_at s d))) (OfObjectBuilt s d (entry_of s.tables d) es (ThisFoundBuilt s t (found_at s name.token.0)) (AreBuilt s t es) (ActualsBuilt s t es (parameters_at s d)))) (NamedBuilt s t (denoted s name.token.0) es (AreBuilt s t es) (λ ps. ActualsBuilt s t es ps))))
       (λ c y. transfer_built c (found_at s name.token.0) es y)
       (λ y. (
-        y.2 ∙ sym (identifier_gives s (In t) name.token.0 (connection_at s name.token.0) (own_attribute s name.token.0) es (AreIntegers s (In t) es) (λ ks. AreOf s (In t) es ks) (λ fs. ActualsFit s (In t) es fs) y.0 refl y.1),
-        identifier_built s ok laid t (In t) standing es (λ z. integers_built s ok laid t (In t) standing es z) (λ ks z. are_built s ok laid t (In t) standing es ks z) (λ fs. ActualsFit s (In t) es fs) (λ fs. ActualsBuilt s t es fs) (λ fs z. actuals_built s ok laid t (In t) standing es fs z) (λ fs z. fitted s (In t) es fs z)
+        y.2 ∙ sym (identifier_gives s (In t) name.token.0 (connection_at s name.token.0) (own_attribute s name.token.0) es (AreIntegers s (In t) es) (ParametersAre s (In t) es) (λ ks. AreOf s (In t) es ks) (λ fs. ActualsFit s (In t) es fs) y.0 refl y.1),
+        identifier_built s ok laid t (In t) standing es (λ z. integers_built s ok laid t (In t) standing es z) (λ ks z. are_built s ok laid t (In t) standing es ks z) (λ fs. ActualsFit s (In t) es fs) (λ ps. ActualsBuilt s t es ps) (λ fs z. actuals_built s ok laid t (In t) standing es fs z) (λ z. parameters_built s ok laid t (In t) standing es z) (λ fs z. fitted s (In t) es fs z)
             name.token.0 (connection_at s name.token.0) (own_attribute s name.token.0) y.0 refl y.1,
       )) a
   call_built (syntax.Dot i b name es) a =
       or_built (transfer_at s name.token.0) (λ c. ExprIs s (In t) b (Simply kind.Reference) × AreOf s (In t) es []) (λ c. TransferBuilt Detaching es (IsBuilt s t b) (AreBuilt s t es))
-      ((h : Option Holds) × DotGives s (denoted s name.token.0) (stream_of s b) (ExprIs s (In t) b (Simply kind.Text)) (λ c. ExprIs s (In t) b (Refers c)) es (AreIntegers s (In t) es) (λ ks. AreOf s (In t) es ks) (λ fs. ActualsFit s (In t) es fs) h × (leaves s (syntax.Dot i b name es) ≡ is_given h))
+      ((h : Option Holds) × DotGives s (denoted s name.token.0) (stream_of s b) (ExprIs s (In t) b (Simply kind.Text)) (λ c. ExprIs s (In t) b (Refers c)) es (AreIntegers s (In t) es) (ParametersAre s (In t) es) (λ ks. AreOf s (In t) es ks) (λ fs. ActualsFit s (In t) es fs) h × (leaves s (syntax.Dot i b name es) ≡ is_given h))
       ((leaves s (syntax.Dot i b name es) ≡ gives s (denoted s name.token.0))
-      × DotBuilt s (denoted s name.token.0) (stream_of s b) (is_variable s b || is_attribute s b) es (PlaceBuilt s t b) (IsBuilt s t b) (AreBuilt s t es) (λ fs. ActualsBuilt s t es fs))
+      × DotBuilt s (denoted s name.token.0) (stream_of s b) (is_variable s b || is_attribute s b) es (PlaceBuilt s t b) (IsBuilt s t b) (AreBuilt s t es) (λ ps. ActualsBuilt s t es ps))
       (λ c y. detach_built b es y)
       (λ y. (
-        y.2 ∙ sym (dot_gives s (denoted s name.token.0) (stream_of s b) (ExprIs s (In t) b (Simply kind.Text)) (λ c. ExprIs s (In t) b (Refers c)) es (AreIntegers s (In t) es) (λ ks. AreOf s (In t) es ks) (λ fs. ActualsFit s (In t) es fs) y.0 y.1),
-        dot_built s ok laid t (In t) standing es (λ z. integers_built s ok laid t (In t) standing es z) (λ ks z. are_built s ok laid t (In t) standing es ks z) (λ fs. ActualsFit s (In t) es fs) (λ fs. ActualsBuilt s t es fs) (λ fs z. actuals_built s ok laid t (In t) standing es fs z) (λ fs z. fitted s (In t) es fs z)
+        y.2 ∙ sym (dot_gives s (denoted s name.token.0) (stream_of s b) (ExprIs s (In t) b (Simply kind.Text)) (λ c. ExprIs s (In t) b (Refers c)) es (AreIntegers s (In t) es) (ParametersAre s (In t) es) (λ ks. AreOf s (In t) es ks) (λ fs. ActualsFit s (In t) es fs) y.0 y.1),
+        dot_built s ok laid t (In t) standing es (λ z. integers_built s ok laid t (In t) standing es z) (λ ks z. are_built s ok laid t (In t) standing es ks z) (λ fs. ActualsFit s (In t) es fs) (λ ps. ActualsBuilt s t es ps) (λ fs z. actuals_built s ok laid t (In t) standing es fs z) (λ z. parameters_built s ok laid t (In t) standing es z) (λ fs z. fitted s (In t) es fs z)
             (ExprIs s (In t) b (Simply kind.Text)) (PlaceBuilt s t b) (IsBuilt s t b) (λ c. ExprIs s (In t) b (Refers c)) (denoted s name.token.0) (stream_of s b) (is_variable s b || is_attribute s b) y.0
             (λ v z. text_place s ok laid t (In t) standing b v z) (λ z. value b (Simply kind.Text) z) (λ c z. value b (Refers c) z) y.1,
       )) a

@@ -2,6 +2,3 @@
 #![tactic(auto)]
 
 pub mod laws;
-mod match_parameters;
-
-pub use match_parameters::has_match_with_parameters;

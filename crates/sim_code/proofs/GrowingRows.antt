@@ -15,13 +15,14 @@ use Rattle.notices.specs.declared.notice.Notice.{Notice}
 use Rattle.notices.specs.Scheduling.{next_of}
 use Rattle.sim_values.specs.Plain.{Plain, Integer, Truth, Character, Text, Object, MainOf, Nothing}
 use Rattle.sim_values.specs.Store.{Store, image_at, with_image}
-use Rattle.sim_values.specs.Texts.{same_text}
+use Rattle.sim_values.specs.Texts.{copy, same_text}
 use Rattle.simset.specs.Sets.{Linkage}
 use Rattle.sim_chains.specs.Chains.{Cut, cut_at}
 use Rattle.sim_chains.specs.Components.{AttachedObject, Components, DetachedObject, NoObject, ResumedObject, Standing, TerminatedObject}
 use Rattle.sim_code.specs.declared.code.BlockKind.{BlockKind}
 use Rattle.sim_code.specs.declared.code.BlockKind.TheVariants as block
 use Rattle.sim_code.specs.declared.code.CodeActual.{CodeActual}
+use Rattle.sim_code.specs.declared.code.CodeFormal.{CodeFormal}
 use Rattle.sim_code.specs.declared.code.ThunkRecord.{ThunkRecord}
 use Rattle.sim_code.specs.declared.instr.Instr.{Instr}
 use Rattle.sim_code.specs.declared.instr.Instr.TheVariants as i
@@ -29,7 +30,7 @@ use Rattle.sim_code.specs.declared.instr.Lined.{Lined}
 use Rattle.sim_code.specs.declared.stage.Stage.{Stage}
 use Rattle.sim_code.specs.Code.{BlockOf, ClassOf, CodeOf}
 use Rattle.sim_code.specs.Outcome.{ArrayOf, Going, Run, Simulation, World}
-use Rattle.sim_code.specs.Events.{computing, having, image_moved, image_set, no_rule, text_val}
+use Rattle.sim_code.specs.Events.{computing, having, image_moved, image_set, making_text, no_rule, text_val, with_texts}
 use Rattle.sim_code.specs.Arrays.{element, element_set, element_set_in, giving_back, handed_over, live_array, owned_by, with_array}
 use Rattle.sim_code.specs.Instances.{CellPlace, ElementPlace, ImagePlace, Place, at_level, encloser_of, ended_as, going_below, is_given_at_end, is_live, main_goes_on, object_ended, system_head}
 use Rattle.sim_code.specs.Sets.{enrolled, is_set_name}
@@ -39,11 +40,12 @@ use Rattle.sim_code.specs.Transfers.{Calling, Detaching, Resuming, Transfer, com
 use Rattle.sim_code.specs.Machine.{Activation, Address, ArrayValue, Cells, Frames, Link, Machine, Of, ProcedureValue, ThunkValue, Value, array_in, arrays_among, arrays_by_value, block_at, cell, cell_at, cell_set, frame_in, index, jumping, leaving, level, link_in, number, operand, own_block, owner, place_in, plain, procedure_in, pushing, pushing_any, same_kind, thunk_in, value_at, variable_in, waiting, with_result, words_of_block}
 use Rattle.sim_code.specs.Classes.{admitting, class_named, in_process, is_in, is_of, may_stand, qualifying}
 use Rattle.sim_code.specs.Levels.{after_declarations, at_inner, at_stage, class_at_level, declarations_done, ended_by_kind, ending_process, entering_prefixed, generating, inner_reached, is_process_class, is_simulation_class, leading, level_ended, levelled, linkage_of_class, objects_of, outermost_ended, own_levels, words_of_object}
-use Rattle.sim_code.specs.Rows.{activation_of, checking, class_at, code_of, comparison_of, decided, element_kind, entering_frame, entering_procedure, entering_value, first_stage, mrun, mstep, no_class, on_chain, one_row, opening, program_begun, pushed, put_back, putting, qualified, row, standard_of, standard_row, storing, thunk_ended, thunk_given, truth_of, two_row, without_class}
+use Rattle.sim_code.specs.Rows.{activation_of, checking, class_at, code_of, comparison_of, decided, element_kind, entering_frame, entering_procedure, entering_value, first_stage, mrun, mstep, no_class, on_chain, one_row, opening, parameter_row, program_begun, pushed, put_back, putting, qualified, row, standard_of, standard_row, storing, thunk_ended, thunk_given, thunk_pushed, truth_of, two_row, without_class}
+use Rattle.sim_code.specs.Formals.{ArrayCopied, Copied, NothingCopied, TextCopied, all_fit, class_held, copied_for, copying_value, formal_in_hand, is_by_name, passing, procedure_of, running_thunk, runs_inside, suiting}
 use Rattle.sim_code.specs.Thunks.{in_thunk, instruction_before, is_place, locating, using_name, value_given}
 use Rattle.sim_code.specs.Virtuals.{counting, matching, with_match}
 use Rattle.sim_code.specs.Growing.{Grown, OutputGrows, written}
-use Rattle.sim_code.proofs.Growing.{Grows, after_grows, after_more, grown_same, grows_assigning, grows_choosing, grows_computing, grows_copying, grows_entering, grows_finding, grows_having, grows_if, grows_integers, grows_keeping, grows_making, grows_many, grows_no_rule, grows_object, grows_one, grows_performing, grows_plain, grows_popping, grows_reference, grows_set, grows_step, grows_stopping, grows_ticking, grows_truth, grows_two, grows_when}
+use Rattle.sim_code.proofs.Growing.{Grows, after_grows, after_more, grown_same, grows_assigning, grows_choosing, grows_computing, grows_copying, grows_entering, grows_finding, grows_having, grows_if, grows_integers, grows_keeping, grows_making, grows_many, grows_no_rule, grows_object, grows_one, grows_performing, grows_plain, grows_popping, grows_reference, grows_set, grows_step, grows_stopping, grows_taking, grows_ticking, grows_truth, grows_two, grows_when}
 use Rattle.sim_code.proofs.GrowingSimulations.{grows_activation, grows_process, grows_simulation}
 
 -- going on here writes nothing
@@ -225,10 +227,15 @@ counting_grows : (line formals actuals : ℕ) (o : World) (r : Run Machine) → 
 unfolding counting
 counting_grows line formals actuals o r h = grows_choosing Machine (formals == actuals) o r _ h (grows_stopping Machine _ o)
 
+suiting_grows : (line : ℕ) (fits : Bool) (o : World) (r : Run Machine) → Here o r → Here o (suiting line fits o r)
+unfolding suiting
+suiting_grows line fits o r h = grows_choosing Machine fits o r _ h (grows_stopping Machine _ o)
+
 checking_grows : (code : CodeOf) (o : World) (m : Frames) (a : Activation) (below : List Activation) (line : ℕ) (z : ℤ) → Here o (checking code o m a below line z)
 checking_grows code o m a below line z =
     index_grows z o _ (λ n. grows_having Machine (List CodeActual) _ o _ (λ actuals _. grows_popping Machine Value plain a.stack o _ (λ v stack. grows_having Machine (ℕ × ℕ) (procedure_in v) o _ (λ q _.
-    grows_having Machine BlockOf _ o _ (λ b _. grows_when Machine _ o _ (counting_grows line (length b.formals) (length actuals) o _ (grows_when Machine (length actuals == 0) o _ (going o _))))))))
+    grows_having Machine BlockOf _ o _ (λ b _. grows_when Machine _ o _ (counting_grows line (length b.formals) (length actuals) o _ (suiting_grows line (all_fit code b.formals actuals) o _ (
+    grows_having Machine Bool _ o _ (λ agree _. suiting_grows line agree o _ (going o _))))))))))
 
 value_grows : (code : CodeOf) (l : Limits) (o : World) (m : Frames) (a : Activation) (below : List Activation) (line : ℕ) (n : ℤ) → Here o (entering_value code l o m a below line n)
 value_grows code l o m a below line n =
@@ -380,81 +387,107 @@ thunk_begins code o m t home below =
 using_grows : (code : CodeOf) (l : Limits) (o : World) (m : Frames) (a : Activation) (below : List Activation) (j c : ℕ) → Here o (using_name code l o m a below j c)
 using_grows code l o m a below j c = grows_having Machine Value (cell m j c) o _ (λ v _. grows_having Machine (ℕ × ℕ) (thunk_in v) o _ (λ t _. grows_ticking Machine l o _ (λ p. thunk_begins code p m t.0 t.1 _)))
 
-given_grows : (code : CodeOf) (o : World) (m : Frames) (b : Activation) (rest : List Activation) (v : Value) (line : ℕ) (x : Instr) → Here o (thunk_given code o m b rest v line x)
-given_grows code o m b rest v line i.Halt = none o
-given_grows code o m b rest v line (i.Int z) = none o
-given_grows code o m b rest v line (i.Bool z) = none o
-given_grows code o m b rest v line (i.Char z) = none o
-given_grows code o m b rest v line (i.TextK z) = none o
-given_grows code o m b rest v line i.None = none o
-given_grows code o m b rest v line i.NoText = none o
-given_grows code o m b rest v line (i.Link z) = none o
-given_grows code o m b rest v line (i.This z) = none o
-given_grows code o m b rest v line (i.Addr z c class) = none o
-given_grows code o m b rest v line (i.AddrR c class) = none o
-given_grows code o m b rest v line (i.AddrImg z) = none o
-given_grows code o m b rest v line (i.Elem n class) = none o
-given_grows code o m b rest v line i.Fetch = none o
-given_grows code o m b rest v line i.Put = none o
-given_grows code o m b rest v line (i.Load z c) = none o
-given_grows code o m b rest v line (i.Store z c) = none o
-given_grows code o m b rest v line i.Dup = none o
-given_grows code o m b rest v line i.Pop = none o
-given_grows code o m b rest v line i.Swap = none o
-given_grows code o m b rest v line i.Neg = none o
-given_grows code o m b rest v line i.Add = none o
-given_grows code o m b rest v line i.Sub = none o
-given_grows code o m b rest v line i.Mul = none o
-given_grows code o m b rest v line i.Div = none o
-given_grows code o m b rest v line i.Pow = none o
-given_grows code o m b rest v line (i.Rel z) = none o
-given_grows code o m b rest v line (i.RelT z) = none o
-given_grows code o m b rest v line i.Same = none o
-given_grows code o m b rest v line i.SameT = none o
-given_grows code o m b rest v line i.Not = none o
-given_grows code o m b rest v line i.And = none o
-given_grows code o m b rest v line i.Or = none o
-given_grows code o m b rest v line i.Imp = none o
-given_grows code o m b rest v line i.Eqv = none o
-given_grows code o m b rest v line (i.Is z) = none o
-given_grows code o m b rest v line (i.In z) = none o
-given_grows code o m b rest v line (i.Qua z) = none o
-given_grows code o m b rest v line (i.Jump q) = none o
-given_grows code o m b rest v line (i.JumpF q) = none o
-given_grows code o m b rest v line i.Tick = none o
-given_grows code o m b rest v line i.StepTest = none o
-given_grows code o m b rest v line (i.Enter z) = none o
-given_grows code o m b rest v line i.Leave = none o
-given_grows code o m b rest v line (i.Call k n) = none o
-given_grows code o m b rest v line i.Return = none o
-given_grows code o m b rest v line (i.ProcVal z) = none o
-given_grows code o m b rest v line (i.Virt z) = none o
-given_grows code o m b rest v line (i.Check z) = none o
-given_grows code o m b rest v line (i.Param f t p) = none o
-given_grows code o m b rest v line (i.CallV n) = none o
-given_grows code o m b rest v line (i.Thunk t) = none o
-given_grows code o m b rest v line (i.NameVal z c class) = qualified_grows code class o _ (λ q. grows_having Machine Value (value_given o m v) o _ (λ v _. admitting_grows code m line q v o _ (pushed_grows b.room b.stack v o _ (λ stack. going o _))))
-given_grows code o m b rest v line (i.NameAddr z c value) = grows_having Machine Bool (truth_of value) o _ (λ value_too _. locating_grows line (is_place v) value_too o _ (pushed_grows b.room b.stack v o _ (λ stack. going o _)))
-given_grows code o m b rest v line i.EndThunk = none o
-given_grows code o m b rest v line (i.New class n) = none o
-given_grows code o m b rest v line (i.Pref k n) = none o
-given_grows code o m b rest v line (i.NextDecl z) = none o
-given_grows code o m b rest v line (i.Inner z) = none o
-given_grows code o m b rest v line (i.EndLevel z) = none o
-given_grows code o m b rest v line (i.Array z n) = none o
-given_grows code o m b rest v line i.CopyArr = none o
-given_grows code o m b rest v line i.Keep = none o
-given_grows code o m b rest v line i.AssignT = none o
-given_grows code o m b rest v line (i.Std z) = none o
-given_grows code o m b rest v line (i.Act z) = none o
-given_grows code o m b rest v line i.Detach = none o
-given_grows code o m b rest v line i.Attach = none o
-given_grows code o m b rest v line i.Resume = none o
-given_grows code o m b rest v line i.NotNone = none o
+-- parameters of procedures in hand
+text_grows : (l : Limits) (line : ℕ) (t : TextVal) (o : World) (go : TextVal → World → Run Machine) → ((t : TextVal) (p : World) → Here p (go t p)) → Here o (making_text l line (copy o.store.frames t) o go)
+unfolding making_text
+text_grows l line t o go h = grows_taking Machine l line _ o _ (λ p _. grows_computing Machine TextVal line _ (with_texts p (copy o.store.frames t).frames) _ (λ u. h u (with_texts p (copy o.store.frames t).frames)))
 
-thunk_ends : (code : CodeOf) (o : World) (m : Frames) (v : Value) (below : List Activation) → Here o (thunk_ended code o m v below)
-thunk_ends code o m v [] = none o
-thunk_ends code o m v (b ∷ rest) = grows_having Machine Lined (instruction_before code b.pc) o _ (λ x _. given_grows code o m b rest v x.line.0 x.instr)
+copies_grow : (l : Limits) (line owner : ℕ) (c : Copied) (v : Value) (o : World) (go : Value → World → Run Machine) → ((v : Value) (p : World) → Here p (go v p)) → Here o (copying_value Of plain ArrayValue array_in l line owner c v o go)
+unfolding copying_value
+copies_grow l line owner NothingCopied v o go h = h v o
+copies_grow l line owner TextCopied v o go h = grows_having Machine Plain (plain v) o _ (λ p _. grows_having Machine TextVal (text_val p) o _ (λ t _. text_grows l line t o _ (λ u q. h (Of (Text u)) q)))
+copies_grow l line owner ArrayCopied v o go h = grows_having Machine ℕ (array_in v) o _ (λ a _. grows_copying Machine l line owner a o _ (λ c p. h (ArrayValue c) p))
+
+passing_grows : (code : CodeOf) (l : Limits) (line : ℕ) (f : CodeFormal) (b : Activation) (rest : List Activation) (v : Value) (o : World) (m : Frames) → Here o (passing code l line f b rest v o m)
+unfolding passing
+passing_grows code l line f b rest v o m = admitting_grows code m line (class_held f) v o _ (pushed_grows b.room b.stack v o _ (λ _. copies_grow l line b.home (copied_for f) v o _ (λ v p. going p _)))
+
+thunk_goes : (code : CodeOf) (o : World) (m : Frames) (a : Activation) (below : List Activation) (z : ℤ) → Here o (thunk_pushed code o m a below z)
+thunk_goes code o m a below z = index_grows z o _ (λ t. grows_having Machine ThunkRecord (slice_get code.thunks t) o _ (λ _ _. push_grows o m a below _))
+
+thunk_runs : (code : CodeOf) (o : World) (m : Frames) (a : Activation) (below : List Activation) (z : ℤ) → Here o (running_thunk code o m a below z)
+thunk_runs code o m a below z = index_grows z o _ (λ t. grows_when Machine (runs_inside a.thunk t) o _ (thunk_begins code o m t a.home _))
+
+parameter_grows : (code : CodeOf) (o : World) (m : Frames) (a : Activation) (below : List Activation) (n t p : ℤ) → Here o (parameter_row code o m a below n t p)
+parameter_grows code o m a below n t p =
+    index_grows n o _ (λ n. grows_having Machine CodeFormal (formal_in_hand code n a.stack) o _ (λ f _.
+    grows_choosing Machine (is_by_name f.mode) o _ _ (thunk_goes code o m a below _) (thunk_runs code o m a below _)))
+
+given_grows : (code : CodeOf) (l : Limits) (o : World) (m : Frames) (b : Activation) (rest : List Activation) (v : Value) (line : ℕ) (x : Instr) → Here o (thunk_given code l o m b rest v line x)
+given_grows code l o m b rest v line i.Halt = none o
+given_grows code l o m b rest v line (i.Int z) = none o
+given_grows code l o m b rest v line (i.Bool z) = none o
+given_grows code l o m b rest v line (i.Char z) = none o
+given_grows code l o m b rest v line (i.TextK z) = none o
+given_grows code l o m b rest v line i.None = none o
+given_grows code l o m b rest v line i.NoText = none o
+given_grows code l o m b rest v line (i.Link z) = none o
+given_grows code l o m b rest v line (i.This z) = none o
+given_grows code l o m b rest v line (i.Addr z c class) = none o
+given_grows code l o m b rest v line (i.AddrR c class) = none o
+given_grows code l o m b rest v line (i.AddrImg z) = none o
+given_grows code l o m b rest v line (i.Elem n class) = none o
+given_grows code l o m b rest v line i.Fetch = none o
+given_grows code l o m b rest v line i.Put = none o
+given_grows code l o m b rest v line (i.Load z c) = none o
+given_grows code l o m b rest v line (i.Store z c) = none o
+given_grows code l o m b rest v line i.Dup = none o
+given_grows code l o m b rest v line i.Pop = none o
+given_grows code l o m b rest v line i.Swap = none o
+given_grows code l o m b rest v line i.Neg = none o
+given_grows code l o m b rest v line i.Add = none o
+given_grows code l o m b rest v line i.Sub = none o
+given_grows code l o m b rest v line i.Mul = none o
+given_grows code l o m b rest v line i.Div = none o
+given_grows code l o m b rest v line i.Pow = none o
+given_grows code l o m b rest v line (i.Rel z) = none o
+given_grows code l o m b rest v line (i.RelT z) = none o
+given_grows code l o m b rest v line i.Same = none o
+given_grows code l o m b rest v line i.SameT = none o
+given_grows code l o m b rest v line i.Not = none o
+given_grows code l o m b rest v line i.And = none o
+given_grows code l o m b rest v line i.Or = none o
+given_grows code l o m b rest v line i.Imp = none o
+given_grows code l o m b rest v line i.Eqv = none o
+given_grows code l o m b rest v line (i.Is z) = none o
+given_grows code l o m b rest v line (i.In z) = none o
+given_grows code l o m b rest v line (i.Qua z) = none o
+given_grows code l o m b rest v line (i.Jump q) = none o
+given_grows code l o m b rest v line (i.JumpF q) = none o
+given_grows code l o m b rest v line i.Tick = none o
+given_grows code l o m b rest v line i.StepTest = none o
+given_grows code l o m b rest v line (i.Enter z) = none o
+given_grows code l o m b rest v line i.Leave = none o
+given_grows code l o m b rest v line (i.Call k n) = none o
+given_grows code l o m b rest v line i.Return = none o
+given_grows code l o m b rest v line (i.ProcVal z) = none o
+given_grows code l o m b rest v line (i.Virt z) = none o
+given_grows code l o m b rest v line (i.Check z) = none o
+given_grows code l o m b rest v line (i.Param n t p) = index_grows n o _ (λ n. grows_having Machine CodeFormal (formal_in_hand code n b.stack) o _ (λ f _. grows_having Machine Value (value_given o m v) o _ (λ v _. passing_grows code l line f b rest v o m)))
+given_grows code l o m b rest v line (i.CallV n) = none o
+given_grows code l o m b rest v line (i.Thunk t) = none o
+given_grows code l o m b rest v line (i.NameVal z c class) = qualified_grows code class o _ (λ q. grows_having Machine Value (value_given o m v) o _ (λ v _. admitting_grows code m line q v o _ (pushed_grows b.room b.stack v o _ (λ stack. going o _))))
+given_grows code l o m b rest v line (i.NameAddr z c value) = grows_having Machine Bool (truth_of value) o _ (λ value_too _. locating_grows line (is_place v) value_too o _ (pushed_grows b.room b.stack v o _ (λ stack. going o _)))
+given_grows code l o m b rest v line i.EndThunk = none o
+given_grows code l o m b rest v line (i.New class n) = none o
+given_grows code l o m b rest v line (i.Pref k n) = none o
+given_grows code l o m b rest v line (i.NextDecl z) = none o
+given_grows code l o m b rest v line (i.Inner z) = none o
+given_grows code l o m b rest v line (i.EndLevel z) = none o
+given_grows code l o m b rest v line (i.Array z n) = none o
+given_grows code l o m b rest v line i.CopyArr = none o
+given_grows code l o m b rest v line i.Keep = none o
+given_grows code l o m b rest v line i.AssignT = none o
+given_grows code l o m b rest v line (i.Std z) = none o
+given_grows code l o m b rest v line (i.Act z) = none o
+given_grows code l o m b rest v line i.Detach = none o
+given_grows code l o m b rest v line i.Attach = none o
+given_grows code l o m b rest v line i.Resume = none o
+given_grows code l o m b rest v line i.NotNone = none o
+
+thunk_ends : (code : CodeOf) (l : Limits) (o : World) (m : Frames) (v : Value) (below : List Activation) → Here o (thunk_ended code l o m v below)
+thunk_ends code l o m v [] = none o
+thunk_ends code l o m v (b ∷ rest) = grows_having Machine Lined (instruction_before code b.pc) o _ (λ x _. given_grows code l o m b rest v x.line.0 x.instr)
 
 row_grows : (code : CodeOf) (l : Limits) (o : World) (m : Frames) (a : Activation) (below : List Activation) (line : ℕ) (x : Instr) → Here o (row code l o m a below line x)
 row_grows code l o m a below line i.Halt = grows_stopping Machine _ o
@@ -503,15 +536,15 @@ row_grows code l o m a below line (i.Enter z) = block_grows code _ z o _ (λ k b
 row_grows code l o m a below line i.Leave = own_grows code _ m a o _ (λ b. leaving_grows b below None a.home o m)
 row_grows code l o m a below line (i.Call k n) = call_grows code l o m a below line k n
 row_grows code l o m a below line i.Return = own_grows code _ m a o _ (λ b. result_grows b m a.home o _ (λ v. leaving_grows b below v a.home o m))
-row_grows code l o m a below line (i.ProcVal z) = none o
+row_grows code l o m a below line (i.ProcVal z) = index_grows z o _ (λ k. grows_having Machine BlockOf (procedure_of code k) o _ (λ _ _. grows_popping Machine Value plain a.stack o _ (λ v stack. grows_having Machine ℕ (frame_in v) o _ (λ j _. going o _))))
 row_grows code l o m a below line (i.Virt z) = index_grows z o _ (λ v. grows_object Machine Value plain line a.stack o _ (λ j stack. matching_grows line _ o _ (λ k. going o _)))
 row_grows code l o m a below line (i.Check z) = checking_grows code o m a below line z
-row_grows code l o m a below line (i.Param f t p) = none o
+row_grows code l o m a below line (i.Param n t p) = parameter_grows code o m a below n t p
 row_grows code l o m a below line (i.CallV n) = value_grows code l o m a below line n
-row_grows code l o m a below line (i.Thunk z) = index_grows z o _ (λ t. grows_having Machine ThunkRecord (slice_get code.thunks t) o _ (λ _ _. push_grows o m a below _))
+row_grows code l o m a below line (i.Thunk z) = thunk_goes code o m a below z
 row_grows code l o m a below line (i.NameVal z c class) = cell_grows m a z c o _ (λ j c. using_grows code l o m a below j c)
 row_grows code l o m a below line (i.NameAddr z c value) = cell_grows m a z c o _ (λ j c. using_grows code l o m a below j c)
-row_grows code l o m a below line i.EndThunk = grows_having Machine ℕ a.thunk o _ (λ t _. grows_popping Machine Value plain a.stack o _ (λ v stack. thunk_ends code o m v below))
+row_grows code l o m a below line i.EndThunk = grows_having Machine ℕ a.thunk o _ (λ t _. grows_popping Machine Value plain a.stack o _ (λ v stack. thunk_ends code l o m v below))
 row_grows code l o m a below line (i.New class n) = new_grows code l o m a below line class n
 row_grows code l o m a below line (i.Pref k n) = prefixed_grows code l o m a below line k n
 row_grows code l o m a below line (i.NextDecl z) = index_grows z o _ (λ n. declared_grows code o m a below n)

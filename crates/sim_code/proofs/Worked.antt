@@ -21,6 +21,9 @@ use Rattle.sim_code.specs.Sets.{performing_set, pop_given}
 use Rattle.sim_code.specs.SetExamples.{Worked as WorkedSets}
 use Rattle.sim_code.specs.SimulationExamples.{Worked as WorkedSimulations}
 use Rattle.sim_code.specs.VirtualExamples.{Worked as WorkedVirtuals}
+use Rattle.sim_code.specs.FormalExamples.{Worked as WorkedFormals}
+use Rattle.sim_code.specs.Formals.{copying_value, each, formal_in_hand, passing, suiting}
+use Rattle.sim_code.specs.Thunks.{in_thunk, locating}
 use Rattle.sim_code.specs.Virtuals.{counting, match_found, matching}
 use Rattle.sim_code.specs.Simulations.{located}
 use Rattle.sim_code.specs.Scheduling.{deciding, performing_activation, performing_process, performing_simulation, pop_block, pop_operand_if}
@@ -171,7 +174,7 @@ worked_simulations = record {
 }
 
 pub worked_virtuals : WorkedVirtuals
-unfolding digits element_place making_array copying_array keeping_array finding_element giving_back handed_over stopping no_rule ticking taking entering having when computing choosing popping pop_many pop_plain pop_truth pop_integers pop_operands pop_text answering applying_one applying_two testing_step performing putting_back assigning making_text joining at_level kept_on pushing index level_of_machine cell_at jumping block_at own_block leaving with_result putting put_back calculate compare compare_as_texts connect same_objects same_texts two_of one_of step_test take_integer take_character take_text take_nothing row_of standard_effect levels pop_object referring pop_reference not_nothing parameter_cell leading levelled objects_of own_levels object_ended linkage_with process_class matching counting match_found
+unfolding digits element_place making_array copying_array keeping_array finding_element giving_back handed_over stopping no_rule ticking taking entering having when computing choosing popping pop_many pop_plain pop_truth pop_integers pop_operands pop_text answering applying_one applying_two testing_step performing putting_back assigning making_text joining at_level kept_on pushing index level_of_machine cell_at jumping block_at own_block leaving with_result putting put_back calculate compare compare_as_texts connect same_objects same_texts two_of one_of step_test take_integer take_character take_text take_nothing row_of standard_effect levels pop_object referring pop_reference not_nothing parameter_cell leading levelled objects_of own_levels object_ended linkage_with process_class matching counting match_found suiting each
 worked_virtuals = record {
   object_decides = refl;
   none_first = refl;
@@ -180,9 +183,49 @@ worked_virtuals = record {
   value_handed_in = refl;
   entry_takes_a_tick = refl;
   entry_takes_words = refl;
-  kind_not_tested = refl;
+  wrong_type = refl;
   nothing_in_hand = refl;
   nothing_checked = refl;
   no_such_list = refl;
   of_no_class = refl;
+}
+
+pub worked_formals : WorkedFormals
+unfolding digits element_place making_array copying_array keeping_array finding_element giving_back handed_over stopping no_rule ticking taking entering having when computing choosing popping pop_many pop_plain pop_truth pop_integers pop_operands pop_text answering applying_one applying_two testing_step performing putting_back assigning making_text joining at_level kept_on pushing index level_of_machine cell_at jumping block_at own_block leaving with_result putting put_back calculate compare compare_as_texts connect same_objects same_texts two_of one_of step_test take_integer take_character take_text take_nothing row_of standard_effect levels pop_object referring pop_reference not_nothing parameter_cell leading levelled objects_of own_levels object_ended linkage_with process_class matching counting match_found suiting each copying_value formal_in_hand passing in_thunk locating
+worked_formals = record {
+  integer_passed = refl;
+  name_passed = refl;
+  text_copied = refl;
+  copy_takes_words = refl;
+  array_copied = refl;
+  procedure_passed = refl;
+  reference_held = refl;
+  type_checked = refl;
+  greater_within = refl;
+  no_lesser_within = refl;
+  no_such_parameter = refl;
+  nothing_in_hand = refl;
+  no_procedure_value = refl;
+  class_inside = refl;
+  class_outside = refl;
+  class_beside = refl;
+  none_anywhere = refl;
+  same_elements = refl;
+  other_elements = refl;
+  result_inside = refl;
+  result_outside = refl;
+  no_result_wanted = refl;
+  called_alone = refl;
+  not_called_alone = refl;
+  array_no_value = refl;
+  nothing_no_value = refl;
+  value_no_procedure = refl;
+  number_first = refl;
+  then_types = refl;
+  all_right = refl;
+  one_object = refl;
+  other_object = refl;
+  none_of_no_object = refl;
+  without_class = refl;
+  class_missing = refl;
 }

@@ -13,6 +13,7 @@ pub mod Classes
 pub mod Levels
 pub mod Virtuals
 pub mod Thunks
+pub mod Formals
 pub mod Names
 pub mod Rows
 pub mod Running
@@ -23,3 +24,4 @@ pub mod CoroutineExamples
 pub mod SetExamples
 pub mod SimulationExamples
 pub mod VirtualExamples
+pub mod FormalExamples

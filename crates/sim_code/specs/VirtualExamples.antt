@@ -1,6 +1,6 @@
 -- Small codes with virtuals. The code of the classes and procedures is all on line 1; after it the lines count from 2, one for each instruction.
 use Rattle.std.specs.Prelude.{◌≡◌, ℕ, pos, List, [], ◌∷◌, ◌++◌, false, Some, codes}
-use Rattle.sim_base.specs.declared.run_error.RunError.TheVariants.{AccessThroughNone, NoMatch, WrongNumberOfParameters}
+use Rattle.sim_base.specs.declared.run_error.RunError.TheVariants.{AccessThroughNone, NoMatch, WrongNumberOfParameters, WrongParameter}
 use Rattle.sim_code.specs.declared.code.BlockKind.TheVariants as kind
 use Rattle.sim_code.specs.declared.code.CodeActual.{CodeActual}
 use Rattle.sim_code.specs.declared.code.CodeFormal.{CodeFormal}
@@ -78,7 +78,7 @@ too_few = with_virtuals (made 4 ++ called 7 0)
 abbrev pub of_none : CodeOf
 of_none = with_virtuals (called 7 1)
 
--- the right number of actual parameters, of which there is no rule yet
+-- the right number of actual parameters, of which one has no value
 abbrev pub right_number : CodeOf
 right_number = with_virtuals (made 4 ++ called 7 1)
 
@@ -107,7 +107,7 @@ pub record Worked : Type 0 where
   pub value_handed_in : seen with_value (limits 1000 100) 200 ≡ shows (codes " 5\n") 4 9 Normal
   pub entry_takes_a_tick : seen with_value (limits 1000 3) 200 ≡ shows (codes "") 3 9 (TickLimit 3)
   pub entry_takes_words : seen with_value (limits 13 100) 200 ≡ shows (codes "") 4 9 (StorageExhausted 8 9 5)
-  pub kind_not_tested : stops_at right_number 9 ≡ Some 23
+  pub wrong_type : seen right_number (limits 1000 100) 200 ≡ shows (codes "") 3 9 (RunFault WrongParameter 7)
   pub nothing_in_hand : stops_at no_procedure 8 ≡ Some 22
   pub nothing_checked : stops_at nothing_to_check 2 ≡ Some 19
   pub no_such_list : stops_at no_list 9 ≡ Some 23

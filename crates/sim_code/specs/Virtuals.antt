@@ -1,6 +1,6 @@
 -- Virtual procedures: the procedure that matches one in the class of an object, and the test of how many actual parameters there are. The meaning and
 -- the machine use the same words.
-use Rattle.std.specs.Prelude.{ℕ, Bool, true, false, ◌==◌, if◌then◌else◌, List, [], ◌∷◌, Option, Some, None}
+use Rattle.std.specs.Prelude.{ℕ, ◌==◌, if◌then◌else◌, List, [], ◌∷◌, Option, Some, None}
 use Rattle.sim_base.specs.declared.run_error.RunError.TheVariants.{NoMatch, WrongNumberOfParameters}
 use Rattle.sim_code.specs.declared.code.Match.{Match}
 use Rattle.sim_code.specs.Classes.{class_numbered, class_of}

@@ -6,6 +6,7 @@ ghost use Rattle.sim_code.specs.CoroutineExamples.{Worked as WorkedCoroutines};
 ghost use Rattle.sim_code.specs.SetExamples.{Worked as WorkedSets};
 ghost use Rattle.sim_code.specs.SimulationExamples.{Worked as WorkedSimulations};
 ghost use Rattle.sim_code.specs.VirtualExamples.{Worked as WorkedVirtuals};
+ghost use Rattle.sim_code.specs.FormalExamples.{Worked as WorkedFormals};
 ghost use Rattle.sim_code.specs.Growing.{OutputGrows};
 ghost use Rattle.sim_code.specs.Instances.{Memory};
 ghost use Rattle.sim_code.specs.Deciding.{DecidesAsComponents};
@@ -42,6 +43,12 @@ pub fn worked_simulations()
 /// The same of codes with virtuals: what matches one in the class of an object, what a procedure in hand is held against, and what is refused.
 pub fn worked_virtuals()
     ensures { WorkedVirtuals }
+{}
+
+/// The same of codes with formal procedures and with procedures in hand that have parameters: how each kind is passed, which actual parameters
+/// fit, and what is refused.
+pub fn worked_formals()
+    ensures { WorkedFormals }
 {}
 
 /// What a run has written stays written: later output begins with it.

@@ -1,5 +1,5 @@
 -- What a command makes of a source, step by step, and that it is one thing at most.
-use Rattle.std.proofs.Common.{◌≡◌, ℕ, Bool, true, false, ◌&&◌, ◌||◌, List, refl, length, Option, Result, OnOk, Ok, Err, subst, sym, ap, ◌∙◌}
+use Rattle.std.proofs.Common.{◌≡◌, ℕ, List, refl, length, Option, Result, OnOk, Ok, Err, subst, sym, ap, ◌∙◌}
 use Rattle.sim_base.specs.Place.{line_at}
 use Rattle.sim_base.specs.declared.numbering.Line.{Line}
 use Rattle.sim_base.specs.declared.numbering.TokenNo.{TokenNo}
@@ -23,12 +23,9 @@ use Rattle.sim_scope.specs.Source.{Source, source_of}
 use Rattle.sim_scope.specs.Tables.{Tables}
 use Rattle.sim_print.specs.Canonical.{canonical_text}
 use Rattle.sim_static.specs.Check.{Allowed, Checked, Refused, answer, check_of}
-use Rattle.sim_static.specs.UnbuiltForms.{has_unbuilt_form}
-use Rattle.sim_static.specs.UnbuiltNames.{has_unbuilt_name}
-use Rattle.sim_allowed.specs.MatchParameters.{has_match_with_parameters}
 use Rattle.sim_built.specs.Allowed.{IsAllowed}
 use Rattle.sim_run.specs.RunEnds.{IsRunnable}
-use Rattle.sim_driver.specs.Compiling.{AllowedCompiles, AllowedCompilesIf, Answers, Bad, BindsAs, BoundCompiles, CheckBinds, CheckRejects, ChecksAs, CheckedCompiles, Compiled, Deep, IsBad, IsDeep, IsParsed, LexedCompiles, Parsed, ParsedCompiles, Printed, Rejected, Same, SourceBinds, SourceCompiles, SourcePrints, SourceRejects, TokensCompile, TokensReject, TreeBinds, TreeCompiles, TreeCompilesIf, TreeRejects, Whole, WholeCompiles, lacks_form, lacks_match, needs_code, source_with, token_line}
+use Rattle.sim_driver.specs.Compiling.{Answers, Bad, BindsAs, BoundCompiles, CheckBinds, CheckRejects, ChecksAs, CheckedCompiles, Compiled, Deep, IsBad, IsDeep, IsParsed, LexedCompiles, Parsed, ParsedCompiles, Printed, Rejected, Same, SourceBinds, SourceCompiles, SourcePrints, SourceRejects, TokensCompile, TokensReject, TreeBinds, TreeCompiles, TreeRejects, Whole, WholeCompiles, source_with, token_line}
 use Rattle.sim_driver.specs.declared.compiling.Refusal.{Refusal}
 use Rattle.sim_driver.specs.declared.compiling.Refusal.TheVariants as refusal
 use Rattle.command_line.specs.declared.words.Command.{Command}
@@ -85,17 +82,12 @@ itself A = record { there = λ a. a; back = λ a. a }
 
 move_checked : (command : Command) (tokens : List Token) (p q : Tree) → SameSource p q → (checked : Checked) (c : Compiled) → CheckedCompiles command tokens p checked c → CheckedCompiles command tokens q checked c
 move_checked command tokens p q same (Refused fault) c is = is
-move_checked command tokens p q same (Allowed tables uses found_in types) c is = subst (λ s. AllowedCompiles command s c) (same tables uses found_in types) is
-
-move_if : (needs : Bool) (command : Command) (tokens : List Token) (p q : Tree) → SameSource p q → check_of p ≡ check_of q → (c : Compiled) → TreeCompilesIf needs command tokens p c → TreeCompilesIf needs command tokens q c
-move_if true command tokens p q same checked c is = is
-move_if false command tokens p q same checked c is = subst (λ k. CheckedCompiles command tokens q k c) checked (move_checked command tokens p q same (check_of p) c is)
+move_checked command tokens p q same (Allowed tables uses found_in types) c is = subst (λ s. BoundCompiles command s c) (same tables uses found_in types) is
 
 -- a command makes the same of two trees of the same tokens
 move_tree : OneSyntax → (command : Command) (tokens : List Token) (p q : Tree) → IsTree tokens p → IsTree tokens q → (c : Compiled) → TreeCompiles command tokens p c → TreeCompiles command tokens q c
 move_tree one command tokens p q x y c is =
-    subst (λ b. TreeCompilesIf b command tokens q c) (ap (λ z. lacks_form command tokens z) (one tokens p q x y))
-    (move_if (lacks_form command tokens (program_syntax p)) command tokens p q (same_source one tokens p q x y) (same_checked one tokens p q x y) c is)
+    subst (λ k. CheckedCompiles command tokens q k c) (same_checked one tokens p q x y) (move_checked command tokens p q (same_source one tokens p q x y) (check_of p) c is)
 
 move_whole : OneSyntax → (command : Command) (tokens : List Token) (p q : Tree) → IsTree tokens p → IsTree tokens q → (c : Compiled) → WholeCompiles command tokens p c → WholeCompiles command tokens q c
 move_whole one Run tokens p q x y c is = move_tree one Run tokens p q x y c is
@@ -174,21 +166,13 @@ pub answers_of : {A : Type 0} (r : Result A Refusal) (accepts also : A → Type 
 answers_of (Ok x) accepts also rejects whole good bad is = good x is
 answers_of (Err why) accepts also rejects whole good bad is = refusal_of why accepts also rejects whole bad is
 
--- whether the source has a form that is not built
-
-pub lacking : (command : Command) (tokens : List Token) (tree : Tree) (lacks : Bool) → lacks ≡ lacks_form command tokens (program_syntax tree) → lacks ≡ true → TreeRejects command tokens tree rule.FormNotBuilt (record { 0 = 1 })
-lacking command tokens tree lacks is so c = by_equation (λ b. TreeCompilesIf b command tokens tree c) (lacks_form command tokens (program_syntax tree)) true (sym is ∙ so)
-
-pub lacking_none : (command : Command) (tokens : List Token) (tree : Tree) (lacks : Bool) → lacks ≡ lacks_form command tokens (program_syntax tree) → lacks ≡ false → (c : Compiled) → Same (TreeCompiles command tokens tree c) (CheckedCompiles command tokens tree (check_of tree) c)
-lacking_none command tokens tree lacks is so c = by_equation (λ b. TreeCompilesIf b command tokens tree c) (lacks_form command tokens (program_syntax tree)) false (sym is ∙ so)
-
 -- the program that the static rules allow
 pub bound_checked : (tokens : List Token) (p : Tree) (b : Bound) → b.program ≡ p → check_of p ≡ Allowed b.scopes b.uses.items b.found_in.items b.types.items → CheckBinds tokens p (source_of b)
 unfolding source_of
 bound_checked tokens p b same allowed command c =
-    same_then (CheckedCompiles command tokens p (check_of p) c) (AllowedCompiles command (source_with p b.scopes b.uses.items b.found_in.items b.types.items) c) (AllowedCompiles command (source_with b.program b.scopes b.uses.items b.found_in.items b.types.items) c)
+    same_then (CheckedCompiles command tokens p (check_of p) c) (BoundCompiles command (source_with p b.scopes b.uses.items b.found_in.items b.types.items) c) (BoundCompiles command (source_with b.program b.scopes b.uses.items b.found_in.items b.types.items) c)
     (by_equation (λ k. CheckedCompiles command tokens p k c) (check_of p) (Allowed b.scopes b.uses.items b.found_in.items b.types.items) allowed)
-    (by_equation (λ (q : Tree). AllowedCompiles command (source_with q b.scopes b.uses.items b.found_in.items b.types.items) c) p b.program (sym same))
+    (by_equation (λ (q : Tree). BoundCompiles command (source_with q b.scopes b.uses.items b.found_in.items b.types.items) c) p b.program (sym same))
 
 pub checks_as : (tokens : List Token) (p : Tree) (b : Bound) → b.program ≡ p → check_of p ≡ Allowed b.scopes b.uses.items b.found_in.items b.types.items → ChecksAs tokens p (source_of b)
 unfolding source_of
@@ -227,48 +211,9 @@ pub rejected_source : OneSyntax → (command : Command) (source : List ℕ) (tok
 rejected_source one command source tokens tree r line asks spells is rejects c =
     same_then (SourceCompiles command source c) (TreeCompiles command tokens tree c) (c ≡ Rejected r line) (tree_source one command source tokens tree asks spells is c) (rejects c)
 
--- a tree whose forms are built, of a program that the static rules allow
+-- what breaks no rule can be run
+pub binds_as : (command : Command) (tokens : List Token) (tree : Tree) (s : Source) → (IsAllowed tokens tree s → IsRunnable s) → ChecksAs tokens tree s → BindsAs command tokens tree s
+binds_as command tokens tree s runs (binds, checked) = (binds command, λ reads. runs (record { reads = reads; checked = checked }))
 
-allowed_tree : (command : Command) (tokens : List Token) (tree : Tree) (s : Source) → ((c : Compiled) → Same (TreeCompiles command tokens tree c) (CheckedCompiles command tokens tree (check_of tree) c)) → CheckBinds tokens tree s
-    → (unmatched : Bool) → lacks_match command s ≡ unmatched → (c : Compiled) → Same (TreeCompiles command tokens tree c) (AllowedCompilesIf unmatched command s c)
-allowed_tree command tokens tree s free binds unmatched is c =
-    same_then (TreeCompiles command tokens tree c) (AllowedCompiles command s c) (AllowedCompilesIf unmatched command s c)
-    (same_then (TreeCompiles command tokens tree c) (CheckedCompiles command tokens tree (check_of tree) c) (AllowedCompiles command s c) (free c) (binds command c))
-    (by_equation (λ b. AllowedCompilesIf b command s c) (lacks_match command s) unmatched is)
-
--- a match has parameters
-pub lacking_match : (command : Command) (tokens : List Token) (tree : Tree) (s : Source) (lacks : Bool) → lacks ≡ lacks_form command tokens (program_syntax tree) → lacks ≡ false → (unmatched : Bool) → unmatched ≡ lacks_match command s → unmatched ≡ true → ChecksAs tokens tree s
-    → TreeRejects command tokens tree rule.FormNotBuilt (record { 0 = 1 })
-lacking_match command tokens tree s lacks is none unmatched same so (binds, checked) = allowed_tree command tokens tree s (lacking_none command tokens tree lacks is none) binds true (sym same ∙ so)
-
--- neither of two is so
-neither : (a b : Bool) → (a || b) ≡ false → (a ≡ false) × (b ≡ false)
-neither false false is = (refl, refl)
-neither false true is = cc is
-neither true b is = cc is
-
--- the second of two is not so, where the first is
-not_second : (a b : Bool) → (a && b) ≡ false → a ≡ true → b ≡ false
-not_second true b none is = none
-not_second false b none is = cc is
-
-has_none : (command : Command) (tokens : List Token) (p : Program) → lacks_form command tokens p ≡ false → needs_code command ≡ true → (has_unbuilt_name tokens ≡ false) × (has_unbuilt_form p ≡ false)
-has_none command tokens p none needs = neither (has_unbuilt_name tokens) (has_unbuilt_form p) (not_second (needs_code command) (has_unbuilt_name tokens || has_unbuilt_form p) none needs)
-
-lacks_none : (command : Command) (s : Source) → lacks_match command s ≡ false → needs_code command ≡ true → has_match_with_parameters s ≡ false
-lacks_none command s none needs = not_second (needs_code command) (has_match_with_parameters s) none needs
-
--- what breaks no rule and has only forms that are built can be run, where no match has parameters
-pub binds_as : (command : Command) (tokens : List Token) (tree : Tree) (s : Source) (lacks : Bool) → lacks ≡ lacks_form command tokens (program_syntax tree) → lacks ≡ false → (unmatched : Bool) → unmatched ≡ lacks_match command s → unmatched ≡ false → (IsAllowed tokens tree s → IsRunnable s)
-    → ChecksAs tokens tree s → BindsAs command tokens tree s
-binds_as command tokens tree s lacks is none unmatched same nowhere runs (binds, checked) = (
-  allowed_tree command tokens tree s (lacking_none command tokens tree lacks is none) binds false (sym same ∙ nowhere),
-  λ reads needs.
-      let free = has_none command tokens (program_syntax tree) (sym is ∙ none) needs in
-      runs (record { reads = reads; names = free.0; forms = free.1; checked = checked; alone = lacks_none command s (sym same ∙ nowhere) needs }),
-)
-
-pub rejected_tree : (command : Command) (tokens : List Token) (tree : Tree) (r : Rule) (line : Line) → ((c : Compiled) → Same (TreeCompiles command tokens tree c) (CheckedCompiles command tokens tree (check_of tree) c)) → CheckRejects tokens tree r line
-    → TreeRejects command tokens tree r line
-rejected_tree command tokens tree r line free rejects c =
-    same_then (TreeCompiles command tokens tree c) (CheckedCompiles command tokens tree (check_of tree) c) (c ≡ Rejected r line) (free c) (rejects command c)
+pub rejected_tree : (command : Command) (tokens : List Token) (tree : Tree) (r : Rule) (line : Line) → CheckRejects tokens tree r line → TreeRejects command tokens tree r line
+rejected_tree command tokens tree r line rejects = rejects command

@@ -1,11 +1,11 @@
 -- What a command makes of a source: for `run` a program that can be run, for `compile` and `list` one whose code is written, for `check` that no
 -- rule refuses it, for `print` its canonical text, for `xref` its cross references, and for each the rule that refuses it, with the line. `print`
 -- asks the rules of spelling and of the grammar alone.
-use Rattle.std.specs.Prelude.{◌≡◌, ℕ, Bool, true, false, ◌&&◌, ◌||◌, List, Result, Ok, Err, Option, slice_index_or, ⊤}
+use Rattle.std.specs.Prelude.{◌≡◌, ℕ, List, Result, Ok, Err, Option, slice_index_or, ⊤}
 use Rattle.sim_base.specs.Place.{line_at}
 use Rattle.sim_base.specs.declared.numbering.Line.{Line}
 use Rattle.sim_base.specs.declared.rule.Rule.{Rule}
-use Rattle.sim_base.specs.declared.rule.Rule.TheVariants.{UnexpectedToken, NestedTooDeeply, FormNotBuilt}
+use Rattle.sim_base.specs.declared.rule.Rule.TheVariants.{UnexpectedToken, NestedTooDeeply}
 use Rattle.sim_base.specs.declared.token.Token.{Token}
 use Rattle.sim_lexer.specs.Spelling.{Lexed, Reads, Spelled, Broken}
 use Rattle.sim_scope.specs.declared.scopes.Denotation.{Denotation}
@@ -21,9 +21,6 @@ use Rattle.sim_tree.specs.Tree.{IsTree, limit}
 use Rattle.sim_tree.specs.declared.program.Program.{Program as Tree}
 use Rattle.sim_print.specs.Canonical.{canonical_text}
 use Rattle.sim_static.specs.Check.{Allowed, Checked, Refused, check_of}
-use Rattle.sim_static.specs.UnbuiltForms.{has_unbuilt_form}
-use Rattle.sim_static.specs.UnbuiltNames.{has_unbuilt_name}
-use Rattle.sim_allowed.specs.MatchParameters.{has_match_with_parameters}
 use Rattle.sim_built.specs.Allowed.{IsChecked}
 use Rattle.sim_run.specs.RunEnds.{IsRunnable}
 use Rattle.sim_xref.specs.Text.{references_text}
@@ -46,17 +43,6 @@ pub data Compiled : Type 0 where
 abbrev pub token_line : List Token → ℕ → Line
 token_line tokens token = (slice_index_or tokens token finish).line
 
--- what has a form that is not built is rejected at line 1
-abbrev pub not_built : Compiled
-not_built = Rejected FormNotBuilt (record { 0 = 1 })
-
--- Some commands need the code of a program; a form that is not built has none.
-abbrev pub needs_code : Command → Bool
-needs_code Run = true
-needs_code Compile = true
-needs_code Listing = true
-needs_code command = false
-
 -- what a command makes of a program that is not rejected
 abbrev pub BoundCompiles : Command → Source → Compiled → Type 0
 BoundCompiles Run s compiled = compiled ≡ Runnable s
@@ -65,19 +51,6 @@ BoundCompiles Listing s compiled = compiled ≡ Listed s
 BoundCompiles References s compiled = compiled ≡ Printed (references_text s)
 BoundCompiles command s compiled = compiled ≡ Sound
 
--- It is not built that a procedure with parameters matches a virtual.
-abbrev pub lacks_match : Command → Source → Bool
-lacks_match command s = needs_code command && has_match_with_parameters s
-
--- such a program is rejected behind the static rules
-abbrev pub AllowedCompilesIf : (lacks : Bool) → Command → Source → Compiled → Type 0
-AllowedCompilesIf true command s compiled = compiled ≡ not_built
-AllowedCompilesIf false command s compiled = BoundCompiles command s compiled
-
--- what a command makes of a program that breaks no static rule
-abbrev pub AllowedCompiles : Command → Source → Compiled → Type 0
-AllowedCompiles command s compiled = AllowedCompilesIf (lacks_match command s) command s compiled
-
 -- a tree with its tables, what its identifiers denote and where they are found, and what its expressions are
 abbrev pub source_with : Tree → Tables → (uses : List (Option Denotation)) → (found_in : List (Option ℕ)) → (types : List (Option SimType)) → Source
 source_with tree tables uses found_in types = record { program = program_syntax tree; tables = tables; uses = uses; found_in = found_in; types = types; lines = tree.lines.items }
@@ -85,21 +58,11 @@ source_with tree tables uses found_in types = record { program = program_syntax 
 -- Of a checked tree: the first static rule that it breaks, at the line of the token that is to blame.
 abbrev pub CheckedCompiles : Command → List Token → Tree → Checked → Compiled → Type 0
 CheckedCompiles command tokens tree (Refused fault) compiled = compiled ≡ Rejected fault.rule (token_line tokens fault.token.0)
-CheckedCompiles command tokens tree (Allowed tables uses found_in types) compiled = AllowedCompiles command (source_with tree tables uses found_in types) compiled
+CheckedCompiles command tokens tree (Allowed tables uses found_in types) compiled = BoundCompiles command (source_with tree tables uses found_in types) compiled
 
--- What else is not built: `process` directly behind `new`; an array as a parameter by name, a procedure as a parameter. `check` knows all
--- forms.
-abbrev pub lacks_form : Command → List Token → Program → Bool
-lacks_form command tokens p = needs_code command && (has_unbuilt_name tokens || has_unbuilt_form p)
-
--- a source with such a form is rejected before the static rules are asked
-abbrev pub TreeCompilesIf : (lacks : Bool) → Command → List Token → Tree → Compiled → Type 0
-TreeCompilesIf true command tokens tree compiled = compiled ≡ not_built
-TreeCompilesIf false command tokens tree compiled = CheckedCompiles command tokens tree (check_of tree) compiled
-
--- what a command makes of a tree of these tokens
+-- what a command makes of a tree of these tokens, by the static rules
 abbrev pub TreeCompiles : Command → List Token → Tree → Compiled → Type 0
-TreeCompiles command tokens tree compiled = TreeCompilesIf (lacks_form command tokens (program_syntax tree)) command tokens tree compiled
+TreeCompiles command tokens tree compiled = CheckedCompiles command tokens tree (check_of tree) compiled
 
 -- what a command makes of a tree: `print` asks no rule of it
 abbrev pub WholeCompiles : Command → List Token → Tree → Compiled → Type 0
@@ -121,7 +84,7 @@ TreeRejects command tokens tree rule line = (compiled : Compiled) → Same (Tree
 
 -- The static rules allow the tree, and it is this program; it is the same for all commands.
 abbrev pub CheckBinds : List Token → Tree → Source → Type 0
-CheckBinds tokens tree s = (command : Command) (compiled : Compiled) → Same (CheckedCompiles command tokens tree (check_of tree) compiled) (AllowedCompiles command s compiled)
+CheckBinds tokens tree s = (command : Command) (compiled : Compiled) → Same (CheckedCompiles command tokens tree (check_of tree) compiled) (BoundCompiles command s compiled)
 
 abbrev pub CheckRejects : List Token → Tree → Rule → Line → Type 0
 CheckRejects tokens tree rule line = (command : Command) (compiled : Compiled) → Same (CheckedCompiles command tokens tree (check_of tree) compiled) (compiled ≡ Rejected rule line)
@@ -189,13 +152,13 @@ SourceBinds command source s = (compiled : Compiled) → Same (SourceCompiles co
 abbrev pub ChecksAs : List Token → Tree → Source → Type 0
 ChecksAs tokens tree s = CheckBinds tokens tree s × IsChecked tree s
 
--- the tree is this program, which breaks no rule; where its code is needed it can be run
+-- the tree is this program, which breaks no rule and can be run
 abbrev pub BindsAs : Command → List Token → Tree → Source → Type 0
-BindsAs command tokens tree s = TreeBinds command tokens tree s × (IsTree tokens tree → needs_code command ≡ true → IsRunnable s)
+BindsAs command tokens tree s = TreeBinds command tokens tree s × (IsTree tokens tree → IsRunnable s)
 
--- the source is this program, which breaks no rule; where its code is needed it can be run
+-- the source is this program, which breaks no rule and can be run
 abbrev pub IsProgram : Command → List ℕ → Source → Type 0
-IsProgram command source s = SourceBinds command source s × (needs_code command ≡ true → IsRunnable s)
+IsProgram command source s = SourceBinds command source s × IsRunnable s
 
 -- What a step answers, by what is known of its source: the program, or the refusal. Want of memory says nothing of the source.
 abbrev pub Answers : {A : Type 0} → (A → Type 0) → (Rule → Line → Type 0) → Result A Refusal → Type 0

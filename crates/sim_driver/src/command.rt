@@ -11,7 +11,7 @@ ghost use Rattle.sim_ports.specs.Named.{IsOpen};
 ghost use Rattle.sim_run.specs.RunEnds.{BeforeARead, IsRunnable, TakesNothing};
 ghost use Rattle.sim_scope.specs.Source.{Source as AnySource, source_of};
 ghost use Rattle.sim_driver.specs.Answer.{Answer, Gives, IsAnswer, IsSourceAnswer, RunsGenerated};
-ghost use Rattle.sim_driver.specs.Compiling.{Rejected, Runnable, SourceCompiles, needs_code};
+ghost use Rattle.sim_driver.specs.Compiling.{Rejected, Runnable, SourceCompiles};
 ghost use Rattle.sim_driver.specs.Output.{Begins};
 ghost use Rattle.sim_driver.specs.OutputAfter.{InputAfter, OutputAfter, WritesAtTheEnd, WrittenAtTheEnd};
 ghost use Rattle.sim_driver.specs.Reading.{TakesAtMost};
@@ -261,7 +261,7 @@ fn do_bound<I: Source, O: Sink>(
     input: &mut I,
     out: &mut O,
 ) -> Result<Ending, RunFailure>
-    requires { needs_code command ≡ true → IsRunnable (source_of bound.now) }
+    requires { IsRunnable (source_of bound.now) }
     ensures known { (given : List ℕ) → I.left input.old ≡ Some given → OnOk result ((meaning : Meaning) × BoundMeans command limits.now (source_of bound.now) given meaning) }
     ensures does { (given : List ℕ) (meaning : Meaning) → I.left input.old ≡ Some given → BoundMeans command limits.now (source_of bound.now) given meaning → Does meaning (O.written out.old) (O.written out.new) result }
     ensures cut { (given : List ℕ) → I.left input.old ≡ Some given → result ≡ Err RunFailure.Input → BeforeARead (I.faults input.old) (I.faults input.new) (source_of bound.now) limits.now given (O.written out.old) (O.written out.new) }

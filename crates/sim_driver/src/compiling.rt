@@ -1,26 +1,22 @@
 // From the bytes of a source to the program that breaks no rule, or to the rule that refuses it.
 ghost use Rattle.std.specs.Prelude.{◌≡◌, ◌<◌, ◌^◌, ◌-◌, length, IfOk};
-ghost use Rattle.sim_base.specs.declared.rule.Rule.TheVariants.{FormNotBuilt};
 ghost use Rattle.sim_lexer.specs.Spelling.{Reads, Spelled};
 ghost use Rattle.sim_parser.specs.Claim.{IsWholeSource};
 ghost use Rattle.sim_scope.specs.Source.{source_of};
-ghost use Rattle.sim_tree.specs.SyntaxOfProgram.{program_syntax};
 ghost use Rattle.sim_tree.specs.Tree.{IsTree};
-ghost use Rattle.sim_driver.specs.Compiling.{Answers, BindsAs, CheckRejects, ChecksAs, IsProgram, SourcePrints, SourceRejects, TokensReject, TreeRejects, lacks_form, lacks_match, needs_code, token_line};
-ghost use Rattle.sim_driver.specs.declared.compiling.Refusal.TheVariants as refusal;
+ghost use Rattle.sim_driver.specs.Compiling.{Answers, BindsAs, CheckRejects, ChecksAs, IsProgram, SourcePrints, SourceRejects, TokensReject, TreeRejects, token_line};
 ghost use Rattle.command_line.specs.declared.words.Command.{Command as AnyCommand};
 ghost use Rattle.command_line.specs.declared.words.Command.TheVariants.{Print};
 
 use command_line::Command;
 use sim_base::{Line, Memory, Rule, Token, TokenNo, line_of};
-use sim_built::has_match_with_parameters;
 use sim_built::laws::allowed_programs_run;
 use sim_expr_parser::SyntaxRefusal;
 use sim_lexer::{LexRefusal, lex};
 use sim_parser::parse;
 use sim_print::print;
 use sim_scope::{Bound, StaticRefusal};
-use sim_static::{check, has_unbuilt_form, has_unbuilt_name};
+use sim_static::check;
 use sim_tree::grammar::one_tree;
 use std::alloc::Global;
 use thiserror::Error;
@@ -36,8 +32,7 @@ pub enum Refusal {
     Memory,
 }
 
-/// The program of a source, which breaks no rule, for each command but `print`; or the rule that it breaks first, with the line. Where its
-/// code is needed, it must have only forms that are built, and no procedure that matches a virtual may have parameters.
+/// The program of a source, which breaks no rule, for each command but `print`; or the rule that it breaks first, with the line.
 pub fn bind(alloc: Global, command: Command, source: &[u8]) -> Result<Bound, Refusal>
     requires length { length source.now < 2 ^ 32 - 1 }
     requires binds { command ≡ Print → ⊥ }
@@ -106,43 +101,7 @@ fn line_at(tokens: &[Token], token: TokenNo) -> Line
     }
 }
 
-// Whether a command needs the code of a program.
-fn needs_code(command: Command) -> bool
-    ensures { result ≡ needs_code command }
-{
-    match command {
-        Command::Run | Command::Compile | Command::Listing => true,
-        Command::Check | Command::Print | Command::References => false,
-    }
-}
-
-// Whether a tree of these tokens has a name or a form that is not built, where its code is needed.
-#[tactic(auto, unfolding(sim_static::specs::UnbuiltNames::HasUnbuiltName, sim_static::specs::UnbuiltForms::HasUnbuiltForm))]
-fn lacks_form(command: Command, tokens: &[Token], tree: &sim_tree::Program) -> bool
-    ensures { result ≡ lacks_form command tokens.now (program_syntax tree.now) }
-{
-    needs_code(command) && (has_unbuilt_name(tokens) || has_unbuilt_form(tree))
-}
-
-// Whether a procedure of a program matches a virtual and has parameters, where its code is needed.
-fn lacks_match(command: Command, bound: &Bound) -> bool
-    ensures { result ≡ lacks_match command (source_of bound.now) }
-{
-    needs_code(command) && has_match_with_parameters(bound)
-}
-
-// The refusal of a source that has what is not built.
-fn not_built() -> Refusal
-    ensures { result ≡ refusal.Broken FormNotBuilt (record { 0 = 1 }) }
-{
-    Refusal::Broken {
-        rule: Rule::FormNotBuilt,
-        line: Line(1),
-    }
-}
-
-// The program of a tree of these tokens. As long as a form is not built, a source that has it is refused first; one that has a match with
-// parameters is refused behind the static rules.
+// The program of a tree of these tokens, which can be run.
 fn bind_tree(
     alloc: Global,
     command: Command,
@@ -151,13 +110,7 @@ fn bind_tree(
 ) -> Result<Bound, Refusal>
     ensures { Answers (λ bound. BindsAs command tokens.now tree (source_of bound)) (TreeRejects command tokens.now tree) result }
 {
-    if lacks_form(command, tokens, &tree) {
-        return Err(not_built());
-    }
     let bound = bind_checked(alloc, tokens, tree)?;
-    if lacks_match(command, &bound) {
-        return Err(not_built());
-    }
     allowed_programs_run();
     Ok(bound)
 }

@@ -13,7 +13,8 @@ use Rattle.sim_values.specs.Operators.{Answer}
 use Rattle.sim_values.specs.Plain.{Character, Integer, MainOf, Nothing, Object, Plain, Text, Truth}
 use Rattle.sim_values.specs.Words.{array_words, is_exhausted}
 use Rattle.sim_code.specs.Outcome.{Ended, Ending, Going, Run, World}
-use Rattle.sim_values.specs.Texts.{Making, assign, concatenated}
+use Rattle.sim_values.specs.Texts.{Making, assign, concatenated, copy}
+use Rattle.sim_code.specs.Formals.{ArrayCopied, Copied, NothingCopied, TextCopied, copying_value, suiting}
 use Rattle.sim_code.specs.Events.{answering, applying_one, applying_two, assigning, choosing, computing, entering, having, integer_in, joining, making_text, no_rule, not_nothing, performing, pop_integers, pop_many, pop_object, pop_operands, pop_plain, pop_reference, pop_text, pop_truth, popping, putting_back, qualifying, referring, stopping, taking, testing_step, text_val, ticking, truth_in, when, with_texts}
 use Rattle.sim_code.specs.Simulations.{named_in}
 use Rattle.sim_code.specs.Virtuals.{counting, matching}
@@ -117,6 +118,10 @@ module _ {S : Type 0} (P : World → S → Type 0) where
   pub counting_goes : (line formals actuals : ℕ) (o : World) (r : Run S) → Goes P r → Goes P (counting line formals actuals o r)
   unfolding counting
   counting_goes line formals actuals o r x = choosing_goes (formals == actuals) r _ x (stops _ o)
+
+  pub suiting_goes : (line : ℕ) (fits : Bool) (o : World) (r : Run S) → Goes P r → Goes P (suiting line fits o r)
+  unfolding suiting
+  suiting_goes line fits o r x = choosing_goes fits r _ x (stops _ o)
 
   making_text_goes : (l : Limits) (line : ℕ) (making : Making) (o : World) (f : TextVal → World → Run S) → ((t : TextVal) (p : World) → p.ticks ≡ o.ticks → Goes P (f t p)) → Goes P (making_text l line making o f)
   unfolding making_text
@@ -235,3 +240,11 @@ module _ {S : Type 0} (P : World → S → Type 0) where
   pub keeping_goes : (array : ℕ) (o : World) (f : World → Run S) → ((p : World) → p.ticks ≡ o.ticks → Goes P (f p)) → Goes P (keeping_array array o f)
   unfolding keeping_array
   keeping_goes array o f x = having_goes (live_array o array) o _ (λ a. x _ refl)
+
+  pub copied_goes : {V : Type 0} (of : Plain → V) (plain : V → Option Plain) (array : ℕ → V) (array_in : V → Option ℕ) (l : Limits) (line owner : ℕ) (c : Copied) (v : V) (o : World) (f : V → World → Run S) → ((v : V) (p : World) → p.ticks ≡ o.ticks → Goes P (f v p)) → Goes P (copying_value of plain array array_in l line owner c v o f)
+  unfolding copying_value
+  copied_goes of plain array array_in l line owner NothingCopied v o f x = x v o refl
+  copied_goes of plain array array_in l line owner TextCopied v o f x =
+      having_goes (plain v) o _ (λ p. having_goes (text_val p) o _ (λ t. making_text_goes l line (copy o.store.frames t) o _ (λ t p same. x (of (Text t)) p same)))
+  copied_goes of plain array array_in l line owner ArrayCopied v o f x =
+      having_goes (array_in v) o _ (λ a. copying_goes l line owner a o _ (λ n p same. x (array n) p same))

@@ -1,6 +1,6 @@
 -- What is pending leads to less, or to a tick.
-use Rattle.std.proofs.Common.{◌≡◌, ◌≤◌, ◌<◌, ℕ, ◌+◌, Bool, true, false, List, [], ◌∷◌, length, Option, Some, None, refl, ap, ◌∙◌, arith, subst}
-use Rattle.std.specs.Prelude.{◌*◌, ◌==◌, slice_get, if◌then◌else◌, Result, Ok, Err}
+use Rattle.std.proofs.Common.{◌≡◌, ◌≤◌, ◌<◌, ℕ, suc, ◌+◌, Bool, true, false, List, [], ◌∷◌, ◌++◌, length, Option, Some, None, refl, ap, ◌∙◌, arith, subst}
+use Rattle.std.specs.Prelude.{◌*◌, ◌==◌, pos, slice_get, if◌then◌else◌, Result, Ok, Err}
 use Rattle.sim_base.specs.declared.limits.Limits.{Limits}
 use Rattle.sim_base.specs.declared.numbering.DeclNo.{DeclNo}
 use Rattle.sim_base.specs.declared.run_error.RunError.{RunError}
@@ -10,7 +10,7 @@ use Rattle.simset.specs.Sets.{Linkage}
 use Rattle.sim_scope.specs.Scopes.{class_formals}
 use Rattle.sim_scope.specs.Source.{Source, block_around, line_at}
 use Rattle.sim_tree.specs.declared.expr.Identifier.{Identifier}
-use Rattle.sim_tree.specs.Syntax.{Also, Arms, Arrayed, Arrays, Begin, Block, BoundPair, Declarations, DeclareClass, DeclareProcedure, Element, Expression, NoArm, NoDeclaration, NoStatement, Statement, Statements, Variables, When, With}
+use Rattle.sim_tree.specs.Syntax.{Also, Arms, Arrayed, Arrays, Begin, Block, BoundPair, Declarations, DeclareClass, DeclareProcedure, Element, Expression, Expressions, NoArm, NoDeclaration, NoMore, NoStatement, Statement, Statements, Then, Variables, When, With}
 use Rattle.sim_tree.specs.Syntax as syntax
 use Rattle.sim_values.specs.declared.operators.Calculation.TheVariants as calculation
 use Rattle.sim_values.specs.declared.operators.Dyadic.TheVariants as dyadic
@@ -33,23 +33,26 @@ use Rattle.sim_code.specs.Simulations.{begun_in, joined, joined_at, located, wit
 use Rattle.sim_code.specs.Scheduling.{component_of, deciding, going_to}
 use Rattle.sim_meaning.specs.Connections.{arm_tried, arms_tried, connected, object_connected}
 use Rattle.sim_meaning.specs.Levels.{class_at, end_line, has_procedure, in_process, is_in, is_process_text, is_simulation_text, levels, linkage_of_text, stands_in, text_at}
-use Rattle.sim_meaning.specs.Objects.{cells_of_levels, filled_in, generated, inner_done, is_member, object_entered, prefix_done, prefixed_entered, putting_reference, with_inner, arrays_given, decided, no_line, process_begun, process_done, words_of_object}
+use Rattle.sim_meaning.specs.Objects.{cells_of_levels, filled_in, origins, generated, inner_done, is_member, object_entered, prefix_done, prefixed_entered, putting_reference, with_inner, arrays_given, decided, no_line, process_begun, process_done, words_of_object}
 use Rattle.sim_meaning.specs.Entries.{arrays_among, arrays_by_value, arrays_declared, arrays_of, bounds_of, filled_behind, first_array, further_arrays, segments_of, first_cells, formals_of, words_of_cells}
-use Rattle.sim_meaning.specs.Meaning.{admitted, called, do_op, evaluated, is_place, leaving, procedure_entered, sub_block_entered, value_called, value_given}
+use Rattle.sim_meaning.specs.Meaning.{admitted, called, do_op, is_called_so, evaluated, is_place, leaving, procedure_entered, sub_block_entered, value_called, value_given, evaluating, formal_in_hand, is_by_name, passing, parameter_begun}
 use Rattle.sim_code.specs.Thunks.{locating}
-use Rattle.sim_meaning.specs.Pending.{ActivateOp, Activation, Actual, ActualOf, Address, AgainOp, ArrayOp, AttributeOf, AttributeOp, BackOp, BlockOp, BranchOp, CallOf, CallOp, CallValueOp, Cell, CheckOp, ChooseOp, CloseOp, Configuration, ConnectOp, Connection, CopyOf, CopyOp, DeclareOp, Do, DropOp, Either, ElementOf, ElementOp, ElementsOp, EndEvaluation, EndLevel, EndPrefixed, EndProcessOp, EnterOp, Eval, Exec, Execs, FetchOp, FitsOf, FitsOp, ForPlace, ForValue, Further, GiveOp, Given, Held, IfOp, ImageOf, InnerOp, Instances, Item, JoinOp, Joined, KeepOp, KeptOf, Key, Level, LevelOp, Link, MemberOf, MemberOp, NamedOf, NamedOp, NewOf, NewOp, NoTerm, NotNoneOf, NotNoneOp, ObjectOp, Of, One, OneOp, Op, PastOp, PlaceOf, PrefixedOp, ProcedureValue, ProcessOf, ProcessOp, QuaOf, QuaOp, QualifiedElementOf, QualifiedElementOp, QualifiedPlaceOf, RaiseOp, ReferOp, RemoteCallOf, SelfOp, SetOf, SetOp, ShareOp, SimulationOf, SimulationOp, StandardOf, StandardOp, StepOp, StepTestOp, StoreOp, SwapOp, Target, Term, Terms, TestOp, ToAddress, ToCell, ToNamed, ToPlace, ToReference, ToReferenceAt, ToText, ToTextAt, ToTextOf, TransferOf, TransferOp, Two, TwoOp, Unbuilt, Use, Val, ValueAt, VirtualOf, VirtualOp, WhenOp, WhileElementOp, actual_in, array_in, cell, cell_made, cell_set, instance_in, made_in, owner, place_in, plain, procedure_in, put_in, variable_in}
+use Rattle.sim_code.specs.Formals.{each as each_pair}
+use Rattle.sim_meaning.specs.Checks.{agrees, all_fit, all_passed, copied_for, fits, passed}
+use Rattle.sim_meaning.specs.Attributes.{parameter_qualification}
+use Rattle.sim_meaning.specs.Pending.{ActivateOp, Activation, Actual, ActualOf, Address, AgainOp, ArrayOp, AttributeOf, AttributeOp, BackOp, BlockOp, BranchOp, CallOf, CallOp, CallValueOp, Cell, CheckOp, ChooseOp, CloseOp, Configuration, ConnectOp, Connection, CopyOf, CopyOp, DeclareOp, Do, DropOp, Either, ElementOf, ElementOp, ElementsOp, EndEvaluation, EndLevel, EndPrefixed, EndProcessOp, EnterOp, Eval, Exec, Execs, FetchOp, FitsOf, FitsOp, ForPlace, ForValue, Further, GiveOp, Given, Held, IfOp, ImageOf, InnerOp, Instances, Item, JoinOp, Joined, KeepOp, KeptOf, Key, Level, LevelOp, Link, MemberOf, MemberOp, NamedOf, NamedOp, NewOf, NewOp, NoTerm, NotNoneOf, NotNoneOp, ObjectOp, Of, One, OneOp, Op, PastOp, PlaceOf, PrefixedOp, ProcedureValue, ProcessOf, ProcessOp, QuaOf, QuaOp, QualifiedElementOf, QualifiedElementOp, QualifiedPlaceOf, RaiseOp, ReferOp, RemoteCallOf, SelfOp, SetOf, SetOp, ShareOp, SimulationOf, SimulationOp, StandardOf, StandardOp, StepOp, StepTestOp, StoreOp, SwapOp, Target, Term, Terms, TestOp, ToAddress, ToCell, ToNamed, ToPlace, ToReference, ToReferenceAt, ToText, ToTextAt, ToTextOf, TransferOf, TransferOp, Two, TwoOp, Unbuilt, Use, Val, ValueAt, VirtualOp, WhenOp, WhileElementOp, actual_in, array_in, cell, cell_made, cell_set, instance_in, made_in, owner, place_in, plain, procedure_in, put_in, variable_in, OriginOf, OriginOp, Origin, ProcedureOf, ProcedureOp, RemoteProcedureOf, MatchOf, CheckedOf, ParameterOp, ForParameter}
 use Rattle.sim_meaning.specs.Pending as pending
 use Rattle.sim_meaning.specs.Statements as statement
 use Rattle.sim_meaning.specs.Statements.{assigned, begin_of, compound, elements, entered_at, exec, execs, first_branch, inner_begun, levels_of_instance, looping, prefix_begun, raised, reading, activated, simulation_home}
-use Rattle.sim_meaning.specs.Steps.{count, each, eval, go, put_back, putting, stored, value_at}
+use Rattle.sim_meaning.specs.Steps.{count, each, eval, go, put_back, putting, stored, value_at, count_of, parameters}
 use Rattle.sim_meaning.specs.Texts.{BlockText, ProcedureText, declared_at, kind_named}
 use Rattle.sim_meaning.specs.Virtuals.{match_at}
 use Rattle.sim_meaning.specs.Texts as texts
-use Rattle.sim_finite.proofs.Closing.{close_actual_small, close_small}
-use Rattle.sim_finite.proofs.Lifts.{Goes, assigning_goes, choosing_goes, computing_goes, copying_goes, counting_goes, entering_goes, finding_goes, having_goes, having_knows, integers_goes, joining_goes, keeping_goes, linkage_goes, making_goes, many_goes, matching_goes, none, object_goes, one_goes, performing_goes, plain_goes, popping_goes, qualifying_goes, reference_goes, step_goes, stops, ticking_goes, truth_goes, two_goes, when_goes}
+use Rattle.sim_finite.proofs.Closing.{close_small, close_passed_small}
+use Rattle.sim_finite.proofs.Lifts.{Goes, assigning_goes, choosing_goes, computing_goes, copying_goes, counting_goes, entering_goes, finding_goes, having_goes, having_knows, integers_goes, joining_goes, keeping_goes, linkage_goes, making_goes, many_goes, matching_goes, none, object_goes, one_goes, performing_goes, plain_goes, popping_goes, qualifying_goes, reference_goes, step_goes, stops, ticking_goes, truth_goes, two_goes, when_goes, copied_goes, suiting_goes}
 use Rattle.sim_finite.proofs.Scheduling.{activation_goes, process_goes, simulation_goes}
 use Rattle.sim_finite.proofs.Transfers.{NotMore, NotMoreIn, transfer_small, given_small}
-use Rattle.sim_finite.proofs.Weights.{Lower, arms_weight, bounds_weight, chain_weight, declarations_weight, elements_weight, expression_weight, kept_weight, levels_weight, lighter, names_weight, op_weight, segments_weight, standings_weight, statements_weight, target_weight, term_weight, terms_weight, ticked, work_weight}
+use Rattle.sim_finite.proofs.Weights.{Lower, arms_weight, bounds_weight, chain_weight, declarations_weight, elements_weight, expression_weight, kept_weight, levels_weight, lighter, names_weight, op_weight, segments_weight, standings_weight, statements_weight, target_weight, term_weight, terms_weight, ticked, work_weight, expressions_weight}
 
 -- ---- worlds with the same ticks
 
@@ -137,7 +140,7 @@ module _ (P : World → Configuration → Type 0) where
   back_goes (Link j) t o m f x = x o m refl refl
   back_goes (pending.ArrayValue a) t o m f x = x o m refl refl
   back_goes (ProcedureValue k j) t o m f x = x o m refl refl
-  back_goes (Actual j e) t o m f x = x o m refl refl
+  back_goes (Actual j p e) t o m f x = x o m refl refl
 
   pub putting_reference_goes : (s : Source) (line : ℕ) (p : Place Key (Option ℕ)) (v : Plain) (o : World) (m : Instances) (f : World → Instances → Run Configuration) → ((q : World) (n : Instances) → q.ticks ≡ o.ticks → kept_weight n ≡ kept_weight m → Goes P (f q n)) → Goes P (putting_reference s line p v o m f)
   unfolding putting_reference
@@ -152,6 +155,10 @@ module _ (P : World → Configuration → Type 0) where
 each_weight : (ts : Terms) (w : List Item) → work_weight (each ts w) ≡ terms_weight ts + work_weight w
 each_weight NoTerm w = omega arith
 each_weight (Further t ts) w = omega (arith, each_weight ts w)
+
+parameters_weight : (n line : ℕ) (es : Expressions) (w : List Item) → 3 + work_weight (parameters n line es w) ≤ expressions_weight es + work_weight w
+parameters_weight n line NoMore w = omega arith
+parameters_weight n line (Then e es) w = omega (arith, parameters_weight (suc n) line es w)
 
 reading_weight : (t : Target) (w : List Item) → work_weight (reading t w) ≤ target_weight t + work_weight w
 reading_weight (ToCell j key) w = omega arith
@@ -268,8 +275,13 @@ module _ (s : Source) (l : Limits) (o : World) (m : Instances) (i : ℕ) (w : Li
   eval_falls (SetOf name ts) = lighter refl (omega (arith, each_weight ts (Do (SetOp name) ∷ w)))
   eval_falls (ProcessOf name line a) = lighter refl (omega arith)
   eval_falls (SimulationOf j name ts line) = lighter refl (omega (arith, each_weight ts (Do (SimulationOp name line) ∷ w)))
-  eval_falls (VirtualOf a v n line) = lighter refl (omega arith)
-  eval_falls (ActualOf j e) = lighter refl (omega arith)
+  eval_falls (OriginOf k token line a) = lighter refl (omega arith)
+  eval_falls (ProcedureOf j k) = lighter refl (omega arith)
+  eval_falls (RemoteProcedureOf a k line) = lighter refl (omega arith)
+  eval_falls (MatchOf a v line) = lighter refl (omega arith)
+  eval_falls (CheckedOf a leaves home es line) =
+      when_goes (From (3 + (term_weight a + expressions_weight es))) (home == i) o _ (lighter refl (omega (arith, parameters_weight 0 line es (Do (CallValueOp (count_of es) leaves line) ∷ w))))
+  eval_falls (ActualOf j p e) = lighter refl (omega arith)
   eval_falls (NamedOf j key wanted) = lighter refl (omega arith)
   eval_falls Unbuilt = none (From 1) o
 
@@ -304,14 +316,25 @@ module _ (s : Source) (l : Limits) (o : World) (m : Instances) (i : ℕ) (w : Li
   call_falls k n line =
       many_goes (From 1) n [] vals o _ (λ values vals. popping_goes (From 1) vals o _ (λ v vals. having_goes (From 1) (instance_in v) o _ (λ j. when_goes (From 1) (is_live m j) o _ (procedure_falls vals k line values j (texts.text s k)))))
 
-  value_falls : (line : ℕ) → Falls 1 (value_called s l o m i w vals rest line)
-  value_falls line =
-      popping_goes (From 1) vals o _ (λ v vals. having_goes (From 1) (procedure_in v) o _ (λ q. when_goes (From 1) (is_live m q.1) o _ (procedure_falls vals q.0 line [] q.1 (texts.text s q.0))))
+  value_falls : (n : ℕ) (leaves : Bool) (line : ℕ) → Falls 1 (value_called s l o m i w vals rest n leaves line)
+  value_falls n leaves line =
+      many_goes (From 1) n [] vals o _ (λ values vals. popping_goes (From 1) vals o _ (λ v vals. having_goes (From 1) (procedure_in v) o _ (λ q. when_goes (From 1) (is_live m q.1) o _ (when_goes (From 1) (is_called_so s q.0 n leaves) o _ (procedure_falls vals q.0 line values q.1 (texts.text s q.0))))))
+
+  -- an actual parameter of a call that is checked is passed as it stands, or its evaluation begins
+  parameter_falls : (n : ℕ) (e : Expression) (line : ℕ) → Falls (3 + expression_weight e) (parameter_begun s o m i w vals rest n e line)
+  parameter_falls n e line =
+      having_goes (From (3 + expression_weight e)) (formal_in_hand s n vals) o _ (λ f. when_goes (From (3 + expression_weight e)) (fits s f (passed s e)) o _ (choosing_goes (From (3 + expression_weight e)) (is_by_name f.mode) _ _ (lighter refl (omega arith)) (lighter refl (omega arith))))
+
+  check_falls : (es : Expressions) (line : ℕ) → Falls 1 (do_op s l o m i w vals rest (CheckOp es line))
+  check_falls es line =
+      popping_goes (From 1) vals o _ (λ v more. having_goes (From 1) (procedure_in v) o _ (λ q. counting_goes (From 1) line (length (formals_of s q.0)) (count_of es) o _ (
+      suiting_goes (From 1) line (all_fit s (formals_of s q.0) (all_passed s es)) o _ (
+      having_goes (From 1) (each_pair (agrees s m q.1 i) (formals_of s q.0) (all_passed s es)) o _ (λ agree. suiting_goes (From 1) line agree o _ (lighter refl (omega arith)))))))
 
   -- so do the entries of objects and of prefixed blocks
   object_falls : (vals : List Val) (k line : ℕ) (values : List Val) (j : ℕ) (xs : List Level) → Falls 1 (object_entered s l o m i w vals rest k line values j xs)
   object_falls vals k line values j xs =
-      having_goes (From 1) (filled_in values (Some (cells_of_levels s xs)) (class_formals s.tables k)) o _ (λ filled. entering_goes (From 1) l line (words_of_object s k (cells_of_levels s xs)) o _ (λ p more most.
+      having_goes (From 1) (filled_in values (Some (cells_of_levels s xs ++ origins xs)) (class_formals s.tables k)) o _ (λ filled. entering_goes (From 1) l line (words_of_object s k (cells_of_levels s xs)) o _ (λ p more most.
       let n = length m.instances in
       let same = joined_ticks (is_process_text s k) j n (enrolled n (linkage_of_text s k) (arrays_given n values p)) ∙ enrolled_ticks n (linkage_of_text s k) (arrays_given n values p) ∙ handed_ticks n (arrays_among values) p in ticked (omega (arith, more, same)) (omega (arith, most, same))))
 
@@ -491,11 +514,16 @@ module _ (s : Source) (l : Limits) (o : World) (m : Instances) (i : ℕ) (w : Li
   op_falls (SimulationOp name line) =
       simulation_goes (From 1) plain instance_in (in_process s m) o (decided m i w rest line) (decided_falls line) None name vals _ (λ p vals. lighter refl (omega arith))
   op_falls (VirtualOp v line) = object_goes (From 1) plain line vals o _ (λ j vals. matching_goes (From 1) line (match_at s m v j) o _ (λ k. lighter refl (omega arith)))
-  op_falls (CheckOp n line) = popping_goes (From 1) vals o _ (λ v more. having_goes (From 1) (procedure_in v) o _ (λ q. counting_goes (From 1) line (length (formals_of s q.0)) n o _ (when_goes (From 1) (n == 0) o _ (lighter refl (omega arith)))))
-  op_falls (CallValueOp line) = value_falls line
+  op_falls (OriginOp k token line) =
+      object_goes (From 1) plain line vals o _ (λ j vals. when_goes (From 1) (is_in s m k j) o _ (having_knows (From 1) (cell_set m j Origin (Of (Integer (pos token)))) o _ (λ n is.
+      lighter refl (omega (arith, cell_kept m j Origin (Of (Integer (pos token))) n is)))))
+  op_falls (ProcedureOp k) = popping_goes (From 1) vals o _ (λ v vals. having_goes (From 1) (instance_in v) o _ (λ j. lighter refl (omega arith)))
+  op_falls (CheckOp es line) = check_falls es line
+  op_falls (ParameterOp n e line) = parameter_falls n e line
+  op_falls (CallValueOp n leaves line) = value_falls n leaves line
   op_falls (NamedOp j key wanted) =
-      having_goes (From 0) (cell m j key) o _ (λ v. having_goes (From 0) (actual_in v) o _ (λ a. ticking_goes (From 0) l o _ (λ p more most. when_goes (From 0) (is_live m a.0) p (go p m a.0 (Do (CloseOp a.1) ∷ EndEvaluation wanted ∷ []) [] (record { instance = i; work = w; values = vals } ∷ rest)) (ticked (omega (arith, more)) most))))
-  op_falls (CloseOp e) = lighter refl (omega (arith, close_actual_small s m i e))
+      having_goes (From 0) (cell m j key) o _ (λ v. having_goes (From 0) (actual_in v) o _ (λ a. when_goes (From 0) (is_live m a.home) o _ (ticking_goes (From 0) l o _ (λ p more most. ticked (omega (arith, more)) most))))
+  op_falls (CloseOp p e) = lighter refl (omega (arith, close_passed_small p s m i e))
   op_falls DropOp = popping_goes (From 1) vals o _ (λ v vals. lighter refl (omega arith))
   op_falls AgainOp = popping_goes (From 1) vals o _ (λ v vals. lighter refl (omega arith))
   op_falls SwapOp = popping_goes (From 1) vals o _ (λ v vals. popping_goes (From 1) vals o _ (λ u vals. lighter refl (omega arith)))
@@ -513,7 +541,7 @@ module _ (s : Source) (l : Limits) (o : World) (m : Instances) (i : ℕ) (w : Li
   op_falls (LevelOp k) = lighter refl (omega arith)
   op_falls (InnerOp xs) = inner_falls xs
   op_falls SelfOp = lighter refl (omega arith)
-  op_falls EndProcessOp = having_goes (From 1) (encloser_of m i) o _ (λ b. having_goes (From 1) (located o.simulations b) o _ (λ x. decided_falls (end_line s m i) o _ _ vals refl))
+  op_falls EndProcessOp = having_goes (From 1) (encloser_of m i) o _ (λ b. having_goes (From 1) (located o.simulations b) o _ (λ x. having_goes (From 1) (end_line s m i) o _ (λ line. decided_falls line o _ _ vals refl)))
   op_falls (BlockOp b) = lighter refl (omega arith)
   op_falls (ActivateOp again timing line) = activation_goes (From 1) plain instance_in (in_process s m) o (decided m i w rest line) (decided_falls line) again timing vals
   op_falls (ConnectOp k a other) = plain_goes (From (3 + statements_weight other)) plain vals o _ (λ p vals. inspect_falls vals k a other p)
@@ -550,11 +578,15 @@ module _ (P : World → Configuration → Type 0) where
   admitted_goes s m None line v o r x = x
   admitted_goes s m (Some k) line v o r x = having_goes P (plain v) o _ (λ p. qualifying_goes P line (stands_in s m k) p o _ x)
 
-pub evaluated_falls : (s : Source) (l : Limits) (o : World) (m : Instances) (n : ℕ) (rest : List Activation) (wanted : Use) (v : Val) → Goes (Lower l o.ticks (1 + n + chain_weight rest + kept_weight m)) (evaluated s o m rest wanted v)
+pub evaluated_falls : (s : Source) (l : Limits) (o : World) (m : Instances) (n : ℕ) (rest : List Activation) (wanted : Use) (v : Val) → Goes (Lower l o.ticks (1 + n + chain_weight rest + kept_weight m)) (evaluated s l o m rest wanted v)
 evaluated_falls s l o m n [] wanted v = none (Lower l o.ticks (1 + n + 0 + kept_weight m)) o
 evaluated_falls s l o m n (a ∷ rest) (ForValue class line) v =
     having_goes (Lower l o.ticks (1 + n + chain_weight (a ∷ rest) + kept_weight m)) (value_given o m v) o _ (λ u. admitted_goes (Lower l o.ticks (1 + n + chain_weight (a ∷ rest) + kept_weight m)) s m class line u o _ (lighter refl (omega arith)))
 evaluated_falls s l o m n (a ∷ rest) (ForPlace value_too line) v = locating_goes (Lower l o.ticks (1 + n + chain_weight (a ∷ rest) + kept_weight m)) line (is_place v) value_too o _ (lighter refl (omega arith))
+evaluated_falls s l o m n (a ∷ rest) (ForParameter number line) v =
+    let P = Lower l o.ticks (1 + n + chain_weight (a ∷ rest) + kept_weight m) in
+    having_goes P (formal_in_hand s number a.values) o _ (λ f. having_goes P (value_given o m v) o _ (λ u.
+    admitted_goes P s m (parameter_qualification s f.kind f.ty) line u o _ (copied_goes P Of plain pending.ArrayValue array_in l line a.instance (copied_for f) u o _ (λ v p same. lighter same (omega arith)))))
 
 -- an object ends, and what is below goes on
 pub object_ended_falls : (s : Source) (l : Limits) (o : World) (m : Instances) (i n : ℕ) (rest : List Activation) → Goes (Lower l o.ticks (1 + n + chain_weight rest + kept_weight m)) (ticking l o (λ p. object_ended owner p m i rest))

@@ -6,7 +6,26 @@ use Rattle.sim_tree.specs.declared.expr.Identifier.{Identifier}
 use Rattle.sim_tree.specs.Syntax.{Also, Arms, Arrayed, Arrays, BoundPair, Declarations, DeclareClass, DeclareProcedure, Element, Expression, Expressions, NoArm, NoDeclaration, NoMore, NoStatement, Statements, Then, Variables, When, With}
 use Rattle.sim_tree.specs.Syntax as syntax
 use Rattle.sim_code.specs.Outcome.{World}
-use Rattle.sim_meaning.specs.Pending.{ActivateOp, Activation, ActualOf, AgainOp, ArrayOp, AttributeOf, AttributeOp, BackOp, BlockOp, BranchOp, CallOf, CallOp, CallValueOp, Cell, CheckOp, ChooseOp, CloseOp, Configuration, ConnectOp, CopyOf, CopyOp, DeclareOp, Do, DropOp, Either, ElementOf, ElementOp, ElementsOp, EndBlock, EndEvaluation, EndLevel, EndObject, EndPrefixed, EndProcedure, EndProcessOp, EndProgram, EnterOp, Eval, Exec, Execs, FetchOp, FitsOf, FitsOp, Further, GiveOp, Given, IfOp, ImageOf, InnerOp, Instances, Item, JoinOp, Joined, KeepOp, KeptOf, Level, LevelOp, MemberOf, MemberOp, NamedOf, NamedOp, NewOf, NewOp, NoTerm, NotNoneOf, NotNoneOp, ObjectOp, One, OneOp, Op, PastOp, PlaceOf, PrefixedOp, ProcessOf, ProcessOp, QuaOf, QuaOp, QualifiedElementOf, QualifiedElementOp, QualifiedPlaceOf, RaiseOp, ReferOp, RemoteCallOf, SelfOp, SetOf, SetOp, ShareOp, SimulationOf, SimulationOp, StandardOf, StandardOp, StepOp, StepTestOp, StoreOp, SwapOp, Target, Term, Terms, TestOp, ToAddress, ToCell, ToNamed, ToPlace, ToReference, ToReferenceAt, ToText, ToTextAt, ToTextOf, TransferOf, TransferOp, Two, TwoOp, Unbuilt, ValueAt, VirtualOf, VirtualOp, WhenOp, WhileElementOp}
+use Rattle.sim_meaning.specs.Pending.{ActivateOp, Activation, ActualOf, AgainOp, ArrayOp, AttributeOf, AttributeOp, BackOp, BlockOp, BranchOp, CallOf, CallOp, CallValueOp, Cell, CheckOp, ChooseOp, CloseOp, Configuration, ConnectOp, CopyOf, CopyOp, DeclareOp, Do, DropOp, Either, ElementOf, ElementOp, ElementsOp, EndBlock, EndEvaluation, EndLevel, EndObject, EndPrefixed, EndProcedure, EndProcessOp, EndProgram, EnterOp, Eval, Exec, Execs, FetchOp, FitsOf, FitsOp, Further, GiveOp, Given, IfOp, ImageOf, InnerOp, Instances, Item, JoinOp, Joined, KeepOp, KeptOf, Level, LevelOp, MemberOf, MemberOp, NamedOf, NamedOp, NewOf, NewOp, NoTerm, NotNoneOf, NotNoneOp, ObjectOp, One, OneOp, Op, PastOp, PlaceOf, PrefixedOp, ProcessOf, ProcessOp, QuaOf, QuaOp, QualifiedElementOf, QualifiedElementOp, QualifiedPlaceOf, RaiseOp, ReferOp, RemoteCallOf, SelfOp, SetOf, SetOp, ShareOp, SimulationOf, SimulationOp, StandardOf, StandardOp, StepOp, StepTestOp, StoreOp, SwapOp, Target, Term, Terms, TestOp, ToAddress, ToCell, ToNamed, ToPlace, ToReference, ToReferenceAt, ToText, ToTextAt, ToTextOf, TransferOf, TransferOp, Two, TwoOp, Unbuilt, ValueAt, VirtualOp, WhenOp, WhileElementOp, OriginOf, OriginOp, ProcedureOf, ProcedureOp, RemoteProcedureOf, MatchOf, CheckedOf, ParameterOp}
+
+-- as many steps as an expression takes at most, once it is closed
+abbrev mutual
+  pub expression_weight : Expression → ℕ
+  expression_weight (syntax.If token c a b) = 3 + (expression_weight c + (expression_weight a + expression_weight b))
+  expression_weight (syntax.Binary op token a b) = 4 + (expression_weight a + expression_weight b)
+  expression_weight (syntax.Not token a) = 2 + expression_weight a
+  expression_weight (syntax.Signed sign token a) = 2 + expression_weight a
+  expression_weight (syntax.Member member token a class) = 2 + expression_weight a
+  expression_weight (syntax.Dot token a name es) = 8 + (expression_weight a + expressions_weight es)
+  expression_weight (syntax.Qua token a class) = 2 + expression_weight a
+  expression_weight (syntax.Named name es) = 9 + expressions_weight es
+  expression_weight (syntax.New token class es) = 4 + expressions_weight es
+  expression_weight (syntax.Parentheses token a) = expression_weight a
+  expression_weight _ = 1
+
+  pub expressions_weight : Expressions → ℕ
+  expressions_weight NoMore = 3
+  expressions_weight (Then e es) = 6 + (expression_weight e + expressions_weight es)
 
 -- the steps that a closed tree takes
 abbrev mutual
@@ -38,33 +57,18 @@ abbrev mutual
   term_weight (SetOf name ts) = 2 + terms_weight ts
   term_weight (ProcessOf name line a) = 2 + term_weight a
   term_weight (SimulationOf j name ts line) = 2 + terms_weight ts
-  term_weight (VirtualOf a v n line) = 4 + term_weight a
-  term_weight (ActualOf j e) = 1
+  term_weight (OriginOf k token line a) = 2 + term_weight a
+  term_weight (ProcedureOf j k) = 2
+  term_weight (RemoteProcedureOf a k line) = 3 + term_weight a
+  term_weight (MatchOf a v line) = 2 + term_weight a
+  term_weight (CheckedOf a leaves home es line) = 3 + (term_weight a + expressions_weight es)
+  term_weight (ActualOf j p e) = 1
   term_weight (NamedOf j key wanted) = 1
   term_weight Unbuilt = 1
 
   pub terms_weight : Terms → ℕ
   terms_weight NoTerm = 0
   terms_weight (Further t ts) = term_weight t + terms_weight ts
-
--- as many as an expression takes at most, once it is closed
-abbrev mutual
-  pub expression_weight : Expression → ℕ
-  expression_weight (syntax.If token c a b) = 3 + (expression_weight c + (expression_weight a + expression_weight b))
-  expression_weight (syntax.Binary op token a b) = 4 + (expression_weight a + expression_weight b)
-  expression_weight (syntax.Not token a) = 2 + expression_weight a
-  expression_weight (syntax.Signed sign token a) = 2 + expression_weight a
-  expression_weight (syntax.Member member token a class) = 2 + expression_weight a
-  expression_weight (syntax.Dot token a name es) = 8 + (expression_weight a + expressions_weight es)
-  expression_weight (syntax.Qua token a class) = 2 + expression_weight a
-  expression_weight (syntax.Named name es) = 9 + expressions_weight es
-  expression_weight (syntax.New token class es) = 2 + expressions_weight es
-  expression_weight (syntax.Parentheses token a) = expression_weight a
-  expression_weight _ = 1
-
-  pub expressions_weight : Expressions → ℕ
-  expressions_weight NoMore = 3
-  expressions_weight (Then e es) = 6 + (expression_weight e + expressions_weight es)
 
 -- an assignment, in which a variable is found that lies at no fixed place
 abbrev pub target_weight : Target → ℕ
@@ -149,10 +153,13 @@ op_weight (SetOp name) = 1
 op_weight (ProcessOp name line) = 1
 op_weight (SimulationOp name line) = 1
 op_weight (VirtualOp v line) = 1
-op_weight (CheckOp n line) = 1
-op_weight (CallValueOp line) = 1
+op_weight (OriginOp k token line) = 1
+op_weight (ProcedureOp k) = 1
+op_weight (CheckOp es line) = 1
+op_weight (ParameterOp n e line) = 3 + expression_weight e
+op_weight (CallValueOp n leaves line) = 1
 op_weight (NamedOp j key wanted) = 0
-op_weight (CloseOp e) = 1 + expression_weight e
+op_weight (CloseOp p e) = 1 + expression_weight e
 op_weight DropOp = 1
 op_weight AgainOp = 1
 op_weight SwapOp = 1

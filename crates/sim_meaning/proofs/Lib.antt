@@ -6,3 +6,4 @@ pub mod TextsOfBodies
 pub mod WorkedSimulations
 pub mod WorkedVirtuals
 pub mod WorkedNames
+pub mod WorkedFormals

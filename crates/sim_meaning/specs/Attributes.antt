@@ -1,6 +1,6 @@
 -- The closed trees of what objects have: of attributes behind a dot, and of those that are seen in a connection; of the classes that are
 -- named in expressions; and of references, which have a qualification.
-use Rattle.std.specs.Prelude.{ℕ, suc, Bool, true, false, if◌then◌else◌, List, [], ◌∷◌, slice_get, Option, Some, None}
+use Rattle.std.specs.Prelude.{ℕ, Bool, true, false, if◌then◌else◌, List, [], ◌∷◌, slice_get, Option, Some, None}
 use Rattle.sim_base.specs.declared.numbering.DeclNo.{DeclNo}
 use Rattle.sim_scope.specs.declared.scopes.Denotation.{Denotation}
 use Rattle.sim_scope.specs.declared.scopes.Denotation.TheVariants as denotation
@@ -12,7 +12,6 @@ use Rattle.sim_scope.specs.declared.types.FormalKind.TheVariants as shape
 use Rattle.sim_scope.specs.declared.types.Mode.{Mode}
 use Rattle.sim_scope.specs.declared.types.Mode.TheVariants as mode
 use Rattle.sim_scope.specs.declared.types.SimType.{SimType}
-use Rattle.sim_scope.specs.declared.types.StandardClass.TheVariants as standard
 use Rattle.sim_scope.specs.Scopes.{entry_of}
 use Rattle.sim_scope.specs.Source.{Source, block_of, denoted, found_at, level_of}
 use Rattle.sim_scope.specs.Tables.{BlockOf}
@@ -26,9 +25,14 @@ use Rattle.sim_code.specs.Sets.{is_set_name}
 use Rattle.sim_code.specs.Simulations.{is_process_name, is_simulation_name}
 use Rattle.sim_code.specs.Transfers.{Calling, Detaching, Resuming, Transfer}
 use Rattle.sim_meaning.specs.Names.{procedure_named}
-use Rattle.sim_meaning.specs.Levels.{qualification}
-use Rattle.sim_meaning.specs.Texts.{ConnectionText, StandardText, Text, text}
-use Rattle.sim_meaning.specs.Pending.{AttributeOf, Cell, Connection, Declared, ElementOf, FitsOf, Further, Given, Instances, KeptOf, Key, MemberOf, NewOf, NoTerm, NotNoneOf, PlaceOf, ProcessOf, QuaOf, QualifiedElementOf, QualifiedPlaceOf, RemoteCallOf, SetOf, SimulationOf, Term, Terms, TransferOf, Unbuilt, ValueAt, VirtualOf}
+use Rattle.sim_meaning.specs.Levels.{is_process_itself, qualification}
+use Rattle.sim_meaning.specs.Texts.{ConnectionText, Text, text}
+use Rattle.sim_meaning.specs.Pending.{AttributeOf, Cell, CheckedOf, Connection, Declared, ElementOf, FitsOf, Further, Given, Instances, KeptOf, Key, MatchOf, MemberOf, NewOf, NoTerm, NotNoneOf, OriginOf, PlaceOf, ProcessOf, QuaOf, QualifiedElementOf, QualifiedPlaceOf, RemoteCallOf, RemoteProcedureOf, SetOf, SimulationOf, Term, Terms, TransferOf, Unbuilt, ValueAt}
+
+-- whether an expression that stands as a statement leaves a value
+abbrev pub has_type : Option SimType → Bool
+has_type None = false
+has_type (Some type) = true
 
 -- what is there, or else another tree
 abbrev pub if_any : {A : Type 0} → Option A → (A → Term) → Term → Term
@@ -62,11 +66,6 @@ connected_object s m i k = if_any (at_level m (level_of s k) i) (λ j. Cell j (c
 
 -- ---- attributes
 
--- how many actual parameters there are
-abbrev pub count_of : Expressions → ℕ
-count_of NoMore = 0
-count_of (Then e es) = suc (count_of es)
-
 -- a variable, a constant or an array is found in the object, by the class that declares it
 abbrev pub attribute_place : Source → (line : ℕ) → DeclNo → (object : Term) → Term
 attribute_place s line d object = AttributeOf (block_of s d) (Declared d.0) None line object
@@ -94,19 +93,28 @@ abbrev pub attribute_of_object : Bool → Standard → (line : ℕ) → (object 
 attribute_of_object true name line object actuals = SetOf name (Further (NotNoneOf line object) actuals)
 attribute_of_object false name line object actuals = process_term (is_process_name name) name line object
 
-abbrev pub entry_attribute : Source → (line : ℕ) → DeclNo → Option Entry → (object : Term) → Expressions → Terms → (actuals : Terms) → Term
-entry_attribute s line d (Some (entry.Variable type)) object es terms actuals = variable_attribute (attribute_place s line d object) es
-entry_attribute s line d (Some (entry.Constant type)) object es terms actuals = variable_attribute (attribute_place s line d object) es
-entry_attribute s line d (Some (entry.Array element dimensions)) object es terms actuals = array_attribute line (attribute_place s line d object) es terms
-entry_attribute s line d (Some (entry.Formal f)) object es terms actuals = parameter_attribute line f.kind (attribute_place s line d object) es terms
-entry_attribute s line d (Some (entry.Procedure result block)) object es terms actuals = RemoteCallOf object block actuals line
-entry_attribute s line d (Some (entry.Virtual result own)) object es terms actuals = VirtualOf object d.0 (count_of es) line
-entry_attribute s line d (Some (entry.Attribute name parameter result)) object es terms actuals = attribute_of_object (is_set_name name) name line object actuals
-entry_attribute s line d _ object es terms actuals = Unbuilt
+abbrev pub entry_attribute : Source → (home line : ℕ) → DeclNo → Option Entry → (object : Term) → Expressions → Terms → (actuals : Terms) → Term
+entry_attribute s i line d (Some (entry.Variable type)) object es terms actuals = variable_attribute (attribute_place s line d object) es
+entry_attribute s i line d (Some (entry.Constant type)) object es terms actuals = variable_attribute (attribute_place s line d object) es
+entry_attribute s i line d (Some (entry.Array element dimensions)) object es terms actuals = array_attribute line (attribute_place s line d object) es terms
+entry_attribute s i line d (Some (entry.Formal f)) object es terms actuals = parameter_attribute line f.kind (attribute_place s line d object) es terms
+entry_attribute s i line d (Some (entry.Procedure result block)) object es terms actuals = RemoteCallOf object block actuals line
+entry_attribute s i line d (Some (entry.Virtual result own)) object es terms actuals = CheckedOf (MatchOf object d.0 line) (has_type result) i es line
+entry_attribute s i line d (Some (entry.Attribute name parameter result)) object es terms actuals = attribute_of_object (is_set_name name) name line object actuals
+entry_attribute s i line d _ object es terms actuals = Unbuilt
 
--- the attribute of an object, with its operands, as they are closed for themselves and for formal parameters
-abbrev pub attribute : Source → (line : ℕ) → (object : Term) → Expressions → Terms → (actuals : DeclNo → Terms) → DeclNo → Term
-attribute s line object es terms actuals d = entry_attribute s line d (entry_of s.tables d) object es terms (actuals d)
+-- the attribute of an object, as it is used in an instance, with its operands, as they are closed for themselves and for formal parameters
+abbrev pub attribute : Source → (home line : ℕ) → (object : Term) → Expressions → Terms → (actuals : DeclNo → Terms) → DeclNo → Term
+attribute s i line object es terms actuals d = entry_attribute s i line d (entry_of s.tables d) object es terms (actuals d)
+
+-- a procedure of an object as a value
+abbrev pub entry_procedure : (line : ℕ) → DeclNo → Option Entry → (object : Term) → Term
+entry_procedure line d (Some (entry.Procedure result block)) object = RemoteProcedureOf object block line
+entry_procedure line d (Some (entry.Virtual result own)) object = MatchOf object d.0 line
+entry_procedure line d _ object = Unbuilt
+
+abbrev pub attribute_procedure : Source → (line : ℕ) → (object : Term) → DeclNo → Term
+attribute_procedure s line object d = entry_procedure line d (entry_of s.tables d) object
 
 abbrev pub declared_attribute : Option Denotation → Option DeclNo
 declared_attribute (Some (denotation.Declared d)) = Some d
@@ -139,23 +147,16 @@ place_of_attribute s line object es terms d = entry_at s line d (entry_of s.tabl
 
 -- ---- classes
 
--- Objects of `process` itself are not built; those of its subclasses are.
-abbrev pub is_bare_process : Option Text → Bool
-is_bare_process (Some (StandardText standard.Process)) = true
-is_bare_process _ = false
+-- `new`; an object of `process` itself keeps the token of that identifier
+abbrev pub origin_if : (is_process : Bool) → (class token line : ℕ) → (object : Term) → Term
+origin_if false k token line object = object
+origin_if true k token line object = OriginOf k token line object
 
-abbrev pub class_unless : Bool → ℕ → Option ℕ
-class_unless true k = None
-class_unless false k = Some k
+abbrev pub generation : Source → (token : ℕ) → Option ℕ → (class : Option ℕ) → (actuals : Terms) → (line : ℕ) → Term
+generation s token (Some j) (Some k) terms line = origin_if (is_process_itself s k) k token line (NewOf j k terms line)
+generation s token _ _ terms line = Unbuilt
 
-abbrev pub class_made : Source → Option ℕ → Option ℕ
-class_made s None = None
-class_made s (Some k) = class_unless (is_bare_process (text s k)) k
-
--- `new`; `is` and `in`; `qua`
-abbrev pub generation : Option ℕ → (class : Option ℕ) → (actuals : Terms) → (line : ℕ) → Term
-generation (Some j) (Some k) terms line = NewOf j k terms line
-generation _ _ terms line = Unbuilt
+-- `is` and `in`; `qua`
 
 abbrev pub membership_term : Membership → (class : Option ℕ) → Term → Term
 membership_term member class a = if_any class (λ k. MemberOf member k a) Unbuilt

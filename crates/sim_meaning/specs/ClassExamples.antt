@@ -148,10 +148,12 @@ abbrev pub found_of : ℕ → Tables → List Use → List (Option ℕ)
 found_of n tables [] = []
 found_of n tables (x ∷ xs) = replicate (gap x.token n) None ++ found tables x x.where_it_is ∷ found_of (x.token + 1) tables xs
 
--- the tokens that name texts and left sides that are references
+-- the tokens that name texts and left sides that are references; and actual parameters of calls that are checked
 pub data TypeWritten : Type 0 where
   AText : TypeWritten
   Reference : (class : List ℕ) → TypeWritten
+  AnInteger : TypeWritten
+  OfNone : TypeWritten
 
 pub record Typed : Type 0 where
   pub token : ℕ
@@ -163,6 +165,8 @@ typed token type = record { token = token; type = type }
 abbrev pub type_meant : Tables → TypeWritten → SimType
 type_meant tables AText = t.Text
 type_meant tables (Reference class) = reference_to (class_named tables class)
+type_meant tables AnInteger = t.Integer
+type_meant tables OfNone = t.NoneType
 
 abbrev pub types_of : ℕ → Tables → List Typed → List (Option SimType)
 types_of n tables [] = []

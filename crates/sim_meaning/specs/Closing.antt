@@ -40,13 +40,14 @@ use Rattle.sim_values.specs.Plain.{Character, Integer, Nothing, Object, Plain, T
 use Rattle.sim_values.specs.Standard.{is_image, moves_position, on_image}
 use Rattle.sim_values.specs.Texts.{notext}
 use Rattle.sim_code.specs.Instances.{at_level}
-use Rattle.sim_meaning.specs.Attributes.{attribute, attribute_formals, connected_object, connection_at, count_of, declared_attribute, detach_term, fitting, block_found, class_made, generation, if_any, membership_term, own_attribute, own_term, parameter_qualification, place_of_attribute, qua_term, qualified, qualified_place, this_term, transfer_at, transfer_term, with_arrays_kept}
+use Rattle.sim_meaning.specs.Attributes.{attribute, attribute_formals, connected_object, connection_at, attribute_procedure, declared_attribute, detach_term, fitting, block_found, generation, has_type, if_any, membership_term, own_attribute, own_term, parameter_qualification, place_of_attribute, qua_term, qualified, qualified_place, this_term, transfer_at, transfer_term, with_arrays_kept}
+pub use Rattle.sim_meaning.specs.Attributes.{has_type}
 use Rattle.sim_meaning.specs.Constants.{text_constant}
 use Rattle.sim_meaning.specs.Levels.{class_at, qualification}
 use Rattle.sim_meaning.specs.Names.{is_image_in, procedure_named, stream_named}
 use Rattle.sim_meaning.specs.Texts.{constant_of}
 use Rattle.sim_meaning.specs.Virtuals.{text_of_procedure}
-use Rattle.sim_meaning.specs.Pending.{ActualOf, Cell, CallOf, CopyOf, Declared, Either, ElementOf, Further, Given, ForPlace, ForValue, ImageOf, Instances, Joined, Key, NamedOf, NoTerm, One, PlaceOf, Result, StandardOf, Term, Terms, Two, Unbuilt, Use, ValueAt, VirtualOf}
+use Rattle.sim_meaning.specs.Pending.{ActualOf, Cell, CallOf, CheckedOf, CopyOf, Declared, Either, ElementOf, Further, Given, ForPlace, ForValue, ImageOf, Instances, Joined, Key, MatchOf, NamedOf, NoTerm, One, PlaceOf, ProcedureOf, Result, StandardOf, Term, Terms, Two, Unbuilt, Use, ValueAt}
 
 -- ---- operators
 
@@ -178,12 +179,22 @@ type_of_formal _ = None
 abbrev pub class_of_formal : Source → DeclNo → Option ℕ
 class_of_formal s d = qualification s (type_of_formal (entry_of s.tables d))
 
-abbrev pub formal_term : Source → Instances → ℕ → (line : ℕ) → DeclNo → Mode → FormalKind → Expressions → Terms → Term
-formal_term s m i line d mode.ByName shape.Simple es terms = name_term s m i d es (ForValue (class_of_formal s d) line)
-formal_term s m i line d mode.ByName kind es terms = Unbuilt
-formal_term s m i line d mode shape.Simple es terms = variable_term s m i d es
-formal_term s m i line d mode shape.Array es terms = array_term s m i line d es terms
-formal_term s m i line d mode shape.Procedure es terms = Unbuilt
+-- an array that a formal parameter is by name: it is used, and held against nothing
+abbrev pub named_array : Source → Instances → ℕ → (line : ℕ) → DeclNo → Expressions → Terms → Term
+named_array s m i line d NoMore terms = name_term s m i d NoMore (ForValue None line)
+named_array s m i line d (Then e es) terms = in_instance (home_of s m i d) (λ j. ValueAt (ElementOf line (NamedOf j (Declared d.0) (ForValue None line)) terms))
+
+-- the procedure that a formal parameter is, by name or not
+abbrev pub formal_value : (line : ℕ) → DeclNo → Mode → (instance : ℕ) → Term
+formal_value line d mode.ByName j = NamedOf j (Declared d.0) (ForValue None line)
+formal_value line d mode j = Cell j (Declared d.0)
+
+abbrev pub formal_term : Source → Instances → ℕ → (line : ℕ) → DeclNo → Mode → FormalKind → (leaves : Bool) → Expressions → Terms → Term
+formal_term s m i line d mode.ByName shape.Simple leaves es terms = name_term s m i d es (ForValue (class_of_formal s d) line)
+formal_term s m i line d mode.ByName shape.Array leaves es terms = named_array s m i line d es terms
+formal_term s m i line d mode shape.Simple leaves es terms = variable_term s m i d es
+formal_term s m i line d mode shape.Array leaves es terms = array_term s m i line d es terms
+formal_term s m i line d mode shape.Procedure leaves es terms = in_instance (home_of s m i d) (λ j. CheckedOf (formal_value line d mode j) leaves i es line)
 
 abbrev pub formal_before : Option Formal → List Formal → List Formal
 formal_before None fs = fs
@@ -206,10 +217,10 @@ abbrev pub declared_term : Source → Instances → ℕ → (line : ℕ) → Dec
 declared_term s m i line d (Some (entry.Variable type)) es terms actuals = variable_term s m i d es
 declared_term s m i line d (Some (entry.Constant type)) es terms actuals = constant_term (constant_of s d) es
 declared_term s m i line d (Some (entry.Array element dimensions)) es terms actuals = array_term s m i line d es terms
-declared_term s m i line d (Some (entry.Formal f)) es terms actuals = formal_term s m i line d f.mode f.kind es terms
+declared_term s m i line d (Some (entry.Formal f)) es terms actuals = formal_term s m i line d f.mode f.kind (has_type f.ty) es terms
 declared_term s m i line d (Some (entry.Procedure result block)) es terms actuals = in_instance (home_of s m i d) (λ j. CallOf j block (actuals (formals_at s d)) line)
 -- the object around is the one whose procedure is done
-declared_term s m i line d (Some (entry.Virtual result own)) es terms actuals = in_instance (home_of s m i d) (λ j. VirtualOf (Given (Object j)) d.0 (count_of es) line)
+declared_term s m i line d (Some (entry.Virtual result own)) es terms actuals = in_instance (home_of s m i d) (λ j. CheckedOf (MatchOf (Given (Object j)) d.0 line) (has_type result) i es line)
 declared_term s m i line d _ es terms actuals = Unbuilt
 
 -- Names of both images are done on one of them: `image` is its text, and the others are names of texts.
@@ -229,16 +240,20 @@ named_term s m i line (Some (denotation.Standard name)) es terms actuals = stand
 
 -- ---- variables, whose position the attributes of texts move
 
-abbrev pub is_variable_formal : Mode → FormalKind → Expressions → Bool
-is_variable_formal mode shape.Simple es = true
-is_variable_formal mode.ByName kind es = false
-is_variable_formal mode shape.Array es = true
-is_variable_formal mode shape.Procedure es = false
+abbrev pub has_operands : Expressions → Bool
+has_operands NoMore = false
+has_operands (Then e es) = true
+
+-- an element of an array is a variable, and an array alone is none
+abbrev pub is_variable_formal : FormalKind → Expressions → Bool
+is_variable_formal shape.Simple es = true
+is_variable_formal shape.Array es = has_operands es
+is_variable_formal shape.Procedure es = false
 
 abbrev pub is_variable_entry : Option Entry → Expressions → Bool
 is_variable_entry (Some (entry.Variable type)) es = true
-is_variable_entry (Some (entry.Array element dimensions)) es = true
-is_variable_entry (Some (entry.Formal f)) es = is_variable_formal f.mode f.kind es
+is_variable_entry (Some (entry.Array element dimensions)) es = has_operands es
+is_variable_entry (Some (entry.Formal f)) es = is_variable_formal f.kind es
 is_variable_entry _ es = false
 
 abbrev pub is_image_denoted : Option Denotation → Bool
@@ -286,9 +301,13 @@ abbrev pub array_place : Source → Instances → ℕ → (line : ℕ) → DeclN
 array_place s m i line d NoMore terms = Unbuilt
 array_place s m i line d (Then e es) terms = in_instance (home_of s m i d) (λ j. ElementOf line (Cell j (Declared d.0)) terms)
 
+abbrev pub named_array_place : Source → Instances → ℕ → (line : ℕ) → DeclNo → Expressions → Terms → Term
+named_array_place s m i line d NoMore terms = Unbuilt
+named_array_place s m i line d (Then e es) terms = in_instance (home_of s m i d) (λ j. ElementOf line (NamedOf j (Declared d.0) (ForValue None line)) terms)
+
 abbrev pub formal_place : Source → Instances → ℕ → (line : ℕ) → DeclNo → Mode → FormalKind → Expressions → Terms → Term
 formal_place s m i line d mode.ByName shape.Simple es terms = name_term s m i d es (ForPlace true line)
-formal_place s m i line d mode.ByName kind es terms = Unbuilt
+formal_place s m i line d mode.ByName shape.Array es terms = named_array_place s m i line d es terms
 formal_place s m i line d mode shape.Simple es terms = variable_place s m i d es
 formal_place s m i line d mode shape.Array es terms = array_place s m i line d es terms
 formal_place s m i line d mode shape.Procedure es terms = Unbuilt
@@ -326,16 +345,20 @@ abbrev pub dot_term : Option Denotation → (stream : Option ℕ) → (is_variab
 dot_term (Some (denotation.Standard name)) stream is_variable line variable text terms = behind_dot stream (procedure_named name) is_variable line variable text terms
 dot_term _ stream is_variable line variable text terms = Unbuilt
 
--- An actual parameter: an array and a text by value are copied; one by name is passed as it is. Arrays by name and procedures are not built.
-abbrev pub actual_term : (line : ℕ) → Mode → FormalKind → (text : Bool) → (value actual : Term) → Term
-actual_term line mode.ByValue shape.Array text a e = CopyOf line a
-actual_term line mode.ByReference shape.Array text a e = a
-actual_term line mode.ByValue shape.Simple true a e = StandardOf name_of.Copy (Further a NoTerm) line
-actual_term line mode.ByValue shape.Simple false a e = a
-actual_term line mode.ByReference shape.Simple text a e = a
-actual_term line mode.ByName shape.Simple text a e = e
-actual_term line mode.ByName kind text a e = Unbuilt
-actual_term line mode shape.Procedure text a e = Unbuilt
+-- An actual parameter: an array and a text by value are copied; one by name is passed as it is; a procedure is not called.
+abbrev pub actual_term : (line : ℕ) → Mode → FormalKind → (text : Bool) → (value procedure actual : Term) → Term
+actual_term line mode.ByName kind text a p e = e
+actual_term line mode.ByValue shape.Array text a p e = CopyOf line a
+actual_term line mode.ByReference shape.Array text a p e = a
+actual_term line mode.ByValue shape.Simple true a p e = StandardOf name_of.Copy (Further a NoTerm) line
+actual_term line mode.ByValue shape.Simple false a p e = a
+actual_term line mode.ByReference shape.Simple text a p e = a
+actual_term line mode shape.Procedure text a p e = p
+
+abbrev pub is_procedure_kind : FormalKind → Bool
+is_procedure_kind shape.Procedure = true
+is_procedure_kind shape.Simple = false
+is_procedure_kind shape.Array = false
 
 -- a value is held against the qualification of its formal parameter; by name that is done at each use
 abbrev pub class_passed : Source → Formal → Option ℕ
@@ -355,6 +378,21 @@ abbrev pub home_of_class : Source → Instances → ℕ → Option Denotation �
 home_of_class s m i (Some (denotation.Declared d)) = home_of s m i d
 home_of_class s m i _ = None
 
+-- A procedure as a value. One that is seen without a dot is declared around, or is a formal parameter.
+abbrev pub formal_procedure : Source → Instances → ℕ → (line : ℕ) → DeclNo → Mode → FormalKind → Term
+formal_procedure s m i line d mode shape.Procedure = in_instance (home_of s m i d) (λ j. formal_value line d mode j)
+formal_procedure s m i line d mode kind = Unbuilt
+
+abbrev pub declared_procedure : Source → Instances → ℕ → (line : ℕ) → DeclNo → Option Entry → Term
+declared_procedure s m i line d (Some (entry.Procedure result block)) = in_instance (home_of s m i d) (λ j. ProcedureOf j block)
+declared_procedure s m i line d (Some (entry.Virtual result own)) = in_instance (home_of s m i d) (λ j. MatchOf (Given (Object j)) d.0 line)
+declared_procedure s m i line d (Some (entry.Formal f)) = formal_procedure s m i line d f.mode f.kind
+declared_procedure s m i line d _ = Unbuilt
+
+abbrev pub procedure_denoted : Source → Instances → ℕ → (line : ℕ) → Option Denotation → Term
+procedure_denoted s m i line (Some (denotation.Declared d)) = declared_procedure s m i line d (entry_of s.tables d)
+procedure_denoted s m i line _ = Unbuilt
+
 abbrev mutual
   -- an expression as the instance i sees it
   pub close : Source → Instances → ℕ → Expression → Term
@@ -366,7 +404,7 @@ abbrev mutual
   close s m i (syntax.Dot token a name es) =
       if_any (transfer_at s name.token.0) (λ t. detach_term (line_at s name.token.0) (close s m i a))
       (if_any (declared_attribute (denoted s name.token.0))
-      (attribute s (line_at s name.token.0) (close s m i a) es (close_all s m i es) (λ d. close_actuals s m i (line_at s name.token.0) es (formals_at s d)))
+      (attribute s i (line_at s name.token.0) (close s m i a) es (close_all s m i es) (λ d. close_actuals s m i (line_at s name.token.0) es (formals_at s d)))
       (dot_term (denoted s name.token.0) (stream_of s a) (is_variable s a || is_attribute s a) (line_at s name.token.0) (close_place s m i a) (close s m i a) (close_all s m i es)))
   close s m i (syntax.Qua token a class) = qua_term (class_at s class.token.0) (line_at s token) (close s m i a)
   close s m i (syntax.Constant literal token) = literal_term s token literal
@@ -374,15 +412,15 @@ abbrev mutual
       if_any (transfer_at s name.token.0) (λ t. transfer_term t (line_at s name.token.0) (this_term s m i (found_at s name.token.0)) (close_all s m i es))
       (if_any (connection_at s name.token.0)
       (λ k. if_any (declared_attribute (denoted s name.token.0))
-      (attribute s (line_at s name.token.0) (connected_object s m i k) es (close_all s m i es) (λ d. close_actuals s m i (line_at s name.token.0) es (formals_at s d)))
+      (attribute s i (line_at s name.token.0) (connected_object s m i k) es (close_all s m i es) (λ d. close_actuals s m i (line_at s name.token.0) es (formals_at s d)))
       Unbuilt)
       (if_any (own_attribute s name.token.0)
       (λ d. own_term s (entry_of s.tables d) (block_found s m i (found_at s name.token.0)) (close_actuals s m i (line_at s name.token.0) es (formals_at s d)) (line_at s name.token.0)
-      (attribute s (line_at s name.token.0) (this_term s m i (found_at s name.token.0)) es (close_all s m i es) (λ d. close_actuals s m i (line_at s name.token.0) es (formals_at s d)) d))
+      (attribute s i (line_at s name.token.0) (this_term s m i (found_at s name.token.0)) es (close_all s m i es) (λ d. close_actuals s m i (line_at s name.token.0) es (formals_at s d)) d))
       (named_term s m i (line_at s name.token.0) (denoted s name.token.0) es (close_all s m i es) (λ formals. close_actuals s m i (line_at s name.token.0) es formals))))
   close s m i (syntax.This token class) = this_term s m i (found_at s token)
   close s m i (syntax.New token class es) =
-      generation (home_of_class s m i (denoted s class.token.0)) (class_made s (class_at s class.token.0))
+      generation s class.token.0 (home_of_class s m i (denoted s class.token.0)) (class_at s class.token.0)
       (with_arrays_kept (class_parameters s (class_at s class.token.0)) (close_actuals s m i (line_at s class.token.0) es (class_parameters s (class_at s class.token.0)))) (line_at s token)
   close s m i (syntax.Parentheses token a) = close s m i a
 
@@ -396,6 +434,16 @@ abbrev mutual
       image_place (stream_of s a) (if_any (declared_attribute (denoted s name.token.0)) (place_of_attribute s (line_at s name.token.0) (close s m i a) es (close_all s m i es)) Unbuilt)
   close_place s m i _ = Unbuilt
 
+  -- a procedure that stands alone
+  pub close_procedure : Source → Instances → ℕ → Expression → Term
+  close_procedure s m i (syntax.Named name NoMore) =
+      if_any (connection_at s name.token.0)
+      (λ k. if_any (declared_attribute (denoted s name.token.0)) (attribute_procedure s (line_at s name.token.0) (connected_object s m i k)) Unbuilt)
+      (procedure_denoted s m i (line_at s name.token.0) (denoted s name.token.0))
+  close_procedure s m i (syntax.Dot token a name NoMore) =
+      if_any (declared_attribute (denoted s name.token.0)) (attribute_procedure s (line_at s name.token.0) (close s m i a)) Unbuilt
+  close_procedure s m i _ = Unbuilt
+
   pub close_all : Source → Instances → ℕ → Expressions → Terms
   close_all s m i NoMore = NoTerm
   close_all s m i (Then e es) = Further (close s m i e) (close_all s m i es)
@@ -406,7 +454,7 @@ abbrev mutual
   close_actuals s m i line NoMore (f ∷ fs) = Further Unbuilt NoTerm
   close_actuals s m i line (Then e es) [] = Further Unbuilt NoTerm
   close_actuals s m i line (Then e es) (f ∷ fs) =
-      Further (fitting (class_passed s f) line (actual_term line f.mode f.kind (is_text_type f.ty) (close s m i e) (ActualOf i e))) (close_actuals s m i line es fs)
+      Further (fitting (class_passed s f) line (actual_term line f.mode f.kind (is_text_type f.ty) (close s m i e) (close_procedure s m i e) (ActualOf i (is_procedure_kind f.kind) e))) (close_actuals s m i line es fs)
 
 -- the actual parameters of a block prefix, whose class has these formal parameters
 abbrev pub close_parameters : Source → Instances → ℕ → (line : ℕ) → Expressions → List Formal → Terms
@@ -449,6 +497,11 @@ close_actual_by false s m i e = close s m i e
 abbrev pub close_actual : Source → Instances → ℕ → Expression → Term
 close_actual s m i e = close_actual_by (is_placed s e) s m i e
 
+-- an actual parameter that is passed as a procedure gives that, and is not called
+abbrev pub close_passed : (as_procedure : Bool) → Source → Instances → ℕ → Expression → Term
+close_passed true s m i e = close_procedure s m i e
+close_passed false s m i e = close_actual s m i e
+
 -- ---- left sides
 
 -- a left side: a cell, or the tree of an address, or that of a text which a text is assigned to, or the address of a reference
@@ -472,13 +525,18 @@ abbrev pub array_left : Source → Instances → ℕ → (line : ℕ) → DeclNo
 array_left s m i line d NoMore = LeftUnbuilt
 array_left s m i line d (Then e es) = left_in (home_of s m i d) (λ j. LeftAddress (ElementOf line (Cell j (Declared d.0)) (close_all s m i (Then e es))))
 
+abbrev pub named_array_left : Source → Instances → ℕ → (line : ℕ) → DeclNo → Expressions → Left
+named_array_left s m i line d NoMore = LeftUnbuilt
+named_array_left s m i line d (Then e es) = LeftAddress (named_array_place s m i line d (Then e es) (close_all s m i (Then e es)))
+
 -- the result of a procedure lies in its own instance
 abbrev pub result_left : Source → Instances → ℕ → (block : ℕ) → Expressions → Left
 result_left s m i block NoMore = left_in (at_level m (level_of s block) i) (λ j. LeftCell j Result)
 result_left s m i block (Then e es) = LeftUnbuilt
 
 abbrev pub formal_left : Source → Instances → ℕ → (line : ℕ) → DeclNo → Mode → FormalKind → Expressions → Left
-formal_left s m i line d mode.ByName kind es = LeftUnbuilt
+formal_left s m i line d mode.ByName shape.Simple es = LeftUnbuilt
+formal_left s m i line d mode.ByName shape.Array es = named_array_left s m i line d es
 formal_left s m i line d mode shape.Simple es = variable_left s m i d es
 formal_left s m i line d mode shape.Array es = array_left s m i line d es
 formal_left s m i line d mode shape.Procedure es = LeftUnbuilt
@@ -610,10 +668,3 @@ close_left_of false assignment.Reference s m i line e = reference_left s m i lin
 -- a left side, with the line of its sign
 abbrev pub close_left : Source → Instances → ℕ → Assignment → (line : ℕ) → Expression → Left
 close_left s m i sign line e = close_left_of (is_text s e) sign s m i line e
-
--- ---- values of calls
-
--- whether an expression that stands as a statement leaves a value
-abbrev pub has_type : Option SimType → Bool
-has_type None = false
-has_type (Some type) = true

@@ -10,6 +10,7 @@ use Rattle.sim_scope.specs.declared.types.FormalKind.{FormalKind}
 use Rattle.sim_scope.specs.declared.types.FormalKind.TheVariants as shape
 use Rattle.sim_scope.specs.declared.types.Mode.{Mode}
 use Rattle.sim_scope.specs.declared.types.Mode.TheVariants as mode
+use Rattle.sim_scope.specs.declared.types.SimType.{SimType}
 use Rattle.sim_scope.specs.Scopes.{entry_of}
 use Rattle.sim_scope.specs.Source.{Source, level_of, line_at}
 use Rattle.sim_scope.specs.Tables.{BlockOf}
@@ -33,13 +34,19 @@ of_kind kind = Some (Of (initial kind))
 abbrev pub cell_before : DeclNo → Option Val → List Held → List Held
 cell_before d v hs = record { key = Declared d.0; value = v } ∷ hs
 
--- The cell of a declaration, if it has one: a variable has the value of its kind, an array and a formal none yet. A constant is seen as its
--- value, and its cell is never looked at.
+-- A formal parameter that is no name, array or procedure starts with the value of its kind, and gets another one at once.
+abbrev pub of_formal : Mode → FormalKind → Option SimType → Option Val
+of_formal mode.ByName kind type = None
+of_formal mode shape.Simple (Some type) = of_kind (kind_of_type type)
+of_formal mode kind type = None
+
+-- The cell of a declaration, if it has one: a variable has the value of its kind, an array none yet. A constant is seen as its value, and its cell
+-- is never looked at.
 abbrev pub with_cell : DeclNo → Option Entry → List Held → List Held
 with_cell d (Some (entry.Variable type)) hs = cell_before d (of_kind (kind_of_type type)) hs
 with_cell d (Some (entry.Constant type)) hs = cell_before d None hs
 with_cell d (Some (entry.Array element dimensions)) hs = cell_before d None hs
-with_cell d (Some (entry.Formal f)) hs = cell_before d None hs
+with_cell d (Some (entry.Formal f)) hs = cell_before d (of_formal f.mode f.kind f.ty) hs
 with_cell d _ hs = hs
 
 abbrev pub cells_from : Source → List DeclNo → List Held

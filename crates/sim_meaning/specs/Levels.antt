@@ -1,6 +1,6 @@
 -- Classes and their levels. A class has the attributes and the statements of its prefix, of the prefix of that, and so on: these are its
 -- levels, the outermost prefix first and the class itself last. So has a prefixed block. An object is in each of the levels of its class.
-use Rattle.std.specs.Prelude.{ℕ, zero, suc, ◌+◌, ◌-◌, Bool, true, false, not, ◌==◌, if◌then◌else◌, List, [], ◌∷◌, ◌++◌, length, is_some, slice_get, Option, Some, None}
+use Rattle.std.specs.Prelude.{ℕ, zero, suc, ◌+◌, ◌-◌, Bool, true, false, not, ◌==◌, if◌then◌else◌, ℤ, pos, negsuc, List, [], ◌∷◌, ◌++◌, length, is_some, slice_get, Option, Some, None}
 use Rattle.std.specs.List.{list_any}
 use Rattle.sim_scope.specs.declared.scopes.Denotation.{Denotation}
 use Rattle.sim_scope.specs.declared.scopes.Denotation.TheVariants as denotation
@@ -18,8 +18,8 @@ use Rattle.sim_tree.specs.Syntax.{NoDeclaration, NoStatement}
 use Rattle.simset.specs.Sets.{Linkage}
 use Rattle.sim_code.specs.Instances.{Instance}
 use Rattle.sim_code.specs.Sets.{linkage_by}
-use Rattle.sim_values.specs.Plain.{MainOf, Object, Plain}
-use Rattle.sim_meaning.specs.Pending.{Held, Instances, Level}
+use Rattle.sim_values.specs.Plain.{Integer, MainOf, Object, Plain}
+use Rattle.sim_meaning.specs.Pending.{Held, Instances, Level, Of, Origin, Val, cell}
 use Rattle.sim_meaning.specs.Texts.{ClassText, PrefixedText, StandardText, Text, text}
 
 -- ---- the levels of a text, by their numbers
@@ -231,14 +231,40 @@ linkage_of_text s k = linkage_by (has_standard_class s is_head_class k) (has_sta
 unfoldable pub is_process_text : Source → (text : ℕ) → Bool
 is_process_text s k = has_standard_class s is_process_class k
 
+-- whether a text is the class `process` itself
+unfoldable pub is_process_itself : Source → (text : ℕ) → Bool
+is_process_itself s k = is_standard_text is_process_class (text s k)
+
 abbrev pub end_in : Option BlockOf → ℕ
 end_in None = 0
 end_in (Some b) = b.end
 
--- A process comes to its end at the last token of its own class.
-abbrev pub end_line_of : Source → Option ℕ → ℕ
-end_line_of s None = 0
-end_line_of s (Some k) = line_at s (end_in (slice_get s.tables.blocks k) - 1)
+-- the line of the last token of a class
+abbrev pub last_line : Source → (class : ℕ) → ℕ
+last_line s k = line_at s (end_in (slice_get s.tables.blocks k) - 1)
 
-abbrev pub end_line : Source → Instances → (process : ℕ) → ℕ
-end_line s m i = end_line_of s (text_at m i)
+-- An object of `process` itself keeps the token of that class behind the `new` that made it, before control can come to its end. Its line is that of
+-- the `new`.
+abbrev pub line_before : (is_origin : Bool) → Source → (token : ℕ) → ℕ
+line_before true s token = line_at s (token - 1)
+line_before false s token = line_at s 0
+
+abbrev pub origin_line : Source → (class : ℕ) → ℤ → ℕ
+origin_line s k (pos token) = line_before (text_is k (class_at s token)) s token
+origin_line s k (negsuc n) = line_at s 0
+
+abbrev pub line_of_origin : Source → (class : ℕ) → Option Val → Option ℕ
+line_of_origin s k (Some (Of (Integer z))) = Some (origin_line s k z)
+line_of_origin s k _ = None
+
+-- Any other process comes to its end at the last token of its own class.
+abbrev pub end_line_if : (is_process_itself : Bool) → Source → (class : ℕ) → (origin : Option Val) → Option ℕ
+end_line_if false s k origin = Some (last_line s k)
+end_line_if true s k origin = line_of_origin s k origin
+
+abbrev pub end_line_of : Source → (text : Option ℕ) → (origin : Option Val) → Option ℕ
+end_line_of s None origin = None
+end_line_of s (Some k) origin = end_line_if (is_process_itself s k) s k origin
+
+abbrev pub end_line : Source → Instances → (process : ℕ) → Option ℕ
+end_line s m i = end_line_of s (text_at m i) (cell m i Origin)

@@ -6,6 +6,7 @@ pub mod Levels
 pub mod Virtuals
 pub mod Attributes
 pub mod Closing
+pub mod Checks
 pub mod Steps
 pub mod Statements
 pub mod Entries
@@ -21,3 +22,4 @@ pub mod SetExamples
 pub mod SimulationExamples
 pub mod VirtualExamples
 pub mod NameExamples
+pub mod FormalExamples

@@ -1,9 +1,12 @@
 -- What a program does, step by step: one step is one event of the operating instance.
-use Rattle.std.specs.Prelude.{ℕ, ◌*◌, ◌==◌, Bool, true, false, if◌then◌else◌, List, [], ◌∷◌, length, slice_get, Option, Some, None}
+use Rattle.std.specs.Prelude.{ℕ, ◌*◌, ◌==◌, Bool, true, false, not, ◌&&◌, if◌then◌else◌, List, [], ◌∷◌, length, slice_get, Option, Some, None}
 use Rattle.sim_base.specs.declared.limits.Limits.{Limits}
+use Rattle.sim_scope.specs.declared.types.Formal.{Formal}
+use Rattle.sim_scope.specs.declared.types.Mode.{Mode}
+use Rattle.sim_scope.specs.declared.types.Mode.TheVariants as mode
 use Rattle.sim_scope.specs.Source.{Source, line_at}
 use Rattle.sim_tree.specs.declared.stmt.TypeName.{TypeName}
-use Rattle.sim_tree.specs.Syntax.{Declarations, Statements}
+use Rattle.sim_tree.specs.Syntax.{Declarations, Expression, Expressions, Statements}
 use Rattle.sim_values.specs.Plain.{Object}
 use Rattle.sim_code.specs.Outcome.{Going, Normal, Run, World, after, first_world}
 use Rattle.sim_code.specs.Events.{applying_one, applying_two, choosing, entering, having, joining, no_rule, performing, pop_integers, pop_many, pop_object, pop_truth, popping, qualifying, stopping, testing_step, ticking, when}
@@ -11,16 +14,19 @@ use Rattle.sim_code.specs.Arrays.{giving_back, handed_over, making_array, pairs}
 use Rattle.sim_code.specs.Instances.{Instance, given, is_given_at_end, is_live, no_instances, object_ended}
 use Rattle.sim_code.specs.Sets.{performing_set}
 use Rattle.sim_code.specs.Thunks.{locating}
+use Rattle.sim_code.specs.Formals.{copying_value, each, suiting}
 use Rattle.sim_code.specs.Virtuals.{counting, matching}
-use Rattle.sim_meaning.specs.Pending.{Activation, ActivateOp, Address, AgainOp, ArrayOp, ArrayValue, AttributeOp, BackOp, BlockOp, BranchOp, CallOp, CallValueOp, CheckOp, ChooseOp, CloseOp, Configuration, ConnectOp, CopyOp, DeclareOp, Do, DropOp, ElementOp, ElementsOp, EndBlock, EndEvaluation, EndLevel, EndObject, EndPrefixed, EndProcedure, EndProcessOp, EndProgram, EnterOp, Eval, Exec, Execs, FetchOp, FitsOp, ForPlace, ForValue, GiveOp, Held, IfOp, InnerOp, Instances, Item, JoinOp, KeepOp, Key, LevelOp, Link, MemberOp, NamedOp, NewOp, NotNoneOp, ObjectOp, Of, OneOp, Op, PastOp, PrefixedOp, ProcedureValue, ProcessOp, QuaOp, QualifiedElementOp, RaiseOp, ReferOp, Result, SelfOp, SetOp, SimulationOp, ShareOp, StandardOp, StepOp, StepTestOp, StoreOp, SwapOp, TestOp, TransferOp, TwoOp, Use, Val, VirtualOp, WhenOp, WhileElementOp, actual_in, cell, instance_in, owner, plain, procedure_in}
+use Rattle.sim_meaning.specs.Pending.{Activation, ActivateOp, Actual, Address, AgainOp, ArrayOp, ArrayValue, AttributeOp, BackOp, BlockOp, BranchOp, CallOp, CallValueOp, CheckOp, ChooseOp, CloseOp, Configuration, ConnectOp, CopyOp, DeclareOp, Do, DropOp, ElementOp, ElementsOp, EndBlock, EndEvaluation, EndLevel, EndObject, EndPrefixed, EndProcedure, EndProcessOp, EndProgram, EnterOp, Eval, Exec, Execs, FetchOp, FitsOp, ForParameter, ForPlace, ForValue, GiveOp, Held, IfOp, InnerOp, Instances, Item, JoinOp, KeepOp, Key, LevelOp, Link, MemberOp, NamedOp, NewOp, NotNoneOp, ObjectOp, Of, OneOp, Op, OriginOp, ParameterOp, PastOp, PrefixedOp, ProcedureOp, ProcedureValue, ProcessOp, QuaOp, QualifiedElementOp, RaiseOp, ReferOp, Result, SelfOp, SetOp, SimulationOp, ShareOp, StandardOp, StepOp, StepTestOp, StoreOp, SwapOp, TestOp, TransferOp, TwoOp, Use, Val, VirtualOp, WhenOp, WhileElementOp, actual_in, array_in, cell, instance_in, owner, plain, procedure_in}
 use Rattle.sim_meaning.specs.Constants.{constants_of}
 use Rattle.sim_meaning.specs.Texts.{BlockText, PrefixedText, ProcedureText, Text, text}
 use Rattle.sim_meaning.specs.Levels.{levels, stands_in}
-use Rattle.sim_meaning.specs.Closing.{close, close_actual}
+use Rattle.sim_meaning.specs.Attributes.{parameter_qualification}
+use Rattle.sim_meaning.specs.Closing.{close, close_passed, is_procedure_kind}
+use Rattle.sim_meaning.specs.Checks.{agrees, all_fit, all_passed, copied_for, fits, passed}
 use Rattle.sim_meaning.specs.Virtuals.{match_at}
-use Rattle.sim_meaning.specs.Steps.{copied, element_found, eval, fetched, given_to, go, operand, put_back, stored, value_at, with_value}
+use Rattle.sim_meaning.specs.Steps.{copied, count_of, element_found, eval, fetched, given_to, go, operand, put_back, stored, value_at, with_value}
 use Rattle.sim_meaning.specs.Statements.{elements, exec, execs, first_branch, raised, step_tested, while_element}
-use Rattle.sim_meaning.specs.Objects.{activation_done, attribute_found, block_begun, cells_of_levels, fitted, generated, inner_done, kept, member_tested, levels_work, not_none, object_found, prefix_done, process_ended, process_told, qua_tested, qualified_element_found, referred, simulation_done, transfer_done}
+use Rattle.sim_meaning.specs.Objects.{activation_done, attribute_found, block_begun, cells_of_levels, fitted, generated, inner_done, kept, member_tested, levels_work, not_none, object_found, origin_kept, prefix_done, process_ended, process_told, qua_tested, qualified_element_found, referred, simulation_done, transfer_done}
 use Rattle.sim_meaning.specs.Connections.{inspected, inspected_when}
 use Rattle.sim_meaning.specs.Entries.{arrays_by_value, arrays_declared, filled_behind, first_cells, formals_of, in_instance, instances_kept, words_of_cells}
 
@@ -60,24 +66,72 @@ called s l o m i w vals rest k n line =
 abbrev pub match_taken : Source → World → Instances → ℕ → List Item → List Val → List Activation → (virtual line : ℕ) → Run Configuration
 match_taken s o m i w vals rest v line = pop_object plain line vals o (λ j vals. matching line (match_at s m v j) o (λ k. go o m i w (ProcedureValue k j ∷ vals) rest))
 
--- E10, before any actual parameter is evaluated. Matches with parameters are not built.
-abbrev pub number_checked : Source → World → Instances → ℕ → List Item → List Val → List Activation → (actuals line : ℕ) → Run Configuration
-number_checked s o m i w vals rest n line =
-    popping vals o (λ v more. having (procedure_in v) o (λ q. counting line (length (formals_of s q.0)) n o (when (n == 0) o (go o m i w vals rest))))
+-- the instance in hand, or the object, with a procedure that is declared there
+abbrev pub procedure_found : World → Instances → ℕ → List Item → List Val → List Activation → (text : ℕ) → Run Configuration
+procedure_found o m i w vals rest k = popping vals o (λ v vals. having (instance_in v) o (λ j. go o m i w (ProcedureValue k j ∷ vals) rest))
 
--- the procedure in hand, which has no parameters
-abbrev pub value_called : Source → Limits → World → Instances → ℕ → List Item → List Val → List Activation → (line : ℕ) → Run Configuration
-value_called s l o m i w vals rest line =
-    popping vals o (λ v vals. having (procedure_in v) o (λ q. when (is_live m q.1) o (
-    procedure_entered s l o m i w vals rest q.0 line [] q.1 (text s q.0))))
+-- ---- calls that are checked
+
+-- E10, and then E11 from left to right, before any actual parameter is evaluated
+abbrev pub call_checked : Source → World → Instances → ℕ → List Item → List Val → List Activation → Expressions → (line : ℕ) → Run Configuration
+call_checked s o m i w vals rest es line =
+    popping vals o (λ v more. having (procedure_in v) o (λ q. counting line (length (formals_of s q.0)) (count_of es) o (
+    suiting line (all_fit s (formals_of s q.0) (all_passed s es)) o (
+    having (each (agrees s m q.1 i) (formals_of s q.0) (all_passed s es)) o (λ agree. suiting line agree o (go o m i w vals rest))))))
+
+-- the formal parameter of a number, of the procedure in hand that lies below as many values
+abbrev pub procedure_at : Option Val → Option (ℕ × ℕ)
+procedure_at None = None
+procedure_at (Some v) = procedure_in v
+
+abbrev pub formal_in : Source → (number : ℕ) → Option (ℕ × ℕ) → Option Formal
+formal_in s n None = None
+formal_in s n (Some q) = slice_get (formals_of s q.0) n
+
+unfoldable pub formal_in_hand : Source → (number : ℕ) → List Val → Option Formal
+formal_in_hand s n vals = formal_in s n (procedure_at (slice_get vals n))
+
+abbrev pub is_by_name : Mode → Bool
+is_by_name mode.ByName = true
+is_by_name mode.ByValue = false
+is_by_name mode.ByReference = false
+
+-- An actual parameter is evaluated for the instance in which it stands, and is closed there and not before.
+abbrev pub evaluating : World → Instances → (home : ℕ) → (as_procedure : Bool) → Expression → Use → List Activation → Run Configuration
+evaluating o m home p e wanted rest = go o m home (Do (CloseOp p e) ∷ EndEvaluation wanted ∷ []) [] rest
+
+-- An actual parameter fits the formal one, as it does behind the check. One that is passed by name is a value as it stands; any other is evaluated,
+-- and what that gives is passed.
+abbrev pub parameter_begun : Source → World → Instances → ℕ → List Item → List Val → List Activation → (number : ℕ) → Expression → (line : ℕ) → Run Configuration
+parameter_begun s o m i w vals rest n e line =
+    having (formal_in_hand s n vals) o (λ f. when (fits s f (passed s e)) o (choosing (is_by_name f.mode)
+    (go o m i w (Actual i (is_procedure_kind f.kind) e ∷ vals) rest)
+    (evaluating o m i (is_procedure_kind f.kind) e (ForParameter n line) (record { instance = i; work = w; values = vals } ∷ rest))))
+
+-- The procedure in hand is called with the values above it: as many as it has formal parameters; and it leaves a value just where its call does.
+abbrev pub leaves_value : Option Text → Bool
+leaves_value (Some (ProcedureText result h a)) = has_result result
+leaves_value _ = false
+
+abbrev pub are_alike : Bool → Bool → Bool
+are_alike true b = b
+are_alike false b = not b
+
+abbrev pub is_called_so : Source → (text actuals : ℕ) → (leaves : Bool) → Bool
+is_called_so s k n leaves = (length (formals_of s k) == n) && are_alike leaves (leaves_value (text s k))
+
+abbrev pub value_called : Source → Limits → World → Instances → ℕ → List Item → List Val → List Activation → (actuals : ℕ) → (leaves : Bool) → (line : ℕ) → Run Configuration
+value_called s l o m i w vals rest n leaves line =
+    pop_many n [] vals o (λ values vals. popping vals o (λ v vals. having (procedure_in v) o (λ q. when (is_live m q.1) o (when (is_called_so s q.0 n leaves) o (
+    procedure_entered s l o m i w vals rest q.0 line values q.1 (text s q.0))))))
 
 -- ---- parameters by name
 
--- A use takes its tick, and then the actual is evaluated for the instance in which it stands. It is closed there, and not before.
+-- A use takes its tick, and then the actual is evaluated.
 abbrev pub name_used : Limits → World → Instances → ℕ → List Item → List Val → List Activation → (instance : ℕ) → Key → Use → Run Configuration
 name_used l o m i w vals rest j key wanted =
-    having (cell m j key) o (λ v. having (actual_in v) o (λ a. ticking l o (λ p. when (is_live m a.0) p (
-    go p m a.0 (Do (CloseOp a.1) ∷ EndEvaluation wanted ∷ []) [] (record { instance = i; work = w; values = vals } ∷ rest)))))
+    having (cell m j key) o (λ v. having (actual_in v) o (λ a. when (is_live m a.home) o (ticking l o (λ p.
+    evaluating p m a.home a.as_procedure a.expression wanted (record { instance = i; work = w; values = vals } ∷ rest)))))
 
 -- the value that an actual gave: itself, or what is where it lies
 abbrev pub value_given : World → Instances → Val → Option Val
@@ -93,11 +147,18 @@ abbrev pub admitted : Source → Instances → (class : Option ℕ) → (line : 
 admitted s m None line v o r = r
 admitted s m (Some k) line v o r = having (plain v) o (λ p. qualifying line (stands_in s m k) p o r)
 
--- what an evaluation gave goes to the activation below, which asked for its value or for where it lies
-abbrev pub evaluated : Source → World → Instances → List Activation → Use → Val → Run Configuration
-evaluated s o m [] wanted v = no_rule o
-evaluated s o m (a ∷ rest) (ForValue class line) v = having (value_given o m v) o (λ v. admitted s m class line v o (go o m a.instance a.work (v ∷ a.values) rest))
-evaluated s o m (a ∷ rest) (ForPlace value_too line) v = locating line (is_place v) value_too o (go o m a.instance a.work (v ∷ a.values) rest)
+-- a value is passed: E7 where it is a reference that is not in the class of the formal parameter; a copy where that asks for it
+abbrev pub passing : Source → Limits → Instances → (owner : ℕ) → Formal → (line : ℕ) → Val → World → (Val → World → Run Configuration) → Run Configuration
+passing s l m owner f line v o go = admitted s m (parameter_qualification s f.kind f.ty) line v o (copying_value Of plain ArrayValue array_in l line owner (copied_for f) v o go)
+
+-- What an evaluation gave goes to the activation below, which asked for its value, or for where it lies, or for what is passed for a formal parameter.
+abbrev pub evaluated : Source → Limits → World → Instances → List Activation → Use → Val → Run Configuration
+evaluated s l o m [] wanted v = no_rule o
+evaluated s l o m (a ∷ rest) (ForValue class line) v = having (value_given o m v) o (λ v. admitted s m class line v o (go o m a.instance a.work (v ∷ a.values) rest))
+evaluated s l o m (a ∷ rest) (ForPlace value_too line) v = locating line (is_place v) value_too o (go o m a.instance a.work (v ∷ a.values) rest)
+evaluated s l o m (a ∷ rest) (ForParameter n line) v =
+    having (formal_in_hand s n a.values) o (λ f. having (value_given o m v) o (λ v.
+    passing s l m a.instance f line v o (λ v p. go p m a.instance a.work (v ∷ a.values) rest)))
 
 -- ---- ends
 
@@ -156,10 +217,13 @@ do_op s l o m i w vals rest (TransferOp t line) = transfer_done o m i w vals res
 do_op s l o m i w vals rest (ProcessOp name line) = process_told o m i w vals rest name line
 do_op s l o m i w vals rest (SimulationOp name line) = simulation_done s o m i w vals rest name line
 do_op s l o m i w vals rest (VirtualOp v line) = match_taken s o m i w vals rest v line
-do_op s l o m i w vals rest (CheckOp n line) = number_checked s o m i w vals rest n line
-do_op s l o m i w vals rest (CallValueOp line) = value_called s l o m i w vals rest line
+do_op s l o m i w vals rest (OriginOp k token line) = origin_kept s o m i w vals rest k token line
+do_op s l o m i w vals rest (ProcedureOp k) = procedure_found o m i w vals rest k
+do_op s l o m i w vals rest (CheckOp es line) = call_checked s o m i w vals rest es line
+do_op s l o m i w vals rest (ParameterOp n e line) = parameter_begun s o m i w vals rest n e line
+do_op s l o m i w vals rest (CallValueOp n leaves line) = value_called s l o m i w vals rest n leaves line
 do_op s l o m i w vals rest (NamedOp j key wanted) = name_used l o m i w vals rest j key wanted
-do_op s l o m i w vals rest (CloseOp e) = go o m i (Do (Eval (close_actual s m i e)) ∷ w) vals rest
+do_op s l o m i w vals rest (CloseOp p e) = go o m i (Do (Eval (close_passed p s m i e)) ∷ w) vals rest
 do_op s l o m i w vals rest (SetOp name) = performing_set plain name vals o (λ p value vals. go p m i w (with_value value vals) rest)
 -- values in hand, and assignments
 do_op s l o m i w vals rest DropOp = popping vals o (λ v vals. go o m i w vals rest)
@@ -205,7 +269,7 @@ do_item s l o m i w vals rest (EndLevel k) = go o m i w vals rest
 -- each object that ends takes its tick
 do_item s l o m i w vals rest EndObject = ticking l o (λ p. object_ended owner p m i rest)
 do_item s l o m i w vals rest EndPrefixed = leaving s rest None i o m
-do_item s l o m i w vals rest (EndEvaluation wanted) = popping vals o (λ v vals. evaluated s o m rest wanted v)
+do_item s l o m i w vals rest (EndEvaluation wanted) = popping vals o (λ v vals. evaluated s l o m rest wanted v)
 do_item s l o m i w vals rest EndProgram = stopping Normal o
 
 abbrev pub do_work : Source → Limits → World → Instances → ℕ → List Val → List Activation → List Item → Run Configuration

@@ -1,6 +1,6 @@
 -- Objects: how they are generated, how their attributes are found, how references are held against classes, and how objects end. And
 -- prefixed blocks, which are entered in the same way.
-use Rattle.std.specs.Prelude.{ℕ, Bool, true, false, List, [], ◌∷◌, ◌++◌, length, Option, Some, None, Result, Ok}
+use Rattle.std.specs.Prelude.{ℕ, Bool, true, false, if◌then◌else◌, pos, List, [], ◌∷◌, ◌++◌, length, Option, Some, None, Result, Ok}
 use Rattle.sim_base.specs.declared.limits.Limits.{Limits}
 use Rattle.sim_base.specs.declared.numbering.DeclNo.{DeclNo}
 use Rattle.sim_base.specs.declared.run_error.RunError.{RunError}
@@ -13,7 +13,7 @@ use Rattle.sim_scope.specs.Scopes.{class_formals, entry_of}
 use Rattle.sim_scope.specs.Source.{Source}
 use Rattle.sim_tree.specs.declared.expr.Membership.{Membership}
 use Rattle.sim_values.specs.declared.standard.Standard.{Standard}
-use Rattle.sim_values.specs.Plain.{MainOf, Nothing, Object, Plain, Truth}
+use Rattle.sim_values.specs.Plain.{Integer, MainOf, Nothing, Object, Plain, Truth}
 use Rattle.sim_values.specs.Words.{instance_words}
 use Rattle.sim_code.specs.Outcome.{Going, Run, Simulation, World}
 use Rattle.sim_code.specs.Events.{entering, having, no_rule, pop_many, pop_object, pop_plain, pop_reference, popping, qualifying, when}
@@ -24,7 +24,7 @@ use Rattle.sim_code.specs.Scheduling.{Timing, deciding, performing_activation, p
 use Rattle.sim_code.specs.Sets.{enrolled}
 use Rattle.sim_code.specs.Transfers.{Detaching, Transfer, transferring}
 use Rattle.sim_meaning.specs.Levels.{belongs, end_line, has_procedure, in_process, is_in, is_process_text, is_simulation_text, levels, linkage_of_text, main_belongs, stands_in}
-use Rattle.sim_meaning.specs.Pending.{Activation, Address, ArrayValue, Configuration, Declared, DeclareOp, Do, EndLevel, EndProcessOp, EndObject, EndPrefixed, Execs, Held, InnerOp, Instances, Item, Key, Level, LevelOp, Link, Of, SelfOp, TransferOp, Val, array_in, cell_set, held_set, instance_in, owner, place_in, plain}
+use Rattle.sim_meaning.specs.Pending.{Activation, Address, ArrayValue, Configuration, Declared, DeclareOp, Do, EndLevel, EndProcessOp, EndObject, EndPrefixed, Execs, Held, InnerOp, Instances, Item, Key, Level, LevelOp, Link, Of, Origin, SelfOp, TransferOp, Val, array_in, cell_set, held_set, instance_in, owner, place_in, plain}
 use Rattle.sim_meaning.specs.Texts.{constant_of}
 use Rattle.sim_meaning.specs.Steps.{go}
 use Rattle.sim_meaning.specs.Entries.{arrays_among, cell_before, in_instance, new_instance, numbers_of, with_cell, words_of_cells}
@@ -35,6 +35,12 @@ use Rattle.sim_meaning.specs.Entries.{arrays_among, cell_before, in_instance, ne
 abbrev pub attribute_found : Source → World → Instances → ℕ → List Item → List Val → List Activation → (text : ℕ) → Key → (class : Option ℕ) → (line : ℕ) → Run Configuration
 attribute_found s o m i w vals rest k key class line =
     pop_object plain line vals o (λ j vals. when (is_in s m k j) o (go o m i w (Address (CellPlace j key class) ∷ vals) rest))
+
+-- the object of `process` itself in hand keeps a token
+abbrev pub origin_kept : Source → World → Instances → ℕ → List Item → List Val → List Activation → (text token line : ℕ) → Run Configuration
+origin_kept s o m i w vals rest k token line =
+    pop_object plain line vals o (λ j vals. when (is_in s m k j) o (having (cell_set m j Origin (Of (Integer (pos token)))) o (λ m.
+    go o m i w (Of (Object j) ∷ vals) rest)))
 
 -- the object in hand, as the instance in which a procedure is declared that it has
 abbrev pub object_found : Source → World → Instances → ℕ → List Item → List Val → List Activation → (text line : ℕ) → Run Configuration
@@ -109,8 +115,8 @@ process_told o m i w vals rest name line = performing_process plain (encloser_of
 -- a process that comes to its end is terminated, and passivates; what is behind is for the case that it gets or keeps control
 abbrev pub process_ended : Source → World → Instances → ℕ → List Item → List Val → List Activation → Run Configuration
 process_ended s o m i w vals rest =
-    having (encloser_of m i) o (λ b. having (located o.simulations b) o (λ x.
-    decided m i w rest (end_line s m i) o (x.0, with_ended i x.1) (Ok (passivated x.1.notices)) vals))
+    having (encloser_of m i) o (λ b. having (located o.simulations b) o (λ x. having (end_line s m i) o (λ line.
+    decided m i w rest line o (x.0, with_ended i x.1) (Ok (passivated x.1.notices)) vals)))
 
 -- ---- the work of an instance with levels
 
@@ -189,6 +195,11 @@ abbrev pub in_object : Source → World → Instances → (text encloser : ℕ) 
 in_object s o m k encloser cells xs rest =
     Going o (record { chain = record { instance = length m.instances; work = levels_work xs EndObject; values = [] } ∷ rest; memory = entered m (new_instance s k (Some encloser) cells) AttachedObject })
 
+-- A process has a cell that takes no words, for the token by which an object of `process` itself tells where it was generated.
+abbrev pub origins : List Level → List Held
+origins [] = []
+origins (x ∷ xs) = if x.process then record { key = Origin; value = Some (Of (Integer (pos 0))) } ∷ origins xs else origins xs
+
 -- A process takes four words more.
 abbrev pub words_of_object : Source → (text : ℕ) → List Held → ℕ
 words_of_object s k hs = instance_words (length hs) (is_process_text s k)
@@ -201,7 +212,7 @@ object_made s k j object o = joined (is_process_text s k) j object (enrolled obj
 -- hand, and waits until control first returns.
 abbrev pub object_entered : Source → Limits → World → Instances → ℕ → List Item → List Val → List Activation → (text line : ℕ) → List Val → (encloser : ℕ) → List Level → Run Configuration
 object_entered s l o m i w vals rest k line values j xs =
-    having (filled_in values (Some (cells_of_levels s xs)) (class_formals s.tables k)) o (λ filled.
+    having (filled_in values (Some (cells_of_levels s xs ++ origins xs)) (class_formals s.tables k)) o (λ filled.
     entering l line (words_of_object s k (cells_of_levels s xs)) o (λ p.
     in_object s (object_made s k j (length m.instances) (arrays_given (length m.instances) values p)) m k j filled xs (record { instance = i; work = w; values = Of (Object (length m.instances)) ∷ vals } ∷ rest)))
 

@@ -1,7 +1,7 @@
 -- Closed trees, what is pending, and the instances of the meaning.
 use Rattle.std.specs.Prelude.{ℕ, Bool, true, false, ◌==◌, if◌then◌else◌, List, [], ◌∷◌, Option, Some, None}
 use Rattle.sim_tree.specs.declared.expr.Membership.{Membership}
-use Rattle.sim_tree.specs.Syntax.{Arms, Declarations, Element, Expression, Statement, Statements}
+use Rattle.sim_tree.specs.Syntax.{Arms, Declarations, Element, Expression, Expressions, Statement, Statements}
 use Rattle.sim_values.specs.declared.kind.Kind.{Kind}
 use Rattle.sim_values.specs.declared.operators.Dyadic.{Dyadic}
 use Rattle.sim_values.specs.declared.operators.Monadic.{Monadic}
@@ -11,16 +11,21 @@ use Rattle.sim_code.specs.Instances.{CellPlace, ElementPlace, Memory, Place, Sta
 use Rattle.sim_code.specs.Transfers.{Transfer}
 use Rattle.sim_code.specs.Scheduling.{Timing}
 
--- A cell of an instance: that of a declaration, by its number; that of the result of a procedure; or that of a connection, by its token.
+-- A cell of an instance: that of a declaration, by its number; that of the result of a procedure; that of a connection, by its token; or that
+-- in which an object of `process` itself keeps where it was generated. The last two take no words.
 pub data Key : Type 0 where
   Declared : (declaration : ℕ) → Key
   Result : Key
   Connection : (token : ℕ) → Key
+  Origin : Key
 
--- What a use of a parameter by name asks for: a value, held against a class; or where a variable lies, and whether a value is enough too.
+-- What an evaluation of an actual parameter is for. A use of a formal parameter by name asks for a value, held against a class; or for where a
+-- variable lies, and whether a value is enough too. A call that is checked when it is done asks for what it passes for the formal parameter of
+-- a number.
 pub data Use : Type 0 where
   ForValue : (class : Option ℕ) → (line : ℕ) → Use
   ForPlace : (value_too : Bool) → (line : ℕ) → Use
+  ForParameter : (number line : ℕ) → Use
 
 -- A closed tree has no identifiers: each is a cell of an instance, or a text with the instance in which it is declared. So it means the
 -- same wherever it is evaluated. The line is that of its errors.
@@ -66,11 +71,18 @@ mutual
     -- an attribute of a process, and a procedure of a simulation block
     ProcessOf : Standard → (line : ℕ) → (process : Term) → Term
     SimulationOf : (block : ℕ) → Standard → (actuals : Terms) → (line : ℕ) → Term
-    -- a call of what matches a virtual procedure in the class of an object, with so many actual parameters
-    VirtualOf : (object : Term) → (virtual actuals line : ℕ) → Term
-    -- An actual parameter by name, for the instance in which it stands. And what a formal parameter by name gives: its value, held against its
-    -- qualification, or where it lies, or else its value where that is enough.
-    ActualOf : (home : ℕ) → Expression → Term
+    -- a new object of the class `process` of a text itself, which keeps the token of that class
+    OriginOf : (text token line : ℕ) → (object : Term) → Term
+    -- A procedure as a value: one that is declared in an instance; one that an object has; and what matches a virtual in the class of an object.
+    ProcedureOf : (instance text : ℕ) → Term
+    RemoteProcedureOf : (object : Term) → (text line : ℕ) → Term
+    MatchOf : (object : Term) → (virtual line : ℕ) → Term
+    -- A call of a procedure that is a value, which leaves a value or none, and stands in an instance. Its actual parameters are checked when it is
+    -- done, and are closed only then.
+    CheckedOf : (procedure : Term) → (leaves : Bool) → (home : ℕ) → (actuals : Expressions) → (line : ℕ) → Term
+    -- An actual parameter by name, for the instance in which it stands, as a procedure or not. And what a formal parameter by name gives: its
+    -- value, held against its qualification, or where it lies, or else its value where that is enough.
+    ActualOf : (home : ℕ) → (as_procedure : Bool) → Expression → Term
     NamedOf : (instance : ℕ) → Key → Use → Term
     -- a form that is not built
     Unbuilt : Term
@@ -80,14 +92,15 @@ mutual
     Further : Term → Terms → Terms
 
 -- A value in hand or in a cell: a plain value; an instance in which a procedure is declared; where a variable lies, with the class of a
--- reference there; an array; a procedure with that instance; an actual by name, with the instance in which it stands.
+-- reference there; an array; a procedure with that instance; an actual by name, with the instance in which it stands, and whether it is passed
+-- as a procedure.
 pub data Val : Type 0 where
   Of : Plain → Val
   Link : (instance : ℕ) → Val
   Address : Place Key (Option ℕ) → Val
   ArrayValue : (array : ℕ) → Val
   ProcedureValue : (text instance : ℕ) → Val
-  Actual : (home : ℕ) → Expression → Val
+  Actual : (home : ℕ) → (as_procedure : Bool) → Expression → Val
 
 abbrev pub plain : Val → Option Plain
 plain (Of p) = Some p
@@ -112,8 +125,14 @@ abbrev pub procedure_in : Val → Option (ℕ × ℕ)
 procedure_in (ProcedureValue k j) = Some (k, j)
 procedure_in _ = None
 
-abbrev pub actual_in : Val → Option (ℕ × Expression)
-actual_in (Actual j e) = Some (j, e)
+-- an actual by name, with the instance in which it stands
+pub record Passing : Type 0 where
+  pub home : ℕ
+  pub as_procedure : Bool
+  pub expression : Expression
+
+abbrev pub actual_in : Val → Option Passing
+actual_in (Actual j p e) = Some (record { home = j; as_procedure = p; expression = e })
 actual_in _ = None
 
 abbrev pub instance_in : Val → Option ℕ
@@ -170,13 +189,18 @@ pub data Op : Type 0 where
   SetOp : Standard → Op
   ProcessOp : Standard → (line : ℕ) → Op
   SimulationOp : Standard → (line : ℕ) → Op
-  -- what matches a virtual in the object in hand; whether it has so many formal parameters; and its call
+  -- the object of `process` in hand keeps a token
+  OriginOp : (text token line : ℕ) → Op
+  -- a procedure that is declared in the instance in hand; what matches a virtual in the object in hand
+  ProcedureOp : (text : ℕ) → Op
   VirtualOp : (virtual line : ℕ) → Op
-  CheckOp : (actuals line : ℕ) → Op
-  CallValueOp : (line : ℕ) → Op
+  -- a procedure in hand is held against its actual parameters; the next of these is passed; and the procedure is called with so many values
+  CheckOp : Expressions → (line : ℕ) → Op
+  ParameterOp : (number : ℕ) → Expression → (line : ℕ) → Op
+  CallValueOp : (actuals : ℕ) → (leaves : Bool) → (line : ℕ) → Op
   -- a parameter by name that is in a cell is used; its actual is closed, in the instance in which that stands
   NamedOp : (instance : ℕ) → Key → Use → Op
-  CloseOp : Expression → Op
+  CloseOp : (as_procedure : Bool) → Expression → Op
   -- the value in hand is dropped, or there once more; the last two change places
   DropOp : Op
   AgainOp : Op
@@ -272,6 +296,7 @@ abbrev pub same_key : Key → Key → Bool
 same_key (Declared d) (Declared e) = d == e
 same_key Result Result = true
 same_key (Connection i) (Connection j) = i == j
+same_key Origin Origin = true
 same_key _ _ = false
 
 abbrev pub held : Key → List Held → Option Val

@@ -45,6 +45,7 @@ standard_leaves (Some name) = has_value (row_of name).result
 
 abbrev pub entry_leaves : Source → DeclNo → Option Entry → Bool
 entry_leaves s d (Some (entry.Attribute name parameter result)) = has_type result
+entry_leaves s d (Some (entry.Formal f)) = has_type f.ty
 entry_leaves s d e = has_type (result_of s.tables d)
 
 abbrev pub denoted_leaves : Source → Option Denotation → Bool

@@ -1,13 +1,14 @@
 -- What an operator does that is pending in the innermost instance.
-use Rattle.std.specs.Prelude.{ℕ, suc, List, [], ◌∷◌, Option, Some, None}
+use Rattle.std.specs.Prelude.{ℕ, suc, ◌==◌, List, [], ◌∷◌, Option, Some, None}
 use Rattle.sim_base.specs.declared.limits.Limits.{Limits}
+use Rattle.sim_tree.specs.Syntax.{Expressions, NoMore, Then}
 use Rattle.sim_values.specs.declared.value.TextVal.{TextVal}
 use Rattle.sim_values.specs.Plain.{Plain, Text}
 use Rattle.sim_code.specs.Outcome.{Going, Run, World}
-use Rattle.sim_code.specs.Events.{assigning, having, image_set, image_value, no_rule, only_text, popping}
+use Rattle.sim_code.specs.Events.{assigning, having, image_set, image_value, no_rule, only_text, popping, when}
 use Rattle.sim_code.specs.Arrays.{copying_array, element, element_set, finding_element}
 use Rattle.sim_code.specs.Instances.{CellPlace, ElementPlace, ImagePlace, Place}
-use Rattle.sim_meaning.specs.Pending.{Actual, ActualOf, Address, Activation, ArrayValue, AttributeOf, AttributeOp, Cell, CallOf, CallOp, CallValueOp, CheckOp, Configuration, CopyOf, CopyOp, Do, Either, ElementOf, ElementOp, Eval, FetchOp, FitsOf, FitsOp, Further, GiveOp, Given, IfOp, ImageOf, Instances, Item, JoinOp, Joined, KeepOp, KeptOf, Key, Link, MemberOf, MemberOp, NamedOf, NamedOp, NewOf, NewOp, NoTerm, NotNoneOf, NotNoneOp, ObjectOp, Of, One, OneOp, PlaceOf, ProcessOf, ProcessOp, QualifiedElementOf, QualifiedElementOp, QualifiedPlaceOf, QuaOf, QuaOp, ReferOp, RemoteCallOf, SetOf, SetOp, SimulationOf, SimulationOp, StandardOf, StandardOp, StoreOp, SwapOp, Target, Term, Terms, ToAddress, ToCell, ToNamed, ToPlace, ToReference, ToReferenceAt, ToText, ToTextAt, ToTextOf, TransferOf, TransferOp, Two, TwoOp, Unbuilt, Val, ValueAt, VirtualOf, VirtualOp, array_in, cell, cell_set, place_in, plain, variable_in}
+use Rattle.sim_meaning.specs.Pending.{Actual, ActualOf, Address, Activation, ArrayValue, AttributeOf, AttributeOp, Cell, CallOf, CallOp, CallValueOp, CheckOp, CheckedOf, Configuration, CopyOf, CopyOp, Do, Either, ElementOf, ElementOp, Eval, FetchOp, FitsOf, FitsOp, Further, GiveOp, Given, IfOp, ImageOf, Instances, Item, JoinOp, Joined, KeepOp, KeptOf, Key, Link, MatchOf, MemberOf, MemberOp, NamedOf, NamedOp, NewOf, NewOp, NoTerm, NotNoneOf, NotNoneOp, ObjectOp, Of, One, OneOp, OriginOf, OriginOp, ParameterOp, PlaceOf, ProcedureOf, ProcedureOp, ProcessOf, ProcessOp, QualifiedElementOf, QualifiedElementOp, QualifiedPlaceOf, QuaOf, QuaOp, ReferOp, RemoteCallOf, RemoteProcedureOf, SetOf, SetOp, SimulationOf, SimulationOp, StandardOf, StandardOp, StoreOp, SwapOp, Target, Term, Terms, ToAddress, ToCell, ToNamed, ToPlace, ToReference, ToReferenceAt, ToText, ToTextAt, ToTextOf, TransferOf, TransferOp, Two, TwoOp, Unbuilt, Val, ValueAt, VirtualOp, array_in, cell, cell_set, place_in, plain, variable_in}
 
 -- the innermost instance goes on with this work and these values in hand
 abbrev pub go : World → Instances → ℕ → List Item → List Val → List Activation → Run Configuration
@@ -27,6 +28,16 @@ count (Further t ts) = suc (count ts)
 abbrev pub each : Terms → List Item → List Item
 each NoTerm w = w
 each (Further t ts) w = Do (Eval t) ∷ each ts w
+
+-- how many actual parameters there are
+abbrev pub count_of : Expressions → ℕ
+count_of NoMore = 0
+count_of (Then e es) = suc (count_of es)
+
+-- the actual parameters of a call that is checked are passed from left to right, for the formal ones from a number on
+abbrev pub parameters : (number line : ℕ) → Expressions → List Item → List Item
+parameters n line NoMore w = w
+parameters n line (Then e es) w = Do (ParameterOp n e line) ∷ parameters (suc n) line es w
 
 abbrev pub eval : World → Instances → ℕ → List Item → List Val → List Activation → Term → Run Configuration
 eval o m i w vals rest (Given p) = go o m i w (Of p ∷ vals) rest
@@ -57,9 +68,15 @@ eval o m i w vals rest (TransferOf t line a) = go o m i (Do (Eval a) ∷ Do (Tra
 eval o m i w vals rest (SetOf name ts) = go o m i (each ts (Do (SetOp name) ∷ w)) vals rest
 eval o m i w vals rest (ProcessOf name line a) = go o m i (Do (Eval a) ∷ Do (ProcessOp name line) ∷ w) vals rest
 eval o m i w vals rest (SimulationOf b name ts line) = go o m i (each ts (Do (SimulationOp name line) ∷ w)) (Link b ∷ vals) rest
-eval o m i w vals rest (VirtualOf a v n line) = go o m i (Do (Eval a) ∷ Do (VirtualOp v line) ∷ Do (CheckOp n line) ∷ Do (CallValueOp line) ∷ w) vals rest
+eval o m i w vals rest (OriginOf k token line a) = go o m i (Do (Eval a) ∷ Do (OriginOp k token line) ∷ w) vals rest
+-- procedures as values, and their calls, which stand in the operating instance
+eval o m i w vals rest (ProcedureOf j k) = go o m i (Do (ProcedureOp k) ∷ w) (Link j ∷ vals) rest
+eval o m i w vals rest (RemoteProcedureOf a k line) = go o m i (Do (Eval a) ∷ Do (ObjectOp k line) ∷ Do (ProcedureOp k) ∷ w) vals rest
+eval o m i w vals rest (MatchOf a v line) = go o m i (Do (Eval a) ∷ Do (VirtualOp v line) ∷ w) vals rest
+eval o m i w vals rest (CheckedOf a leaves home es line) =
+    when (home == i) o (go o m i (Do (Eval a) ∷ Do (CheckOp es line) ∷ parameters 0 line es (Do (CallValueOp (count_of es) leaves line) ∷ w)) vals rest)
 -- parameters by name
-eval o m i w vals rest (ActualOf j e) = go o m i w (Actual j e ∷ vals) rest
+eval o m i w vals rest (ActualOf j p e) = go o m i w (Actual j p e ∷ vals) rest
 eval o m i w vals rest (NamedOf j key wanted) = go o m i (Do (NamedOp j key wanted) ∷ w) vals rest
 eval o m i w vals rest Unbuilt = no_rule o
 

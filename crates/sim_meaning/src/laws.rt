@@ -5,6 +5,7 @@ ghost use Rattle.sim_tree.specs.Syntax.{Program};
 ghost use Rattle.sim_meaning.specs.ClassExamples.{WorkedClasses};
 ghost use Rattle.sim_meaning.specs.CoroutineExamples.{WorkedCoroutines};
 ghost use Rattle.sim_meaning.specs.Examples.{Worked};
+ghost use Rattle.sim_meaning.specs.FormalExamples.{WorkedFormals};
 ghost use Rattle.sim_meaning.specs.NameExamples.{WorkedNames};
 ghost use Rattle.sim_meaning.specs.SetExamples.{WorkedSets};
 ghost use Rattle.sim_meaning.specs.SimulationExamples.{WorkedSimulations};
@@ -50,6 +51,11 @@ pub fn worked_programs_with_virtuals()
 /// Small programs with parameters by name do so too.
 pub fn worked_programs_with_names()
     ensures { WorkedNames }
+{}
+
+/// Small programs with formal procedures do so too.
+pub fn worked_programs_with_formals()
+    ensures { WorkedFormals }
 {}
 
 /// The texts of each program are what its bodies are made of, one for one and in their order. Since the blocks of the tables of scopes are

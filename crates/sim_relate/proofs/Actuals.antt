@@ -26,38 +26,38 @@ use Rattle.sim_meaning.specs.Texts.{is_class_free, text}
 use Rattle.codegen.specs.Compiled.{RecordOf, code_formal, parameters_of, type_of_name}
 use Rattle.sim_relate.proofs.Ends.{is_typed}
 use Rattle.sim_relate.proofs.Heads.{kept_standings}
-use Rattle.sim_relate.proofs.Known.{actual_at, Any, Every, Kind, StackAt, ValAt, anys, array_at, element_at, image_at, link_at, more_at, plain_at}
+use Rattle.sim_relate.proofs.Known.{actual_at, Any, Every, Kind, StackAt, ValAt, anys, array_at, element_at, image_at, link_at, more_at, plain_at, procedure_at}
 use Rattle.sim_relate.proofs.Relation.{Changed, StoreAt}
 use Rattle.sim_relate.proofs.Slots.{results}
 use Rattle.sim_relate.proofs.Stores.{SameOwners, keeps_kept, kept_long, later_kept, store_kept, unchanged}
 
 -- ---- formal parameters, as the code says them
 
-held_by : (m : Mode) (k : FormalKind) (f : Formal) → f.mode ≡ m → f.kind ≡ k → machine.is_held (code_formal f) ≡ is_held f
-held_by mode.ByName shape.Simple f em ek = rw em
-held_by mode.ByName shape.Array f em ek = rw em
-held_by mode.ByName shape.Procedure f em ek = rw em
-held_by mode.ByValue shape.Simple f em ek = rw (em, ek)
-held_by mode.ByValue shape.Array f em ek = rw (em, ek)
-held_by mode.ByValue shape.Procedure f em ek = rw (em, ek)
-held_by mode.ByReference shape.Simple f em ek = rw (em, ek)
-held_by mode.ByReference shape.Array f em ek = rw (em, ek)
-held_by mode.ByReference shape.Procedure f em ek = rw (em, ek)
+held_by : (s : Source) (code : CodeOf) (m : Mode) (k : FormalKind) (f : Formal) → f.mode ≡ m → f.kind ≡ k → machine.is_held (code_formal s code f) ≡ is_held f
+held_by s code mode.ByName shape.Simple f em ek = rw em
+held_by s code mode.ByName shape.Array f em ek = rw em
+held_by s code mode.ByName shape.Procedure f em ek = rw em
+held_by s code mode.ByValue shape.Simple f em ek = rw (em, ek)
+held_by s code mode.ByValue shape.Array f em ek = rw (em, ek)
+held_by s code mode.ByValue shape.Procedure f em ek = rw (em, ek)
+held_by s code mode.ByReference shape.Simple f em ek = rw (em, ek)
+held_by s code mode.ByReference shape.Array f em ek = rw (em, ek)
+held_by s code mode.ByReference shape.Procedure f em ek = rw (em, ek)
 
-any_held : (fs : List Formal) → list_any machine.is_held (map code_formal fs) ≡ list_any is_held fs
-any_held [] = refl
-any_held (f ∷ fs) = ap (λ b. b || list_any machine.is_held (map code_formal fs)) (held_by f.mode f.kind f refl refl) ∙ ap (λ b. is_held f || b) (any_held fs)
+any_held : (s : Source) (code : CodeOf) (fs : List Formal) → list_any machine.is_held (map (code_formal s code) fs) ≡ list_any is_held fs
+any_held s code [] = refl
+any_held s code (f ∷ fs) = ap (λ b. b || list_any machine.is_held (map (code_formal s code) fs)) (held_by s code f.mode f.kind f refl refl) ∙ ap (λ b. is_held f || b) (any_held s code fs)
 
-array_by : (m : Mode) (k : FormalKind) (f : Formal) → f.mode ≡ m → f.kind ≡ k → machine.is_array_by_value (code_formal f) ≡ is_array_by_value f.mode f.kind
-array_by mode.ByName shape.Simple f em ek = rw em
-array_by mode.ByName shape.Array f em ek = rw em
-array_by mode.ByName shape.Procedure f em ek = rw em
-array_by mode.ByValue shape.Simple f em ek = rw (em, ek)
-array_by mode.ByValue shape.Array f em ek = rw (em, ek)
-array_by mode.ByValue shape.Procedure f em ek = rw (em, ek)
-array_by mode.ByReference shape.Simple f em ek = rw em
-array_by mode.ByReference shape.Array f em ek = rw em
-array_by mode.ByReference shape.Procedure f em ek = rw em
+array_by : (s : Source) (code : CodeOf) (m : Mode) (k : FormalKind) (f : Formal) → f.mode ≡ m → f.kind ≡ k → machine.is_array_by_value (code_formal s code f) ≡ is_array_by_value f.mode f.kind
+array_by s code mode.ByName shape.Simple f em ek = rw em
+array_by s code mode.ByName shape.Array f em ek = rw em
+array_by s code mode.ByName shape.Procedure f em ek = rw em
+array_by s code mode.ByValue shape.Simple f em ek = rw (em, ek)
+array_by s code mode.ByValue shape.Array f em ek = rw (em, ek)
+array_by s code mode.ByValue shape.Procedure f em ek = rw (em, ek)
+array_by s code mode.ByReference shape.Simple f em ek = rw em
+array_by s code mode.ByReference shape.Array f em ek = rw em
+array_by s code mode.ByReference shape.Procedure f em ek = rw em
 
 -- ---- actual parameters
 
@@ -68,15 +68,16 @@ array_same _ _ rest array_at = refl
 array_same _ _ rest element_at = refl
 array_same _ _ rest image_at = refl
 array_same _ _ rest (actual_at h) = refl
+array_same _ _ rest (procedure_at h) = refl
 
-pub arrays_same : (s : Source) (code : CodeOf) (m : Instances) (fs : List Formal) (vs : List Val) (xs : List Value) → EachAt (ValAt s code m) vs xs → machine.arrays_by_value (map code_formal fs) xs ≡ arrays_by_value fs vs
+pub arrays_same : (s : Source) (code : CodeOf) (m : Instances) (fs : List Formal) (vs : List Val) (xs : List Value) → EachAt (ValAt s code m) vs xs → machine.arrays_by_value (map (code_formal s code) fs) xs ≡ arrays_by_value fs vs
 arrays_same s code m [] vs xs e = refl
 arrays_same s code m (f ∷ fs) [] [] e = refl
 arrays_same s code m (f ∷ fs) [] (x ∷ xs) e = absurd e
 arrays_same s code m (f ∷ fs) (v ∷ vs) [] e = absurd e
 arrays_same s code m (f ∷ fs) (v ∷ vs) (x ∷ xs) e =
     let more = arrays_same s code m fs vs xs e.1 in
-    ap (λ b. if b then machine.with_array_of x (machine.arrays_by_value (map code_formal fs) xs) else machine.arrays_by_value (map code_formal fs) xs) (array_by f.mode f.kind f refl refl) ∙
+    ap (λ b. if b then machine.with_array_of x (machine.arrays_by_value (map (code_formal s code) fs) xs) else machine.arrays_by_value (map (code_formal s code) fs) xs) (array_by s code f.mode f.kind f refl refl) ∙
     ap (λ z. if is_array_by_value f.mode f.kind then machine.with_array_of x z else z) more ∙
     ap (λ z. if is_array_by_value f.mode f.kind then z else arrays_by_value fs vs) (array_same v x (arrays_by_value fs vs) e.0)
 
@@ -123,4 +124,4 @@ module _ (s : Source) (code : CodeOf) where
   pub both_kept : (m : Instances) (fs : Frames) → StoreAt s code m fs → (chain : List Activation) (below : List machine.Activation) → SameOwners s code chain below → (k : ℕ) (kind : BlockKind) (result : CodeType) (b : BlockOf) → RecordOf s code k kind result b → parameters_of s k (text s k) ≡ formals_of s k → Changed s code Every m fs (instances_kept s k chain m) (frames_kept b below fs)
   both_kept m fs a chain below owners k kind result b heads own =
       kept_alike m fs a chain below owners (not (is_class_free s k) && list_any is_held (formals_of s k)) (not b.class_free && list_any machine.is_held b.formals)
-      (ap (λ z. not z && list_any machine.is_held b.formals) heads.class_free ∙ ap (λ z. not (is_class_free s k) && list_any machine.is_held z) (heads.formals ∙ ap (map code_formal) own) ∙ ap (λ z. not (is_class_free s k) && z) (any_held (formals_of s k)))
+      (ap (λ z. not z && list_any machine.is_held b.formals) heads.class_free ∙ ap (λ z. not (is_class_free s k) && list_any machine.is_held z) (heads.formals ∙ ap (map (code_formal s code)) own) ∙ ap (λ z. not (is_class_free s k) && z) (any_held s code (formals_of s k)))

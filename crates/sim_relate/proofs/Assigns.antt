@@ -22,7 +22,7 @@ use Rattle.sim_meaning.specs.Pending.{Activation, Configuration, cell, Do, Fetch
 use Rattle.sim_meaning.specs.Steps.{go, of_plain, putting, text_assigned}
 use Rattle.sim_meaning.specs.Steps as steps
 use Rattle.codegen_expr.specs.Sites.{HasCell, Is, slot_of, At, frame_text}
-use Rattle.sim_relate.proofs.Known.{Named, NamedAt, actual_at, is_frame, named_place, named_reference, named_value, FixedOf, IsRead, LinkTo, Located, OwnerOf, PlaceIs, Refers, RefersAt, Stands, is_declared, is_fixed, refers_cell, refers_element, Any, Every, HandAt, Kind, StackAt, ValAt, anys, array_at, element_at, link_at, more_at, plain_at, site_at, image_at, Runs, spot, Settled, LinkOf, MatchOf}
+use Rattle.sim_relate.proofs.Known.{Named, NamedAt, actual_at, is_frame, named_place, named_reference, named_value, FixedOf, IsRead, LinkTo, Located, OwnerOf, PlaceIs, Refers, RefersAt, Stands, is_declared, is_fixed, refers_cell, refers_element, Any, Every, HandAt, Kind, StackAt, ValAt, anys, array_at, element_at, link_at, more_at, plain_at, site_at, image_at, Runs, spot, Settled, LinkOf, procedure_at}
 use Rattle.sim_relate.proofs.Operations.{StoreIs, TargetAt}
 use Rattle.sim_relate.proofs.Relation.{stays, ChainAt, Changed, OpAt, StateAt, WorkAt, there}
 use Rattle.sim_relate.proofs.Carried.{all_every, kept_every}
@@ -46,6 +46,7 @@ place_both _ _ array_at = tt
 place_both _ _ element_at = element_place
 place_both _ _ image_at = image_place
 place_both _ _ (actual_at h) = tt
+place_both _ _ (procedure_at h) = tt
 
 variable_both : {s : Source} {code : CodeOf} {m : Instances} (v : Val) (x : Value) → ValAt s code m v x → Both PlaceAt (variable_in v) (machine.variable_in x)
 variable_both _ _ plain_at = tt
@@ -54,6 +55,7 @@ variable_both _ _ array_at = tt
 variable_both _ _ element_at = element_place
 variable_both _ _ image_at = tt
 variable_both _ _ (actual_at h) = tt
+variable_both _ _ (procedure_at h) = tt
 
 plain_both : (s : Source) (code : CodeOf) (m : Instances) (p : Option Plain) → Both (ValAt s code m) (of_plain p) (machine.of_plain p)
 plain_both s code m None = tt
@@ -209,7 +211,6 @@ module _ (s : Source) (code : CodeOf) (l : Limits) (o : World) (m : Instances) (
   puts_at line (LinkTo z) i v x p p' vals2 stack2 h hp h2 place = absurd i
   puts_at line (OwnerOf z) i v x p p' vals2 stack2 h hp h2 place = absurd i
   puts_at line (LinkOf z) i v x p p' vals2 stack2 h hp h2 place = absurd i
-  puts_at line (MatchOf z) i v x p p' vals2 stack2 h hp h2 place = absurd i
   puts_at line (Refers z) i v x p p' vals2 stack2 h hp h2 place = absurd i
   puts_at line (FixedOf z) i v x p p' vals2 stack2 h hp h2 place = absurd i
 

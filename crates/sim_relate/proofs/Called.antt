@@ -15,7 +15,8 @@ use Rattle.codegen_expr.specs.CodeExpr.{ExprAt, ExprsAt, ThisFoundAt}
 use Rattle.codegen_expr.specs.CodeExpr as code_gives
 use Rattle.codegen.specs.Agrees.{Agrees}
 use Rattle.codegen.specs.CodeStm.{CalledAt, OrTransferAt, TransferAt}
-use Rattle.sim_relate.proofs.Closing.{DotCallAt, NamedCallAt, NamedIs, close_actuals_at, close_all_at, close_at, dot_call, dot_tree, named_call, named_tree, place_at, this_at}
+use Rattle.sim_relate.proofs.ClosedNames.{NamedIs}
+use Rattle.sim_relate.proofs.Closing.{DotCallAt, NamedCallAt, close_actuals_at, close_all_at, close_at, dot_call, dot_tree, named_call, named_tree, place_at, this_at}
 use Rattle.sim_relate.proofs.Known.{Finds}
 use Rattle.sim_relate.proofs.TransferNames.{no_value}
 use Rattle.sim_relate.proofs.Trees.{OperandAt}

@@ -26,7 +26,7 @@ use Rattle.sim_meaning.specs.Statements.{has_value}
 use Rattle.sim_meaning.specs.Steps.{go, with_value, of_plain, operand, plain_in, put_back, putting}
 use Rattle.sim_meaning.specs.Texts.{text}
 use Rattle.codegen_expr.specs.Sites.{HasCell, slot_of, frame_text}
-use Rattle.sim_relate.proofs.Known.{Named, NamedAt, PlaceIs, RefersAt, actual_at, named_place, named_reference, named_value, refers_cell, refers_element, FixedOf, OwnerOf, Refers, is_declared, is_fixed, Every, HandAt, Kind, StackAt, given, more_at, plain_at, site_at, AllRead, Any, IsRead, LinkTo, Located, Stands, ValAt, array_at, element_at, image_at, link_at, Runs, Settled, LinkOf, MatchOf}
+use Rattle.sim_relate.proofs.Known.{Named, NamedAt, PlaceIs, RefersAt, actual_at, named_place, named_reference, named_value, refers_cell, refers_element, FixedOf, OwnerOf, Refers, is_declared, is_fixed, Every, HandAt, Kind, StackAt, given, more_at, plain_at, site_at, AllRead, Any, IsRead, LinkTo, Located, Stands, ValAt, array_at, element_at, image_at, link_at, Runs, Settled, LinkOf, procedure_at}
 use Rattle.sim_relate.proofs.Relation.{ChainAt, Changed, OpAt, StateAt, WorkAt}
 use Rattle.sim_relate.proofs.Hands.{stack_length, FirstAt, hand_operands}
 use Rattle.sim_relate.proofs.Here.{Here, act, at_row, kinds_as}
@@ -78,6 +78,7 @@ module _ (s : Source) (code : CodeOf) (l : Limits) (o : World) (m : Instances) (
   operand_same _ _ (element_at {a} {n}) = plain_same (element o a n)
   operand_same _ _ (image_at {n}) = plain_same (image_value o n)
   operand_same _ _ (actual_at h) = refl
+  operand_same _ _ (procedure_at h) = refl
 
   refers_same : (k : ℕ) (v : Val) (x : Value) → RefersAt s code m k v x → operand o m v ≡ machine.operand o fs x
   refers_same k _ _ (refers_cell {j} {t = z} {key} st own has varies declared) = ap only_text (both_plain (cell m j key) (machine.cell fs j (slot_of s code z key)) (cell_read s code m fs j z key here.store st own has varies))
@@ -101,7 +102,6 @@ module _ (s : Source) (code : CodeOf) (l : Limits) (o : World) (m : Instances) (
   reads_same (LinkTo text) r v x h = absurd r
   reads_same (OwnerOf text) r v x h = absurd r
   reads_same (LinkOf j) r v x h = absurd r
-  reads_same (MatchOf d) r v x h = absurd r
   reads_same (Refers class) r v x h = absurd r
   reads_same (FixedOf d) r v x h = absurd r
 
@@ -115,6 +115,7 @@ module _ (s : Source) (code : CodeOf) (l : Limits) (o : World) (m : Instances) (
     value_back _ _ (element_at {a} {n}) = alike_same Configuration Machine R World (element_set p a n (Text t2)) p _ _ (λ p. as_is p)
     value_back _ _ (image_at {n}) = alike_same Configuration Machine R World (image_set p n (Text t2)) p _ _ (λ p. as_is p)
     value_back _ _ (actual_at h) = as_is p
+    value_back _ _ (procedure_at h) = as_is p
 
     cell_back : (j u : ℕ) (key : Key) → Stands s m j u → frame_text s u ≡ u → HasCell s u key → is_fixed s key ≡ false → is_declared key ≡ true → Alike R (put_back (meaning.Address (CellPlace j key None)) t2 p m r) (rows.put_back (machine.Address (CellPlace j (slot_of s code u key) 0)) t2 p fs y)
     unfolding put_back rows.put_back putting rows.putting
@@ -145,7 +146,6 @@ module _ (s : Source) (code : CodeOf) (l : Limits) (o : World) (m : Instances) (
     back (LinkTo text) i v x h = absurd i
     back (OwnerOf text) i v x h = absurd i
     back (LinkOf j) i v x h = absurd i
-    back (MatchOf d) i v x h = absurd i
     back (Refers class) i v x h = absurd i
     back (FixedOf d) i v x h = absurd i
 

@@ -9,11 +9,11 @@ use Rattle.sim_code.specs.declared.stage.Stage.{Stage}
 use Rattle.sim_code.specs.Code.{BlockOf, CodeOf}
 use Rattle.sim_code.specs.Machine.{Frames, Value}
 use Rattle.sim_code.specs.Machine as machine
-use Rattle.sim_meaning.specs.Pending.{Activation, ActualOf, AttributeOf, BackOp, BranchOp, CallOf, Cell, CopyOf, Do, Either, ElementOf, ElementsOp, EndBlock, EndEvaluation, EndLevel, EndObject, EndPrefixed, EndProcedure, EndProgram, Eval, FitsOf, Further, Given, GiveOp, IfOp, ImageOf, Instances, Item, Joined, KeptOf, Key, MemberOf, NamedOf, NamedOp, NewOf, NoTerm, NotNoneOf, One, Op, PlaceOf, QuaOf, QualifiedElementOf, QualifiedPlaceOf, RaiseOp, RemoteCallOf, SetOf, ShareOp, StandardOf, StepTestOp, StoreOp, Target, Term, Terms, ToAddress, ToCell, ToNamed, ToPlace, ToReference, ToReferenceAt, ToText, ToTextAt, ToTextOf, TransferOf, Two, Unbuilt, Val, ValueAt, WhileElementOp, BlockOp, ProcessOf, SimulationOf, SimulationOp, ActivateOp, Use, VirtualOf, evaluates, is_evaluation, owner}
+use Rattle.sim_meaning.specs.Pending.{Activation, ActualOf, AttributeOf, BackOp, BranchOp, CallOf, Cell, CopyOf, Do, Either, ElementOf, ElementsOp, EndBlock, EndEvaluation, EndLevel, EndObject, EndPrefixed, EndProcedure, EndProgram, Eval, FitsOf, Further, Given, GiveOp, IfOp, ImageOf, Instances, Item, Joined, KeptOf, Key, MemberOf, NamedOf, NamedOp, NewOf, NoTerm, NotNoneOf, One, Op, PlaceOf, QuaOf, QualifiedElementOf, QualifiedPlaceOf, RaiseOp, RemoteCallOf, SetOf, ShareOp, StandardOf, StepTestOp, StoreOp, Target, Term, Terms, ToAddress, ToCell, ToNamed, ToPlace, ToReference, ToReferenceAt, ToText, ToTextAt, ToTextOf, TransferOf, Two, Unbuilt, Val, ValueAt, WhileElementOp, BlockOp, ProcessOf, SimulationOf, SimulationOp, ActivateOp, Use, evaluates, is_evaluation, owner, OriginOf, ProcedureOf, RemoteProcedureOf, MatchOf, CheckedOf}
 use Rattle.sim_meaning.specs.Sane.{OwnerOf, OwnersKept, OwnersKeptOf, OwnersOf}
 use Rattle.codegen_expr.specs.Sites.{Site, class_number, expression_temps, frame_text, own_end}
 use Rattle.codegen.specs.CodeFor.{OfCell, OfPlace, OfReference, Variable}
-use Rattle.sim_relate.proofs.Known.{Any, Every, FixedOf, HandAt, Keeps, Kind, Later, LinkTo, Located, Low, Named, NamedAt, OwnerOf as OwnerKind, PlaceIs, Reaches, Refers, RefersAt, Runs, Spot, StackAt, Stands, is_frame_in_use, is_some, low_same, more_at, named_place, named_reference, named_value, none_at, owner_of, placed, refers_cell, refers_element, site_at, LinkOf, MatchOf}
+use Rattle.sim_relate.proofs.Known.{Any, Every, FixedOf, HandAt, Keeps, Kind, Later, LinkTo, Located, Low, Named, NamedAt, OwnerOf as OwnerKind, PlaceIs, Reaches, Refers, RefersAt, Runs, Spot, StackAt, Stands, is_frame_in_use, is_some, low_same, more_at, named_place, named_reference, named_value, none_at, owner_of, placed, refers_cell, refers_element, site_at, LinkOf}
 use Rattle.sim_relate.proofs.Trees.{CellPlaceIs, GivenIs, OperandAt, ReadsAt, TermAt, TermsAt, UseIs}
 use Rattle.sim_relate.proofs.Values.{value_later}
 use Rattle.sim_relate.proofs.Waiting.{GetsIs, NoValue, OfName, Wait, demand, suspended, suspended_by, suspended_in, value_if}
@@ -92,7 +92,6 @@ module _ (s : Source) (code : CodeOf) (m m' : Instances) (e : Later s m m') wher
   hand_later (LinkOf j) v x h = h
   hand_later (OwnerKind u) v x h = record { instance = h.instance; is_val = h.is_val; is_value = h.is_value; stands = e.stands h.instance u h.stands }
   hand_later (Refers k) v x h = refers_later k v x h
-  hand_later (MatchOf d) v x h = record { own = h.own; text = h.text; instance = h.instance; is_val = h.is_val; is_value = h.is_value; there = h.there; stands = e.stands h.instance (h.there).around h.stands }
   hand_later (FixedOf d) v x h = record { instance = h.instance; text = h.text; is_val = h.is_val; is_value = h.is_value; stands = e.stands h.instance h.text h.stands; own = h.own; has = h.has; fixed = h.fixed }
 
   pub stack_later : (ks : List Kind) (vals : List Val) (stack : List Value) → StackAt (HandAt s code m) ks vals stack → StackAt (HandAt s code m') ks vals stack
@@ -113,7 +112,7 @@ module _ (s : Source) (code : CodeOf) (m m' : Instances) (e : Later s m m') wher
     place_later site n j key class p q a = record { text = a.text; address = a.address; reaches = reaches_later inst t a.text j st a.reaches; own = a.own; has = a.has; varies = a.varies; declared = a.declared }
 
     use_later : (site : Site) (n j : ℕ) (key : Key) (wanted : Use) (p q : ℕ) → UseIs s code m inst site n j key wanted p q → UseIs s code m' inst site n j key wanted p q
-    use_later site n j key wanted p q a = record { text = a.text; use_is = a.use_is; fits = a.fits; reaches = reaches_later inst t a.text j st a.reaches; own = a.own; has = a.has; varies = a.varies; classed = a.classed }
+    use_later site n j key wanted p q a = record { text = a.text; use_is = a.use_is; fits = a.fits; reaches = reaches_later inst t a.text j st a.reaches; own = a.own; has = a.has; varies = a.varies; classed = a.classed; is_use = a.is_use }
 
     mutual
       pub term_later : (site : Site) (n : ℕ) (x : Term) (p q : ℕ) → TermAt s code m inst site n x p q → TermAt s code m' inst site n x p q
@@ -162,7 +161,6 @@ module _ (s : Source) (code : CodeOf) (m m' : Instances) (e : Later s m m') wher
         new = a.new;
         stands_in = a.stands_in;
         class = a.class;
-        made = a.made;
       }
       term_later site n (AttributeOf text key class line x) p q a = (a.0, (term_later site n x p a.0 (a.1).0, (a.1).1), a.2)
       term_later site n (RemoteCallOf x k ts line) p q a = record {
@@ -197,18 +195,31 @@ module _ (s : Source) (code : CodeOf) (m m' : Instances) (e : Later s m m') wher
         actuals = terms_later site (suc n) ts a.x a.y a.actuals;
         is = a.is;
       }
-      term_later site n (VirtualOf x v many line) p q a = record {
+      term_later site n (OriginOf k token line x) p q a = (a.0, (term_later site n x p a.0 (a.1).0, (a.1).1), a.2)
+      term_later site n (ProcedureOf j k) p q a = record { text = a.text; x = a.x; link = a.link; reaches = reaches_later inst t a.text j st a.reaches; value = a.value; procedure = a.procedure }
+      term_later site n (RemoteProcedureOf x k line) p q a = record {
+        text = a.text;
+        x = a.x;
+        y = a.y;
+        object = (term_later site n x p a.x (a.object).0, (a.object).1);
+        there = a.there;
+        value = a.value;
+        procedure = a.procedure;
+      }
+      term_later site n (MatchOf x v line) p q a = record { x = a.x; object = (term_later site n x p a.x (a.object).0, (a.object).1); declared = a.declared; found = a.found }
+      term_later site n (CheckedOf x leaves home es line) p q a = record {
         x = a.x;
         y = a.y;
         z = a.z;
-        object = (term_later site n x p a.x (a.object).0, (a.object).1);
+        was = a.was;
+        here = a.here;
+        procedure = (term_later site n x p a.x (a.procedure).0, (a.procedure).1);
         fits = a.fits;
-        declared = a.declared;
-        found = a.found;
-        checked = a.checked;
+        check = a.check;
+        passes = a.passes;
         called = a.called;
       }
-      term_later site n (ActualOf home x) p q a = a
+      term_later site n (ActualOf home as_procedure x) p q a = a
       term_later site n (NamedOf j key wanted) p q a = use_later site n j key wanted p q a
       term_later site n Unbuilt p q a = a
 

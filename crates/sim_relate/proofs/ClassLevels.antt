@@ -59,7 +59,7 @@ pub record PlaceOf (f : ℕ → ℕ) (c : ℕ) (ks : List ℕ) : Type 0 where
   pub there : slice_get ks place ≡ Some text
   pub same : (f text == c) ≡ true
 
-place_in : (f : ℕ → ℕ) (c : ℕ) (ks : List ℕ) → list_any (λ z. z == c) (map f ks) ≡ true → PlaceOf f c ks
+pub place_in : (f : ℕ → ℕ) (c : ℕ) (ks : List ℕ) → list_any (λ z. z == c) (map f ks) ≡ true → PlaceOf f c ks
 place_in f c [] e = absurd (cc)
 place_in f c (k ∷ ks) e = by (f k == c) refl e (λ g. place_in f c ks g)
   where

@@ -1,5 +1,5 @@
 -- Which texts are classes, by the declarations and types that name them.
-use Rattle.std.proofs.Common.{◌≡◌, ℕ, Bool, true, false, Option, Some, None, refl, sym, ap, ◌∙◌, subst}
+use Rattle.std.proofs.Common.{◌≡◌, ℕ, Bool, true, false, Option, Some, None, refl, ap, ◌∙◌, subst}
 use Rattle.std.specs.Prelude.{slice_get, if◌then◌else◌}
 use Rattle.sim_base.specs.declared.numbering.DeclNo.{DeclNo}
 use Rattle.sim_scope.specs.declared.scopes.Declaration.{Declaration}
@@ -11,14 +11,12 @@ use Rattle.sim_scope.specs.declared.types.FormalKind.{FormalKind}
 use Rattle.sim_scope.specs.declared.types.FormalKind.TheVariants as shape
 use Rattle.sim_scope.specs.declared.types.SimType.{SimType}
 use Rattle.sim_scope.specs.declared.types.SimType.TheVariants as t
-use Rattle.sim_scope.specs.declared.types.StandardClass.TheVariants as standard
 use Rattle.sim_scope.specs.Levels.{class_block, class_block_in}
 use Rattle.sim_scope.specs.Scopes.{entry_in, entry_of}
 use Rattle.sim_scope.specs.Source.{Source, denoted}
-use Rattle.sim_meaning.specs.Attributes.{class_made, class_unless, is_bare_process, parameter_qualification}
-use Rattle.sim_meaning.specs.Levels.{class_at, class_denoted, class_text, is_class, is_process_class, is_standard_text, qualification}
-use Rattle.sim_meaning.specs.Texts.{BlockText, ClassText, ConnectionText, PrefixedText, ProcedureText, StandardText, Text, text}
-use Rattle.sim_relate.proofs.Known.{is_process_in}
+use Rattle.sim_meaning.specs.Attributes.{parameter_qualification}
+use Rattle.sim_meaning.specs.Levels.{class_at, class_denoted, class_text, is_class, qualification}
+use Rattle.sim_meaning.specs.Texts.{text}
 use Rattle.sim_relate.proofs.Trees.{Classed}
 
 module _ (s : Source) where
@@ -52,27 +50,6 @@ module _ (s : Source) where
   denoted_classed (Some (denotation.Declared d)) k e = (class_found (class_block s.tables d) k e).1
   denoted_classed (Some (denotation.Standard name)) k e = absurd (cc)
   denoted_classed None k e = absurd (cc)
-
-  -- the class of objects that are generated
-  pub made_class : (o : Option ℕ) (k : ℕ) → class_made s o ≡ Some k → (o ≡ Some k) × (is_process_in s k ≡ false)
-  made_class None k e = absurd (cc (e))
-  made_class (Some t) k e = by (is_bare_process (text s t)) refl e
-    where
-      bare : (o : Option Text) → is_bare_process o ≡ false → is_standard_text is_process_class o ≡ false
-      bare None h = refl
-      bare (Some (BlockText begin ds ss)) h = refl
-      bare (Some (ProcedureText result f a)) h = refl
-      bare (Some (ClassText prefix f ds ss)) h = refl
-      bare (Some (PrefixedText class es ds ss)) h = refl
-      bare (Some ConnectionText) h = refl
-      bare (Some (StandardText standard.Process)) h = absurd (cc (h))
-      bare (Some (StandardText standard.Linkage)) h = refl
-      bare (Some (StandardText standard.Link)) h = refl
-      bare (Some (StandardText standard.Head)) h = refl
-
-      by : (c : Bool) → is_bare_process (text s t) ≡ c → class_unless c t ≡ Some k → (Some t ≡ Some k) × (is_process_in s k ≡ false)
-      by true h e = absurd (cc (e))
-      by false h e = let same : t ≡ k = cc (e) in (e, ap (is_process_in s) (sym same) ∙ bare (text s t) h)
 
   pub qualification_classed : (type : Option SimType) (k : ℕ) → qualification s type ≡ Some k → Classed s k
   unfolding qualification

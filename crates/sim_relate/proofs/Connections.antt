@@ -35,7 +35,7 @@ use Rattle.sim_relate.proofs.Carried.{all_every, kept_every}
 use Rattle.sim_relate.proofs.Frames.{frame_idem, frame_level, frame_out, stands_same}
 use Rattle.sim_relate.proofs.Hands.{stack_length}
 use Rattle.sim_relate.proofs.Here.{Here, goes, kinds_as, with_values}
-use Rattle.sim_relate.proofs.Known.{low_same, actual_at, HandAt, Kind, Runs, SameFrame, StackAt, Stands, ValAt, anys, array_at, element_at, image_at, link_at, more_at, plain_at, site_at, spot, Settled, IsReference}
+use Rattle.sim_relate.proofs.Known.{low_same, actual_at, HandAt, Kind, Runs, SameFrame, StackAt, Stands, ValAt, anys, array_at, element_at, image_at, link_at, more_at, plain_at, site_at, spot, Settled, IsReference, procedure_at}
 use Rattle.sim_relate.proofs.Living.{own_level}
 use Rattle.sim_relate.proofs.Moved.{moved, work_moved}
 use Rattle.sim_relate.proofs.Pending.{pends, pends_in}
@@ -179,6 +179,7 @@ module _ (s : Source) (code : CodeOf) (coding : Compiled s code) (l : Limits) (o
     by_value _ _ element_at = at_once (alike_unruled Configuration Machine R o _)
     by_value _ _ image_at = at_once (alike_unruled Configuration Machine R o _)
     by_value _ _ (actual_at h) = at_once (alike_unruled Configuration Machine R o _)
+    by_value _ _ (procedure_at h) = at_once (alike_unruled Configuration Machine R o _)
 
   connect_hand : (opening : ℕ) (a : Statement) (other : Statements) (c : ConnectIs s code (site_at t b u) opening a other pc q ks ks') (vs : List Val) (xs : List Value) → StackAt (HandAt s code m) (anys 1 c.left) vs xs → Follows g R (inspected o m inst w vs rest opening a other) o (at pc xs fs)
   unfolding pop_plain popping
@@ -266,6 +267,7 @@ module _ (s : Source) (code : CodeOf) (coding : Compiled s code) (l : Limits) (o
     tried_value arms c _ _ element_at n = at_once (alike_unruled Configuration Machine R o _)
     tried_value arms c _ _ image_at n = at_once (alike_unruled Configuration Machine R o _)
     tried_value arms c _ _ (actual_at h) n = at_once (alike_unruled Configuration Machine R o _)
+    tried_value arms c _ _ (procedure_at h) n = at_once (alike_unruled Configuration Machine R o _)
 
   when_hand : (arms : Arms) (other : Statements) (left : List Kind) → ks' ≡ left → ArmsAt s code (site_at t b u) (length left) arms (StmsAt s code (site_at t b u) (length left) other) pc q → (vs : List Val) (xs : List Value) → AllName s m vs → StackAt (HandAt s code m) (anys 1 left) vs xs → Follows g R (inspected_when s o m inst w vs rest arms other) o (at pc xs fs)
   unfolding pop_plain popping

@@ -24,9 +24,9 @@ use Rattle.sim_code.specs.Rows.{first_stage, program_block}
 use Rattle.sim_code.proofs.Lifts.{alike_found, alike_no_rule}
 use Rattle.sim_code.proofs.Simulation.{Alike}
 use Rattle.sim_meaning.specs.Entries.{new_instance, passes}
-use Rattle.sim_meaning.specs.Levels.{has_levels, text_in}
+use Rattle.sim_meaning.specs.Levels.{has_levels, is_process_class, is_process_itself, is_standard_text, text_in}
 use Rattle.sim_meaning.specs.Pending.{Activation, Configuration, Held, Instances, Item, Key, held}
-use Rattle.sim_meaning.specs.Texts.{BlockText, ConnectionText, PrefixedText, Text, is_class_free, program_texts, text}
+use Rattle.sim_meaning.specs.Texts.{BlockText, ClassText, ConnectionText, PrefixedText, ProcedureText, StandardText, Text, is_class_free, program_texts, text}
 use Rattle.codegen_expr.specs.Sites.{HasCell, LevelOf, block_in_front, block_number, block_of_text, cells_in, frame_text, hidden_in, innermost, is_connected, outer, own_part, place_of, prefix_of, slot_of, start_of, types_in}
 use Rattle.codegen.specs.Agrees.{Agrees}
 use Rattle.codegen.specs.Compiled.{CodeHas, Compiled, RecordOf, TextCode, type_of_cell}
@@ -174,12 +174,26 @@ module _ (s : Source) (code : CodeOf) where
     only_level t innermost = refl
     only_level t (outer e level) = let none = no_prefix in absurd (cc (e, none))
 
+    -- nor is it `process` itself
+    itself : is_process_itself s k ≡ false
+    unfolding is_process_itself
+    itself = by (text s k) single
+      where
+        by : (o : Option Text) → has_levels o ≡ false → is_standard_text is_process_class o ≡ false
+        by None e = refl
+        by (Some (BlockText begin ds ss)) e = refl
+        by (Some (ProcedureText result h a)) e = refl
+        by (Some (ClassText prefix h ds ss)) e = refl
+        by (Some (PrefixedText class arguments ds ss)) e = refl
+        by (Some ConnectionText) e = refl
+        by (Some (StandardText which)) e = absurd (cc (e))
+
     cells_alone : (m : Instances) (hs : List Held) (cells : Cells) → HeldAt s code m hs cells → map key_of hs ≡ map key_of (cells_in s k (text s k)) → ((c : ℕ) → length (cells_in s k (text s k)) ≤ c → c < length (own_part s k) → joined (slice_get cells c) ≡ None) → CellsOf s code m k hs cells
     cells_alone m hs cells at keys none = record {
       cells = λ t key level has. (let same = only_level t level in
           subst (λ z. SlotAt s code m (is_fixed s key) key (held key hs) (joined (slice_get cells (slot_of s code z key)))) same
-          (subst (λ z. SlotAt s code m (is_fixed s key) key (held key hs) (joined (slice_get cells z))) (sym (slot_is key)) (cells_by_key s agrees k hs keys code m cells at none key (subst (λ z. HasCell s z key) (sym same) has))));
-      there = λ t key level has d. declared_there s agrees k hs keys key (subst (λ z. HasCell s z key) (sym (only_level t level)) has) d;
+          (subst (λ z. SlotAt s code m (is_fixed s key) key (held key hs) (joined (slice_get cells z))) (sym (slot_is key)) (cells_by_key s agrees k hs keys code m cells at (λ key has f le. none (place_of key (own_part s k)) le has) key (subst (λ z. HasCell s z key) (sym same) has) (λ origin. itself))));
+      there = λ t key level has d. declared_there s agrees k hs keys key (subst (λ z. HasCell s z key) (sym (only_level t level)) has) d (λ origin. itself);
     }
 
     module _ (kind : BlockKind) (result : CodeType) (b : BlockOf) (heads : RecordOf s code k kind result b) where
@@ -197,7 +211,7 @@ module _ (s : Source) (code : CodeOf) where
       first_typed = ap (map first_value) split_types
 
       pub first_none : (c : ℕ) → length (cells_in s k (text s k)) ≤ c → c < length (own_part s k) → joined (slice_get (machine.first_cells b) c) ≡ None
-      first_none c le lt = ap (λ z. joined (slice_get (map first_value z) c)) flat_types ∙ empty_behind (cells_in s k (text s k)) (hidden_in s k) heads.temps c (hidden_empty s k) le lt
+      first_none c le lt = ap (λ z. joined (slice_get (map first_value z) c)) flat_types ∙ empty_behind (cells_in s k (text s k)) (hidden_in s k) heads.temps c (hidden_empty s k itself) le lt
 
       pub instance_at : (m : Instances) → slice_get code.blocks (block_number s k) ≡ Some b → passes (text s k) (is_class_free s k) ≡ machine.passes kind (is_class_free s k) → frame_text s k ≡ k → is_connected s.tables k ≡ false → Laid s code k → (e : Option ℕ) (hs : List Held) (cells : Cells) → HeldAt s code m hs cells → map key_of hs ≡ map key_of (cells_in s k (text s k)) → length cells ≡ length b.types
           → ((c : ℕ) → length (cells_in s k (text s k)) ≤ c → c < length (own_part s k) → joined (slice_get cells c) ≡ None) → InstanceAt s code m (new_instance s k e hs) (new_frame (block_number s k) b e cells)

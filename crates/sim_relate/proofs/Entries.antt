@@ -54,7 +54,7 @@ use Rattle.sim_relate.proofs.Laying.{laid}
 use Rattle.sim_relate.proofs.Living.{new_lives, new_lives_inside}
 use Rattle.sim_relate.proofs.Pending.{ends_at, pends}
 use Rattle.sim_relate.proofs.PrefixedProgram.{first_prefixed}
-use Rattle.sim_relate.proofs.Known.{Low, Named, actual_at, Any, Every, FixedOf, HandAt, IsLink, Kind, LinkTo, Located, OwnerOf, Refers, Runs, StackAt, Stands, ValAt, anys, array_at, element_at, given, image_at, link_at, more_at, plain_at, site_at, Settled, LinkOf, MatchOf}
+use Rattle.sim_relate.proofs.Known.{Low, Named, actual_at, Any, Every, FixedOf, HandAt, IsLink, Kind, LinkTo, Located, OwnerOf, Refers, Runs, StackAt, Stands, ValAt, anys, array_at, element_at, given, image_at, link_at, more_at, plain_at, site_at, Settled, LinkOf, procedure_at}
 use Rattle.sim_relate.proofs.Waiting.{NoValue, Wait, gets_any, given_by, value_if, GetsIs}
 use Rattle.sim_relate.proofs.Operations.{CallOpIs}
 use Rattle.sim_relate.proofs.Relation.{ChainAt, Changed, EndAt, OpAt, StandingsAt, StateAt, StoreAt, WorkAt, straight}
@@ -377,7 +377,7 @@ module _ (s : Source) (code : CodeOf) (compiled : Compiled s code) (l : Limits) 
     worlds_same : (p : World) → handed_over (length fs.instances) (machine.arrays_by_value new_block.formals values') p ≡ handed_over (length m.instances) (arrays_by_value (formals_of s k) values) p
     worlds_same p =
         let heads = h.heads in
-        ap (λ z. handed_over (length fs.instances) (machine.arrays_by_value z values') p) (heads.formals ∙ ap (map code_formal) own_parameters) ∙ ap (λ z. handed_over (length fs.instances) z p) (arrays_same s code m (formals_of s k) values values' each) ∙ ap (λ n. handed_over n (arrays_by_value (formals_of s k) values) p) (sym (here.store).as_many)
+        ap (λ z. handed_over (length fs.instances) (machine.arrays_by_value z values') p) (heads.formals ∙ ap (map (code_formal s code)) own_parameters) ∙ ap (λ z. handed_over (length fs.instances) z p) (arrays_same s code m (formals_of s k) values values' each) ∙ ap (λ n. handed_over n (arrays_by_value (formals_of s k) values) p) (sym (here.store).as_many)
 
     in_same_world : (p p' : World) (c : Configuration) (x : Machine) → p' ≡ p → Related c x → Alike Related (Going p c) (Going p' x)
     in_same_world p p' c x e r = subst (λ z. Alike Related (Going p c) (Going z x)) (sym e) (going r)
@@ -402,7 +402,7 @@ module _ (s : Source) (code : CodeOf) (compiled : Compiled s code) (l : Limits) 
     pub is_value : machine.frame_in x ≡ Some instance
     pub stands : Stands s m instance text
 
-  link_found : (k : Kind) (text : ℕ) → IsLink k text → (v : Val) (x : Value) → HandAt s code m k v x → LinkFound text v x
+  pub link_found : (k : Kind) (text : ℕ) → IsLink k text → (v : Val) (x : Value) → HandAt s code m k v x → LinkFound text v x
   link_found (LinkTo u) text e v x h = record { instance = h.instance; is_val = ap instance_in h.is_val; is_value = ap machine.frame_in h.is_value; stands = subst (λ z. Stands s m h.instance z) e h.stands }
   link_found (OwnerOf u) text e v x h = record { instance = h.instance; is_val = ap instance_in h.is_val; is_value = ap machine.frame_in h.is_value; stands = subst (λ z. Stands s m h.instance z) e h.stands }
   link_found Any text e v x h = absurd e
@@ -410,7 +410,6 @@ module _ (s : Source) (code : CodeOf) (compiled : Compiled s code) (l : Limits) 
   link_found (Refers k) text e v x h = absurd e
   link_found (FixedOf d) text e v x h = absurd e
   link_found (LinkOf j) text e v x h = absurd e
-  link_found (MatchOf d) text e v x h = absurd e
   link_found Named text e v x h = absurd e
 
   called_at : (k n line : ℕ) (a : CallOpIs s code (site_at t b u) k n line pc q ks ks') → (values : List Val) (values' : List Value) → EachAt (ValAt s code m) values values' → length values ≡ n → (v : Val) (x : Value) (vals2 : List Val) (stack2 : List Value) → LinkFound a.text v x → StackAt (HandAt s code m) a.left vals2 stack2
@@ -439,6 +438,7 @@ module _ (s : Source) (code : CodeOf) (compiled : Compiled s code) (l : Limits) 
   same_hand _ _ element_at = refl
   same_hand _ _ image_at = refl
   same_hand _ _ (actual_at h) = refl
+  same_hand _ _ (procedure_at h) = refl
 
   pub call : (k n line : ℕ) → Follows (CallOp k n line)
   call k n line a =

@@ -27,7 +27,7 @@ use Rattle.codegen.specs.Compiled.{Compiled}
 use Rattle.sim_relate.proofs.Admitting.{class_counts}
 use Rattle.sim_relate.proofs.Hands.{stack_length}
 use Rattle.sim_relate.proofs.Here.{Here, goes, kinds_as}
-use Rattle.sim_relate.proofs.Known.{actual_at, HandAt, Kind, Runs, StackAt, ValAt, anys, array_at, element_at, image_at, link_at, more_at, plain_at, site_at, Settled, IsReference}
+use Rattle.sim_relate.proofs.Known.{actual_at, HandAt, Kind, Runs, StackAt, ValAt, anys, array_at, element_at, image_at, link_at, more_at, plain_at, site_at, Settled, IsReference, procedure_at}
 use Rattle.sim_relate.proofs.Living.{own_level}
 use Rattle.sim_relate.proofs.Moved.{moved, work_moved}
 use Rattle.sim_relate.proofs.Ranked.{Follows, InEach, Meets, at_once, both_stopping, caught, in_steps, lags, simply}
@@ -162,6 +162,7 @@ module _ (s : Source) (code : CodeOf) (coding : Compiled s code) (l : Limits) (o
   by_value c line left out a _ _ element_at n vals' stack' hs = at_once (alike_unruled Configuration Machine R o _)
   by_value c line left out a _ _ image_at n vals' stack' hs = at_once (alike_unruled Configuration Machine R o _)
   by_value c line left out a _ _ (actual_at y) n vals' stack' hs = at_once (alike_unruled Configuration Machine R o _)
+  by_value c line left out a _ _ (procedure_at y) n vals' stack' hs = at_once (alike_unruled Configuration Machine R o _)
 
   in_hand : (c line : ℕ) (left : List Kind) → ks' ≡ anys 1 left → (a : FitsIs s code (site_at t b u) (length left) c line pc q) (vs : List Val) (xs : List Value) → AllName s m vs → StackAt (HandAt s code m) (anys 1 left) vs xs → Follows g R (fitted s o m inst w vs rest c line) o (at pc xs fs)
   unfolding pop_plain popping

@@ -17,11 +17,11 @@ use Rattle.sim_meaning.specs.Closing as closing
 use Rattle.sim_meaning.specs.Entries.{cells_from, first_cells, formal_before, formals_from, formals_of, numbers_of, with_cell, with_result}
 use Rattle.sim_meaning.specs.Pending.{Held}
 use Rattle.sim_meaning.specs.Texts.{ProcedureText}
-use Rattle.codegen_expr.specs.CodeExpr.{ActualsAt, operands}
+use Rattle.codegen_expr.specs.CodeExpr.{PassedAt, operands}
 use Rattle.codegen_expr.specs.Sites.{Site}
 use Rattle.sim_relate.proofs.Slots.{results}
 
-pub actuals_counted : (s : Source) (code : CodeOf) (site : Site) (line n : ℕ) (keeps : Bool) (es : Expressions) (fs : List Formal) (p q : ℕ) → ActualsAt s code site n line keeps es fs p q → operands es ≡ length fs
+pub actuals_counted : (s : Source) (code : CodeOf) (site : Site) (line n : ℕ) (keeps : Bool) (es : Expressions) (fs : List Formal) (p q : ℕ) → PassedAt s code site n line keeps es fs p q → operands es ≡ length fs
 actuals_counted s code site line n keeps NoMore [] p q a = refl
 actuals_counted s code site line n keeps NoMore (f ∷ fs) p q a = absurd a
 actuals_counted s code site line n keeps (Then e es) [] p q a = absurd a

@@ -6,9 +6,10 @@ use Rattle.sim_scope.specs.Source.{Source, level_of}
 use Rattle.sim_scope.specs.Tables.{BlockOf}
 use Rattle.sim_meaning.specs.Attributes.{is_connection as is_connection_text}
 use Rattle.sim_meaning.specs.Entries.{first_cells}
-use Rattle.sim_meaning.specs.Pending.{Connection, Declared, Held, Instances, Key, Result}
+use Rattle.sim_meaning.specs.Levels.{is_process_class, is_process_itself, is_standard_text}
+use Rattle.sim_meaning.specs.Pending.{Connection, Declared, Held, Instances, Key, Origin, Result}
 use Rattle.sim_meaning.specs.Texts.{BlockText, ClassText, ConnectionText, PrefixedText, ProcedureText, StandardText, Text, text}
-use Rattle.codegen_expr.specs.Sites.{HasCell, LevelOf, cells_in, frame_text, frame_within, hidden_before, hidden_from, hidden_in, is_connected, is_connection, outward_or, own_part, place_of}
+use Rattle.codegen_expr.specs.Sites.{HasCell, LevelOf, cells_in, frame_text, frame_within, hidden_before, hidden_from, hidden_in, is_connected, is_connection, origin_in, outward_or, own_part, place_of}
 use Rattle.codegen.specs.Agrees.{Agrees}
 use Rattle.sim_relate.proofs.Known.{SameFrame, Stands, inside, is_declared, outermost}
 
@@ -105,11 +106,33 @@ module _ (s : Source) (agrees : Agrees s) where
   hidden_one (Declared d) true b hs e f = ap suc f
   hidden_one Result true b hs e f = ap suc f
   hidden_one (Connection token) true b hs e f = absurd (cc)
+  hidden_one Origin true b hs e f = ap suc f
   hidden_one key false b hs e f = f
 
-  pub hidden_missing : (key : Key) → is_declared key ≡ true → (k n : ℕ) (bs : List BlockOf) → place_of key (hidden_from s k n bs) ≡ length (hidden_from s k n bs)
-  hidden_missing key e k n [] = refl
-  hidden_missing key e k n (b ∷ bs) = hidden_one key (is_connection b.kind && frame_text s n == k) b (hidden_from s k (suc n) bs) e (hidden_missing key e k (suc n) bs)
+  -- an origin is in `process` itself alone
+  origin_missing : (key : Key) → is_declared key ≡ true → (c : Bool) → (key ≡ Origin → c ≡ false) → place_of key (origin_in c) ≡ length (origin_in c)
+  origin_missing key e false f = refl
+  origin_missing (Declared d) e true f = refl
+  origin_missing Result e true f = refl
+  origin_missing (Connection token) e true f = absurd (cc (e))
+  origin_missing Origin e true f = absurd (cc (f refl))
+
+  pub hidden_missing : (key : Key) → is_declared key ≡ true → (k n : ℕ) → (key ≡ Origin → is_process_itself s k ≡ false) → (bs : List BlockOf) → place_of key (hidden_from s k n bs) ≡ length (hidden_from s k n bs)
+  hidden_missing key e k n f [] = origin_missing key e (is_process_itself s k) f
+  hidden_missing key e k n f (b ∷ bs) = hidden_one key (is_connection b.kind && frame_text s n == k) b (hidden_from s k (suc n) bs) e (hidden_missing key e k (suc n) f bs)
+
+  no_process : (o : Option Text) → is_connection_text o ≡ true → is_standard_text is_process_class o ≡ false
+  no_process None e = refl
+  no_process (Some (BlockText begin ds ss)) e = refl
+  no_process (Some (ProcedureText result h a)) e = refl
+  no_process (Some (ClassText prefix h ds ss)) e = refl
+  no_process (Some (PrefixedText class arguments ds ss)) e = refl
+  no_process (Some ConnectionText) e = refl
+  no_process (Some (StandardText which)) e = absurd (cc (e))
+
+  connection_itself : (k : ℕ) → is_connection_text (text s k) ≡ true → is_process_itself s k ≡ false
+  unfolding is_process_itself
+  connection_itself k e = no_process (text s k) e
 
   pub own_frame : (k : ℕ) (key : Key) → HasCell s k key → is_declared key ≡ true → frame_text s k ≡ k
   unfolding hidden_in
@@ -117,7 +140,7 @@ module _ (s : Source) (agrees : Agrees s) where
       bool_cases (is_connected s.tables k)
       (λ c. let none = no_cells k (text s k) (sym (agrees.connected k) ∙ c) in
       let part : own_part s k ≡ hidden_in s k = ap (λ z. z ++ hidden_in s k) none in
-      let missing = hidden_missing key e k 0 s.tables.blocks in
+      let missing = hidden_missing key e k 0 (λ same. connection_itself k (sym (agrees.connected k) ∙ c)) s.tables.blocks in
       let lt : place_of key (hidden_in s k) < length (hidden_in s k) = subst (λ z. place_of key z < length z) part has in
       absurd (omega (arith, missing, lt)))
       (λ c. frame_self k c)

@@ -1,5 +1,5 @@
 -- The entry of an object.
-use Rattle.std.proofs.Common.{◌≡◌, ℕ, true, List, [], ◌∷◌, length, Some, refl, sym, ap, ◌∙◌, subst, arith}
+use Rattle.std.proofs.Common.{◌≡◌, ℕ, true, List, [], ◌∷◌, ◌++◌, length, Some, refl, sym, ap, ◌∙◌, subst, arith}
 use Rattle.std.specs.Prelude.{◌==◌, nat_lt, pos}
 use Rattle.sim_base.specs.declared.limits.Limits.{Limits}
 use Rattle.sim_chains.specs.Components.{AttachedObject}
@@ -20,9 +20,9 @@ use Rattle.sim_code.specs.Outcome.{Run, World}
 use Rattle.sim_code.specs.Rows.{on_top}
 use Rattle.sim_code.proofs.Lifts.{EachAt, alike_found}
 use Rattle.sim_code.proofs.Simulation.{Alike}
-use Rattle.sim_meaning.specs.Levels.{is_process_text, levels}
+use Rattle.sim_meaning.specs.Levels.{is_process_text, levels, levels_of}
 use Rattle.sim_meaning.specs.Meaning.{do_op}
-use Rattle.sim_meaning.specs.Objects.{object_entered, object_made}
+use Rattle.sim_meaning.specs.Objects.{cells_of_levels, object_entered, object_made, origins}
 use Rattle.sim_meaning.specs.Pending.{Activation, Configuration, EndObject, Instances, Item, NewOp, Op, Val, instance_in}
 use Rattle.sim_meaning.specs.Pending as meaning
 use Rattle.codegen_expr.specs.Sites.{block_number, class_number}
@@ -33,9 +33,11 @@ use Rattle.sim_relate.proofs.ClassTexts.{ClassHas, class_has}
 use Rattle.sim_relate.proofs.Ends.{chosen}
 use Rattle.sim_relate.proofs.Entries.{call_row, found_left, same_hand, waits, when_equal}
 use Rattle.sim_relate.proofs.Hands.{hand_popping, stack_length}
+use Rattle.sim_relate.proofs.FirstCells.{first_cells_of, made_cells}
 use Rattle.sim_relate.proofs.Here.{Here, act, at_row, kinds_as}
 use Rattle.sim_relate.proofs.Known.{Any, HandAt, Kind, LinkTo, Runs, StackAt, Stands, ValAt, more_at, plain_at, site_at, Settled}
-use Rattle.sim_relate.proofs.LevelEntries.{entry_alike, not_first}
+use Rattle.sim_relate.proofs.LevelCells.{CellsOf}
+use Rattle.sim_relate.proofs.LevelEntries.{entry_alike, levels_laid, not_first}
 use Rattle.sim_relate.proofs.OfClass.{class_owns}
 use Rattle.sim_relate.proofs.Linkages.{object_same, process_record}
 use Rattle.sim_relate.proofs.Reach.{equal_numbers}
@@ -124,7 +126,8 @@ module _ (s : Source) (code : CodeOf) (compiled : Compiled s code) (l : Limits) 
     new_alike : Alike Related (having (levels s g) o (λ xs. object_entered s l o m inst w vals2 rest g line values j xs)) (objects_of code (pos (class_number s code g)) o NewGoes)
     new_alike =
         objects_alike _
-        (entry_alike s code compiled l o m fs here.store here.parked g line x values values' each j a.text a.stands_in link (class_owns s compiled.agrees g a.class a.made) (is_process_text s g) (is_process_class code x.block.class) (process_record s code compiled g x) (object_made s g j (length m.instances)) (object_made_of_code code x.block.class j (length fs.instances)) made_same EndObject AttachedObject AttachedObject refl chain under (λ m' fs' number is. record { own = g; is = is; class = a.class }) under_there
+        (entry_alike s code compiled l o m fs here.store here.parked g line x values values' each j a.text a.stands_in link (class_owns s compiled.agrees g a.class) (λ xs. cells_of_levels s xs ++ origins xs)
+        (λ xs made. subst (λ z. CellsOf s code m g (z ++ origins xs) (machine.first_cells x.block)) (sym (made_cells s (levels_of s g) xs made)) (first_cells_of s code m compiled (levels_laid s code compiled) g x xs made)) (is_process_text s g) (is_process_class code x.block.class) (process_record s code compiled g x) (object_made s g j (length m.instances)) (object_made_of_code code x.block.class j (length fs.instances)) made_same EndObject AttachedObject AttachedObject refl chain under (λ m' fs' number is. record { own = g; is = is; class = a.class }) under_there
         (λ m' fs' there block limit temps t' p last at. record {
           levels = x.levels;
           not_first = not_first s code compiled g a.text x.levels a.stands_in;

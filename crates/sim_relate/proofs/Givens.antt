@@ -15,14 +15,14 @@ use Rattle.sim_tree.specs.Syntax.{Expression, Expressions, NoMore, Then}
 use Rattle.sim_tree.specs.Syntax as syntax
 use Rattle.sim_code.specs.Code.{CodeOf}
 use Rattle.sim_meaning.specs.Attributes.{attribute_place, connected_object, connection_at, declared_attribute, element_at, entry_at, if_any, parameter_at, place_of_attribute, variable_at}
-use Rattle.sim_meaning.specs.Closing.{array_place, by_name, close, close_actual, close_actual_by, close_all, close_place, declared_place, formal_by_name, formal_place, home_of, image_place, in_instance, is_attribute_denoted, is_placed, name_denoted, named_formal, named_place, qualified_if, stream_of, typed_token, variable_place}
+use Rattle.sim_meaning.specs.Closing.{array_place, by_name, close, close_actual_by, close_all, close_passed, close_place, close_procedure, declared_place, formal_by_name, formal_place, home_of, image_place, in_instance, is_attribute_denoted, is_placed, name_denoted, named_formal, named_place, qualified_if, stream_of, typed_token, variable_place}
 use Rattle.sim_meaning.specs.Levels.{qualification}
 use Rattle.sim_meaning.specs.Pending.{AttributeOf, Declared, ElementOf, ForPlace, ImageOf, Instances, Key, NamedOf, PlaceOf, Term, Terms, Unbuilt}
 use Rattle.codegen_expr.specs.CodeExpr.{ExprAt, ObjectAt, PlaceAt, class_unless}
 use Rattle.codegen_expr.specs.Sites.{Inside, Site}
 use Rattle.codegen.specs.Agrees.{Agrees}
 use Rattle.sim_relate.proofs.ClassNames.{qualification_classed}
-use Rattle.sim_relate.proofs.Closing.{close_at, place_at}
+use Rattle.sim_relate.proofs.Closing.{close_at, close_procedure_at, place_at}
 use Rattle.sim_relate.proofs.Known.{ActualCode, Any, Finds, IsGiven, Kind, LeavesIs, Located, Named, is_fixed, is_read, kind_unless, leaves_any, reads}
 use Rattle.sim_relate.proofs.Thunks.{dot_given, kind_given, kind_placed, place_given, through_given}
 use Rattle.sim_relate.proofs.Trees.{TermAt}
@@ -67,7 +67,8 @@ module _ (s : Source) (m : Instances) (inst : ℕ) where
   formal_placed : (line : ℕ) (d : DeclNo) (by : Mode) (kind : FormalKind) (es : Expressions) (ts : Terms) → Placed (through_given None (named_formal by kind d) es) (formal_place s m inst line d by kind es ts)
   formal_placed line d mode.ByName shape.Simple NoMore ts = found_in Named (home_of s m inst d) _ (λ j. of_name)
   formal_placed line d mode.ByName shape.Simple (Then e es) ts = unbuilt
-  formal_placed line d mode.ByName shape.Array es ts = unbuilt
+  formal_placed line d mode.ByName shape.Array NoMore ts = unbuilt
+  formal_placed line d mode.ByName shape.Array (Then e es) ts = found_in Any (home_of s m inst d) _ (λ j. of_element)
   formal_placed line d mode.ByName shape.Procedure es ts = unbuilt
   formal_placed line d mode.ByValue shape.Simple es ts = variable_placed d None es
   formal_placed line d mode.ByValue shape.Array es ts = array_placed line d None es ts
@@ -169,12 +170,15 @@ module _ (s : Source) (code : CodeOf) (m : Instances) (inst : ℕ) (site : Site)
   by_place true is a = by_class (by_name s x) (qualification s (type_at s (typed_token x))) refl is a
   by_place false is a = let y = close_at s code m inst site agrees reach x 0 p q a in (y.0, leaves_any s (close s m inst x) [] y.1)
 
-  pub close_actual_at : ActualCode s code site x p q → ClosedAt (close_actual s m inst x) (kind_given s x)
-  close_actual_at a = by_place (is_placed s x) refl a
+  -- a procedure is not called
+  pub close_passed_at : (as_procedure : Bool) → ActualCode s code site as_procedure x p q → ClosedAt (close_passed as_procedure s m inst x) (kind_given s as_procedure x)
+  close_passed_at true a = let y = close_procedure_at s code m inst site agrees reach x 0 p q a in (y.0, leaves_any s (close_procedure s m inst x) [] y.1)
+  close_passed_at false a = by_place (is_placed s x) refl a
 
 -- what an actual gives may be given
-pub given_kind : (s : Source) (x : Expression) → IsGiven s (kind_given s x)
-given_kind s x = by_parts (is_placed s x) (by_name s x) (qualification s (type_at s (typed_token x))) refl
+pub given_kind : (s : Source) (as_procedure : Bool) (x : Expression) → IsGiven s (kind_given s as_procedure x)
+given_kind s true x = tt
+given_kind s false x = by_parts (is_placed s x) (by_name s x) (qualification s (type_at s (typed_token x))) refl
   where
     through : (k : Option ℕ) (f : Option DeclNo) (es : Expressions) → IsGiven s (through_given k f es)
     through None None NoMore = tt

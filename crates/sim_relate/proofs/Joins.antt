@@ -29,7 +29,7 @@ use Rattle.sim_meaning.specs.Steps.{go}
 use Rattle.codegen_expr.specs.CodeExpr.{Stand, join_instrs}
 use Rattle.codegen_expr.specs.Sites.{frame_text, own_end}
 use Rattle.sim_relate.specs.SameRuns.{seen_world}
-use Rattle.sim_relate.proofs.Known.{Every, actual_at, HandAt, Kind, StackAt, ValAt, anys, array_at, element_at, image_at, link_at, more_at, plain_at, site_at, Runs, Settled}
+use Rattle.sim_relate.proofs.Known.{Every, actual_at, HandAt, Kind, StackAt, ValAt, anys, array_at, element_at, image_at, link_at, more_at, plain_at, site_at, Runs, Settled, procedure_at}
 use Rattle.sim_relate.proofs.Relation.{ChainAt, Changed, OpAt, StateAt, StoreAt, WorkAt}
 use Rattle.sim_relate.proofs.Carried.{all_every, kept_every, changed_twice}
 use Rattle.sim_relate.proofs.Hands.{stack_length}
@@ -69,6 +69,7 @@ text_or _ _ array_at = no_text tt tt
 text_or _ _ element_at = no_text tt tt
 text_or _ _ image_at = no_text tt tt
 text_or _ _ (actual_at h) = no_text tt tt
+text_or _ _ (procedure_at h) = no_text tt tt
 
 module _ {S : Type 0} (o : World) where
   none_goes : (p : Option Plain) (go : TextVal → Run S) → NoText p → having p o (λ v. having (text_val v) o go) ≡ no_rule o

@@ -2,10 +2,11 @@
 use Rattle.std.proofs.Common.{◌≡◌, ◌⊎◌, ◌+◌, ◌<◌, ◌≤◌, ℕ, suc, zero, Bool, true, false, List, [], ◌∷◌, length, Option, Some, None, refl, sym, ap, subst, ◌∙◌, arith}
 use Rattle.std.specs.Prelude.{⊤, slice_get}
 use Rattle.sim_scope.specs.Access.{encloser}
-use Rattle.sim_scope.specs.Actuals.{result_in}
 use Rattle.sim_scope.specs.Scopes.{entry_of}
 use Rattle.sim_scope.specs.Source.{Source, level_of}
+use Rattle.sim_tree.specs.declared.stmt.TypeName.{TypeName}
 use Rattle.sim_tree.specs.Syntax.{Expression}
+use Rattle.sim_tree.specs.Syntax as syntax
 use Rattle.sim_values.specs.Plain.{Object, Plain, MainOf}
 use Rattle.sim_values.specs.Standard.{row_of}
 use Rattle.sim_code.specs.declared.instr.Instr.TheVariants as i
@@ -17,25 +18,24 @@ use Rattle.sim_code.specs.Instances as instances
 use Rattle.sim_code.specs.Machine.{Frames, Value, Cells}
 use Rattle.sim_code.specs.Machine as machine
 use Rattle.sim_code.proofs.Lifts.{Both}
-use Rattle.sim_meaning.specs.Pending.{Actual, AttributeOf, CallOf, Connection, Declared, ForPlace, ForValue, Held, Instances, Key, NamedOf, PlaceOf, QualifiedElementOf, QualifiedPlaceOf, RemoteCallOf, SetOf, SimulationOf, StandardOf, Target, Term, ToCell, ToPlace, ToTextAt, ToTextOf, TransferOf, Unbuilt, Val, VirtualOf}
+use Rattle.sim_meaning.specs.Pending.{Actual, AttributeOf, CallOf, CheckedOf, Connection, Declared, ForParameter, ForPlace, ForValue, Held, Instances, Key, NamedOf, PlaceOf, QualifiedElementOf, QualifiedPlaceOf, RemoteCallOf, SetOf, SimulationOf, StandardOf, Target, Term, ToCell, ToPlace, ToTextAt, ToTextOf, TransferOf, Unbuilt, Val}
 use Rattle.sim_meaning.specs.Pending as meaning
-use Rattle.sim_meaning.specs.Closing.{has_type, is_placed}
+use Rattle.sim_meaning.specs.Closing.{is_placed}
 use Rattle.sim_meaning.specs.Levels.{is_class, is_process_class, is_standard_text, levels_of, text_at}
 use Rattle.sim_meaning.specs.Meaning.{has_result}
 use Rattle.sim_meaning.specs.Objects.{constant_cell}
 use Rattle.sim_meaning.specs.Statements.{has_value}
 use Rattle.sim_meaning.specs.Texts.{ProcedureText, Text, constant_of, text}
-use Rattle.codegen.specs.Agrees.{MatchThere}
 use Rattle.codegen.specs.CodeStm.{is_class_text}
-use Rattle.codegen_expr.specs.CodeExpr.{ExprAt, ObjectAt, PlaceAt, class_given}
+use Rattle.codegen_expr.specs.CodeExpr.{ExprAt, GivenBy, ObjectAt, PlaceAt, ProcedureAt, class_given}
 use Rattle.codegen_expr.specs.Sites.{HasCell, Is, LevelOf, Site, block_number, class_number, expression_temps, frame_text, own_end, slot_of}
 pub use Rattle.codegen_expr.specs.Sites.{is_constant}
 
 -- ---- values
 
 -- What is known of a value in hand: that it is a link to an instance of a text, or the object as such a link, or the link to just this instance;
--- that it is where a cell lies, or where a reference of a class lies, or a constant of an object, or what matches a virtual; or that it is what a
--- parameter by name gave, a value or where such lies; or that it is none of these.
+-- that it is where a cell lies, or where a reference of a class lies, or a constant of an object; or that it is what a parameter by name gave, a
+-- value or where such lies; or that it is none of these.
 pub data Kind : Type 0 where
   Any : Kind
   Located : Kind
@@ -44,7 +44,6 @@ pub data Kind : Type 0 where
   LinkOf : (instance : ℕ) → Kind
   Refers : (class : ℕ) → Kind
   FixedOf : (declaration : ℕ) → Kind
-  MatchOf : (virtual : ℕ) → Kind
   Named : Kind
 
 -- a link to an instance of a text, for a call
@@ -81,9 +80,6 @@ abbrev pub text_gives : Option Text → Bool
 text_gives (Some (ProcedureText result h a)) = has_result result
 text_gives _ = false
 
-abbrev pub virtual_gives : Source → (virtual : ℕ) → Bool
-virtual_gives s v = has_type (result_in (entry_of s.tables (record { 0 = v })))
-
 abbrev pub gives : Source → Term → Bool
 gives s (CallOf j k ts line) = text_gives (text s k)
 gives s (RemoteCallOf a k ts line) = text_gives (text s k)
@@ -95,7 +91,7 @@ gives s (AttributeOf text key class line a) = false
 gives s (QualifiedPlaceOf j key k) = false
 gives s (QualifiedElementOf line k a ts) = false
 gives s (TransferOf t line a) = false
-gives s (VirtualOf a v n line) = virtual_gives s v
+gives s (CheckedOf a leaves home es line) = leaves
 gives s (NamedOf j key (ForPlace value_too line)) = false
 gives s _ = true
 
@@ -164,6 +160,7 @@ leaves_any s (QualifiedPlaceOf j key k) ks e = absurd (cc)
 leaves_any s (QualifiedElementOf line k a ts) ks e = absurd (cc)
 leaves_any s (NamedOf j key (ForPlace value_too line)) ks e = absurd (cc)
 leaves_any s (NamedOf j key (ForValue class line)) ks e = refl
+leaves_any s (NamedOf j key (ForParameter number line)) ks e = refl
 leaves_any s Unbuilt ks e = tt
 leaves_any s x ks e = ap (λ g. given g ks) (sym e)
 
@@ -176,7 +173,6 @@ read_kind (OwnerOf text) e = absurd (cc)
 read_kind (LinkOf j) e = absurd (cc)
 read_kind (Refers class) e = absurd (cc)
 read_kind (FixedOf d) e = absurd (cc)
-read_kind (MatchOf v) e = absurd (cc)
 
 pub leaves_read : (s : Source) (x : Term) (ks : List Kind) → reads s x ≡ true → (k : Kind) × IsRead k × LeavesIs s x ks (k ∷ ks)
 leaves_read s (PlaceOf j key) ks e = (Located, tt, refl)
@@ -185,6 +181,7 @@ leaves_read s (QualifiedPlaceOf j key k) ks e = absurd (cc)
 leaves_read s (QualifiedElementOf line k a ts) ks e = absurd (cc)
 leaves_read s (NamedOf j key (ForPlace value_too line)) ks e = (Named, tt, refl)
 leaves_read s (NamedOf j key (ForValue class line)) ks e = (Any, tt, refl)
+leaves_read s (NamedOf j key (ForParameter number line)) ks e = (Any, tt, refl)
 leaves_read s Unbuilt ks e = (Any, tt, tt)
 leaves_read s x ks e = (Any, tt, ap (λ g. given g ks) (sym e))
 
@@ -215,6 +212,7 @@ read_given s (QualifiedPlaceOf j key k) e = absurd (cc)
 read_given s (QualifiedElementOf line k a ts) e = absurd (cc)
 read_given s (NamedOf j key (ForPlace value_too line)) e = refl
 read_given s (NamedOf j key (ForValue class line)) e = refl
+read_given s (NamedOf j key (ForParameter number line)) e = refl
 read_given s x e = e
 
 -- a reference to an object or a main program
@@ -271,12 +269,12 @@ Finds s m from text = (j : ℕ) × Reaches s m from text j × (at_level m (level
 
 -- ---- actual parameters by name
 
--- the code of an actual parameter by name: where a variable lies, or a value
-abbrev pub ActualCode : Source → CodeOf → Site → Expression → ℕ → ℕ → Type 0
-ActualCode s code site e p q = ObjectAt (is_placed s e) (PlaceAt s code site 0 (class_given s code e) e) (ExprAt s code site 0 e) p q
+-- the code of an actual parameter: a procedure where it is passed as one; or else where a variable lies, or a value
+abbrev pub ActualCode : Source → CodeOf → Site → (as_procedure : Bool) → Expression → ℕ → ℕ → Type 0
+ActualCode s code site as_procedure e p q = GivenBy as_procedure (ProcedureAt s code site 0 e) (ObjectAt (is_placed s e) (PlaceAt s code site 0 (class_given s code e) e) (ExprAt s code site 0 e)) p q
 
 -- A thunk of this number evaluates an actual parameter for its home, which stands for the text in which that is written.
-pub record ThunkIs (s : Source) (code : CodeOf) (m : Instances) (home : ℕ) (e : Expression) (number : ℕ) : Type 0 where
+pub record ThunkIs (s : Source) (code : CodeOf) (m : Instances) (home : ℕ) (as_procedure : Bool) (e : Expression) (number : ℕ) : Type 0 where
   pub text : ℕ
   pub block : BlockOf
   pub room : ℕ
@@ -288,10 +286,20 @@ pub record ThunkIs (s : Source) (code : CodeOf) (m : Instances) (home : ℕ) (e 
   pub found : slice_get code.blocks (block_number s (frame_text s text)) ≡ Some block
   pub there : slice_get code.thunks number ≡ Some (record { entry = entry; room = room })
   pub within : entry < length code.instrs
-  pub gives : ActualCode s code (record { text = text; room = room; temps = own_end s code (frame_text s text); used = used; size = length block.types }) e entry done
+  pub gives : ActualCode s code (record { text = text; room = room; temps = own_end s code (frame_text s text); used = used; size = length block.types; thunk = Some number }) as_procedure e entry done
   pub end : Is code i.EndThunk done last
 
 -- ---- values in cells
+
+-- a procedure as a value, with the instance in which it is declared
+pub record ProcedureHeld (s : Source) (m : Instances) (k instance : ℕ) : Type 0 where
+  pub around : ℕ
+  pub result : Option TypeName
+  pub heading : syntax.Heading
+  pub body : syntax.Statement
+  pub is : text s k ≡ Some (ProcedureText result heading body)
+  pub stands_in : encloser s.tables k ≡ Some around
+  pub stands : Stands s m instance around
 
 pub data ValAt (s : Source) (code : CodeOf) (m : Instances) : Val → Value → Type 0 where
   plain_at : {p : Plain} → ValAt s code m (meaning.Of p) (machine.Of p)
@@ -299,7 +307,8 @@ pub data ValAt (s : Source) (code : CodeOf) (m : Instances) : Val → Value → 
   array_at : {a : ℕ} → ValAt s code m (meaning.ArrayValue a) (machine.ArrayValue a)
   element_at : {a n : ℕ} → ValAt s code m (meaning.Address (ElementPlace a n None)) (machine.Address (ElementPlace a n 0))
   image_at : {n : ℕ} → ValAt s code m (meaning.Address (ImagePlace n)) (machine.Address (ImagePlace n))
-  actual_at : {home number : ℕ} {e : Expression} → ThunkIs s code m home e number → ValAt s code m (Actual home e) (machine.ThunkValue number home)
+  procedure_at : {k j : ℕ} → ProcedureHeld s m k j → ValAt s code m (meaning.ProcedureValue k j) (machine.ProcedureValue (block_number s k) j)
+  actual_at : {home number : ℕ} {as_procedure : Bool} {e : Expression} → ThunkIs s code m home as_procedure e number → ValAt s code m (Actual home as_procedure e) (machine.ThunkValue number home)
 
 -- A cell of an instance, and its slot in the frame: that of a constant is never looked at, and has the constant's value if it has one.
 abbrev pub fixed_value : Source → Key → Option Val
@@ -355,16 +364,6 @@ pub record FixedIs (s : Source) (m : Instances) (d : ℕ) (v : Val) (x : Value) 
   pub has : HasCell s text (Declared d)
   pub fixed : is_fixed s (Declared d) ≡ true
 
--- a procedure that matches a virtual, with the instance in which it is declared
-pub record MatchIs (s : Source) (m : Instances) (virtual : ℕ) (v : Val) (x : Value) : Type 0 where
-  pub own : ℕ
-  pub text : ℕ
-  pub instance : ℕ
-  pub is_val : v ≡ meaning.ProcedureValue text instance
-  pub is_value : x ≡ machine.ProcedureValue (block_number s text) instance
-  pub there : MatchThere s virtual own text
-  pub stands : Stands s m instance there.around
-
 -- What a parameter by name gave: a value, or where a cell lies, or where a reference lies.
 pub data NamedAt (s : Source) (code : CodeOf) (m : Instances) : Val → Value → Type 0 where
   named_value : {v : Val} {x : Value} → ValAt s code m v x → NamedAt s code m v x
@@ -387,7 +386,6 @@ HandAt s code m (OwnerOf text) v x = OwnerIs s m text v x
 HandAt s code m (LinkOf j) v x = (v ≡ meaning.Link j) × (x ≡ machine.Link j)
 HandAt s code m (Refers k) v x = RefersAt s code m k v x
 HandAt s code m (FixedOf d) v x = FixedIs s m d v x
-HandAt s code m (MatchOf d) v x = MatchIs s m d v x
 HandAt s code m Named v x = NamedAt s code m v x
 
 pub hand_given : (s : Source) (code : CodeOf) (m : Instances) (k : Kind) (v : Val) (x : Value) → IsGiven s k → HandAt s code m k v x → NamedAt s code m v x
@@ -399,7 +397,6 @@ hand_given s code m (LinkTo t) v x g h = absurd g
 hand_given s code m (OwnerOf t) v x g h = absurd g
 hand_given s code m (LinkOf j) v x g h = absurd g
 hand_given s code m (FixedOf d) v x g h = absurd g
-hand_given s code m (MatchOf d) v x g h = absurd g
 
 -- what the later of two stores keeps of the instances: their texts, what they stand for, and what is found from them outward
 pub record Later (s : Source) (m m' : Instances) : Type 0 where
@@ -459,9 +456,9 @@ abbrev pub is_process_level : Source → Option ℕ → Bool
 is_process_level s None = false
 is_process_level s (Some k) = is_process_in s k
 
--- What has that level is an object of a class.
+-- What has that level is an object of a class of the program, or of that class itself.
 abbrev pub HasClass : Source → (own : ℕ) → Type 0
-HasClass s own = (k : ℕ) → LevelOf s.tables own k → is_process_in s k ≡ true → is_class_text (text s own) ≡ true
+HasClass s own = (k : ℕ) → LevelOf s.tables own k → is_process_in s k ≡ true → (is_class_text (text s own) ≡ true) ⊎ (own ≡ k)
 
 -- whether control is behind `inner` of that level, where a process comes to its end
 abbrev pub behind_process : Source → (own : ℕ) → Stage → Bool
@@ -521,7 +518,7 @@ Every j = ⊤
 
 -- the site in a text's code where so many cells and temps are in use
 abbrev pub site_at : (text : ℕ) → Runs → (used : ℕ) → Site
-site_at t b used = record { text = t; room = b.limit; temps = b.temps; used = used; size = length b.block.types }
+site_at t b used = record { text = t; room = b.limit; temps = b.temps; used = used; size = length b.block.types; thunk = b.thunk }
 
 -- there are two images
 pub data IsImage : ℕ → Type 0 where

@@ -2,11 +2,12 @@
 use Rattle.std.proofs.Common.{◌≡◌, ◌≢◌, ◌⊎◌, inl, inr, ◌<◌, ◌≤◌, ◌+◌, ℕ, zero, suc, Bool, true, false, List, [], ◌∷◌, ◌++◌, length, map, Option, Some, None, ⊎_elim, refl, sym, ap, ◌∙◌, subst, arith, append_assoc, append-nil, length-append}
 use Rattle.std.proofs.lemmas.Bool.{cases_eq}
 use Rattle.std.proofs.lemmas.List.{length-map}
-use Rattle.std.specs.Prelude.{◌==◌, ◌&&◌, if◌then◌else◌, slice_get}
+use Rattle.std.specs.Prelude.{◌==◌, ◌&&◌, if◌then◌else◌, pos, slice_get}
 use Rattle.sim_base.specs.declared.numbering.DeclNo.{DeclNo}
 use Rattle.sim_scope.specs.declared.types.Entry.{Entry}
 use Rattle.sim_scope.specs.declared.types.Entry.TheVariants as entry
 use Rattle.sim_scope.specs.Scopes.{entry_of}
+use Rattle.sim_scope.specs.declared.types.StandardClass.TheVariants as standard
 use Rattle.sim_scope.specs.Source.{Source, block_around, block_of}
 use Rattle.sim_scope.specs.Tables as scope
 use Rattle.sim_tree.specs.declared.stmt.TypeName.{TypeName}
@@ -15,13 +16,16 @@ use Rattle.sim_code.specs.declared.code.CodeType.{CodeType}
 use Rattle.sim_code.specs.Code.{BlockOf, CodeOf}
 use Rattle.sim_meaning.specs.Attributes.{first_in, is_connection as is_connection_text}
 use Rattle.sim_meaning.specs.Entries.{cells_from, first_cells, numbers_of, with_cell, with_result}
-use Rattle.sim_meaning.specs.Levels.{has_levels, is_class}
-use Rattle.sim_meaning.specs.Pending.{Connection, Declared, Held, Key, Result, same_key}
+use Rattle.sim_values.specs.Plain.{Integer}
+use Rattle.sim_meaning.specs.Levels.{has_levels, is_class, is_process_itself}
+use Rattle.sim_meaning.specs.Pending.{Connection, Declared, Held, Key, Origin, Result, same_key}
+use Rattle.sim_meaning.specs.Pending as meaning
 use Rattle.sim_meaning.specs.Texts.{BlockText, ClassText, ConnectionText, PrefixedText, ProcedureText, StandardText, Text, text}
-use Rattle.codegen_expr.specs.Sites.{HasCell, LevelOf, block_in_front, block_number, block_of_text, cells_in, connects, expression_temps, frame_text, hidden_before, hidden_from, hidden_in, innermost, is_connected, is_connection, outer, own_end, own_part, place_of, prefix_of, room_of_block, slot_of, start_of, types_in}
+use Rattle.codegen_expr.specs.Sites.{HasCell, LevelOf, block_in_front, block_number, block_of_text, cells_in, connects, expression_temps, frame_text, hidden_before, hidden_from, hidden_in, innermost, is_connected, is_connection, origin_in, outer, own_end, own_part, place_of, prefix_of, room_of_block, slot_of, start_of, types_in}
 use Rattle.codegen.specs.Agrees.{Agrees}
 use Rattle.codegen.specs.Compiled.{CodeHas, Compiled, RecordOf, type_of_cell}
 use Rattle.sim_relate.proofs.ClassTexts.{standard_heads}
+use Rattle.sim_relate.proofs.OfClass.{process_is}
 use Rattle.sim_relate.proofs.Reach.{alone, level_cases, level_either, same_some}
 use Rattle.sim_relate.proofs.Relation.{Laid}
 use Rattle.sim_relate.proofs.Slots.{place_injective, same_is}
@@ -68,6 +72,7 @@ module _ (s : Source) where
     declared_in : {d : DeclNo} → key ≡ Declared d.0 → block_of s d ≡ k → Among k key
     result_in : key ≡ Result → is_class (text s k) ≡ false → Among k key
     hidden_at : (n : ℕ) {b : scope.BlockOf} → key ≡ Connection b.first → slice_get s.tables.blocks n ≡ Some b → is_connection b.kind ≡ true → frame_text s n ≡ k → Among k key
+    origin_at : key ≡ Origin → is_process_itself s k ≡ true → Among k key
 
   -- a declaration among others
   record Listed (ds : List DeclNo) (key : Key) : Type 0 where
@@ -132,7 +137,12 @@ module _ (s : Source) where
     hidden_one true b hs n (suc p) h ec eb e f = f p e
 
     hidden_among : (n : ℕ) (bs : List scope.BlockOf) (p : ℕ) (h : Held) → ((i : ℕ) (b : scope.BlockOf) → slice_get bs i ≡ Some b → slice_get s.tables.blocks (n + i) ≡ Some b) → slice_get (hidden_from s k n bs) p ≡ Some h → Among k h.key
-    hidden_among n [] p h all e = absurd (cc)
+    hidden_among n [] p h all e = by (is_process_itself s k) refl p e
+      where
+        by : (c : Bool) → is_process_itself s k ≡ c → (p : ℕ) → slice_get (origin_in c) p ≡ Some h → Among k h.key
+        by true f zero e = let same : record { key = Origin; value = Some (meaning.Of (Integer (pos 0))) } ≡ h = cc (e) in origin_at (ap (λ z. z.key) (sym same)) f
+        by true f (suc p) e = absurd (cc (e))
+        by false f p e = absurd (cc (e))
     hidden_among n (b ∷ bs) p h all e =
         let here : n + 0 ≡ n = omega arith in
         hidden_one (is_connection b.kind && frame_text s n == k) b (hidden_from s k (suc n) bs) n p h refl (subst (λ z. slice_get s.tables.blocks z ≡ Some b) here (all 0 b refl)) e
@@ -162,6 +172,12 @@ module _ (s : Source) where
       let is' : block_around s b.first ≡ Some n' = ap (block_around s) first ∙ ap (λ z. block_around s (first_in z)) (sym eb') ∙ y in
       sym p ∙ ap (frame_text s) (same_some (block_around s b.first) n n' is is') ∙ q
 
+  -- no other standard class has `process` in front of it
+  origin_once : Agrees s → (own t u : ℕ) → LevelOf s.tables own t → LevelOf s.tables own u → is_process_itself s t ≡ true → is_process_itself s u ≡ true → t ≡ u
+  unfolding is_process_itself
+  origin_once agrees own t u p q a b =
+      ⊎_elim (λ level. agrees.standards t u standard.Process (process_is (text s t) a) (process_is (text s u) b) level) (λ level. sym (agrees.standards u t standard.Process (process_is (text s u) b) (process_is (text s t) a) level)) (level_either s.tables own t u p q)
+
   -- only one level of a text has a cell with this key
   pub only_level : Agrees s → (own t u : ℕ) (key : Key) → LevelOf s.tables own t → LevelOf s.tables own u → HasCell s t key → HasCell s u key → t ≡ u
   only_level agrees own t u key p q ht hu = by_key (among agrees t key ht) (among agrees u key hu)
@@ -176,6 +192,13 @@ module _ (s : Source) where
       by_key (hidden_at n e b c a) (declared_in e' a') = absurd (cc (e, e'))
       by_key (hidden_at n e b c a) (result_in e' a') = absurd (cc (e, e'))
       by_key (hidden_at n {b = x} e b c a) (hidden_at n' {b = x'} e' b' c' a') = connected_once agrees n n' t u x x' (sym e ∙ e') b b' c c' a a'
+      by_key (declared_in e a) (origin_at e' a') = absurd (cc (e, e'))
+      by_key (result_in e a) (origin_at e' a') = absurd (cc (e, e'))
+      by_key (hidden_at n e b c a) (origin_at e' a') = absurd (cc (e, e'))
+      by_key (origin_at e a) (declared_in e' a') = absurd (cc (e, e'))
+      by_key (origin_at e a) (result_in e' a') = absurd (cc (e, e'))
+      by_key (origin_at e a) (hidden_at n e' b c a') = absurd (cc (e, e'))
+      by_key (origin_at e a) (origin_at e' a') = origin_once agrees own t u p q a a'
 
 -- ---- the records of texts and of their levels
 

@@ -6,9 +6,10 @@ use Rattle.sim_scope.specs.Tables.{BlockOf}
 use Rattle.sim_code.specs.Code.{CodeOf}
 use Rattle.sim_code.specs.Machine.{Cells, Value, joined}
 use Rattle.sim_code.proofs.Lifts.{Both}
-use Rattle.sim_meaning.specs.Pending.{Connection, Declared, Held, Instances, Key, Result, Val, held}
+use Rattle.sim_meaning.specs.Levels.{is_process_itself}
+use Rattle.sim_meaning.specs.Pending.{Connection, Declared, Held, Instances, Key, Origin, Result, Val, held}
 use Rattle.sim_meaning.specs.Texts.{text}
-use Rattle.codegen_expr.specs.Sites.{HasCell, cells_in, hidden_before, frame_text, hidden_from, hidden_in, is_connection, own_part, place_of}
+use Rattle.codegen_expr.specs.Sites.{HasCell, cells_in, hidden_before, frame_text, hidden_from, hidden_in, is_connection, origin_in, own_part, place_of}
 use Rattle.codegen.specs.Agrees.{Agrees}
 use Rattle.sim_relate.proofs.Known.{SlotAt, ValAt, is_declared, is_fixed}
 use Rattle.sim_relate.proofs.Frames.{bool_cases, hidden_missing}
@@ -27,18 +28,28 @@ pub undeclared_varies : (s : Source) (key : Key) → is_declared key ≡ false �
 undeclared_varies s (Declared d) e = absurd (cc)
 undeclared_varies s Result e = absurd (cc)
 undeclared_varies s (Connection x) e = refl
+undeclared_varies s Origin e = absurd (cc)
 
 hidden_one_empty : (c : Bool) (b : BlockOf) (hs : List Held) → AllEmpty hs → AllEmpty (hidden_before c b hs)
 hidden_one_empty true b hs a = (refl, a)
 hidden_one_empty false b hs a = a
 
-hidden_empty_from : (s : Source) (k n : ℕ) (bs : List BlockOf) → AllEmpty (hidden_from s k n bs)
-hidden_empty_from s k n [] = tt
-hidden_empty_from s k n (b ∷ bs) = hidden_one_empty (is_connection b.kind && frame_text s n == k) b (hidden_from s k (suc n) bs) (hidden_empty_from s k (suc n) bs)
+hidden_empty_from : (s : Source) (k n : ℕ) (bs : List BlockOf) → is_process_itself s k ≡ false → AllEmpty (hidden_from s k n bs)
+hidden_empty_from s k n [] e = no_origin (is_process_itself s k) e
+  where
+    no_origin : (c : Bool) → c ≡ false → AllEmpty (origin_in c)
+    no_origin false e = tt
+    no_origin true e = absurd (cc (e))
+hidden_empty_from s k n (b ∷ bs) e = hidden_one_empty (is_connection b.kind && frame_text s n == k) b (hidden_from s k (suc n) bs) (hidden_empty_from s k (suc n) bs e)
 
-pub hidden_empty : (s : Source) (k : ℕ) → AllEmpty (hidden_in s k)
+-- the hidden cells are empty at first, but for an origin
+pub hidden_empty : (s : Source) (k : ℕ) → is_process_itself s k ≡ false → AllEmpty (hidden_in s k)
 unfolding hidden_in
-hidden_empty s k = hidden_empty_from s k 0 s.tables.blocks
+hidden_empty s k e = hidden_empty_from s k 0 s.tables.blocks e
+
+-- an origin is in `process` itself alone
+abbrev pub MayLie : Source → ℕ → Key → Type 0
+MayLie s k key = key ≡ Origin → is_process_itself s k ≡ false
 
 module _ (s : Source) (agrees : Agrees s) (k : ℕ) (hs : List Held) (keys : map key_of hs ≡ map key_of (cells_in s k (text s k))) where
   same_place : (key : Key) → place_of key hs ≡ place_of key (cells_in s k (text s k))
@@ -50,23 +61,23 @@ module _ (s : Source) (agrees : Agrees s) (k : ℕ) (hs : List Held) (keys : map
   parts_long : length (own_part s k) ≡ length (cells_in s k (text s k)) + length (hidden_in s k)
   parts_long = length-append (cells_in s k (text s k)) (hidden_in s k)
 
-  undeclared : (key : Key) → HasCell s k key → length (cells_in s k (text s k)) ≤ place_of key (cells_in s k (text s k)) → is_declared key ≡ true → ⊥
+  undeclared : (key : Key) → HasCell s k key → length (cells_in s k (text s k)) ≤ place_of key (cells_in s k (text s k)) → is_declared key ≡ true → MayLie s k key → ⊥
   unfolding hidden_in
-  undeclared key has le e =
+  undeclared key has le e f =
       let place = place_behind key (cells_in s k (text s k)) (hidden_in s k) le in
-      let missing = hidden_missing s agrees key e k 0 s.tables.blocks in
+      let missing = hidden_missing s agrees key e k 0 f s.tables.blocks in
       let long = parts_long in
       omega (arith, has, place, missing, long)
 
   -- the declared cells are there
-  pub declared_there : (key : Key) → HasCell s k key → is_declared key ≡ true → place_of key hs < length hs
-  declared_there key has e =
+  pub declared_there : (key : Key) → HasCell s k key → is_declared key ≡ true → MayLie s k key → place_of key hs < length hs
+  declared_there key has e f =
       let p = same_place key in
       let n = same_length in
-      less_or (place_of key (cells_in s k (text s k))) (length (cells_in s k (text s k))) (λ lt. omega (arith, lt, p, n)) (λ le. absurd (undeclared key has le e))
+      less_or (place_of key (cells_in s k (text s k))) (length (cells_in s k (text s k))) (λ lt. omega (arith, lt, p, n)) (λ le. absurd (undeclared key has le e f))
 
-  pub cells_by_key : (code : CodeOf) (m : Instances) (cells : Cells) → HeldAt s code m hs cells → ((c : ℕ) → length (cells_in s k (text s k)) ≤ c → c < length (own_part s k) → joined (slice_get cells c) ≡ None) → (key : Key) → HasCell s k key → SlotAt s code m (is_fixed s key) key (held key hs) (joined (slice_get cells (place_of key (own_part s k))))
-  cells_by_key code m cells at none key has =
+  pub cells_by_key : (code : CodeOf) (m : Instances) (cells : Cells) → HeldAt s code m hs cells → ((key : Key) → HasCell s k key → MayLie s k key → length (cells_in s k (text s k)) ≤ place_of key (own_part s k) → joined (slice_get cells (place_of key (own_part s k))) ≡ None) → (key : Key) → HasCell s k key → MayLie s k key → SlotAt s code m (is_fixed s key) key (held key hs) (joined (slice_get cells (place_of key (own_part s k))))
+  cells_by_key code m cells at none key has f =
       let p = same_place key in
       let n = same_length in
       less_or (place_of key (cells_in s k (text s k))) (length (cells_in s k (text s k)))
@@ -76,8 +87,8 @@ module _ (s : Source) (agrees : Agrees s) (k : ℕ) (hs : List Held) (keys : map
       (λ le. let place = place_behind key (cells_in s k (text s k)) (hidden_in s k) le in
       let past : length (cells_in s k (text s k)) ≤ place_of key (own_part s k) = omega (arith, place) in
       let missing : held key hs ≡ None = not_held key hs (omega (arith, le, p, n)) in
-      let empty = none (place_of key (own_part s k)) past has in
-      let varies : is_fixed s key ≡ false = bool_cases (is_declared key) (λ e. absurd (undeclared key has le e)) (λ e. undeclared_varies s key e) in
+      let empty = none key has f past in
+      let varies : is_fixed s key ≡ false = bool_cases (is_declared key) (λ e. absurd (undeclared key has le e f)) (λ e. undeclared_varies s key e) in
       both_none (is_fixed s key) (held key hs) (joined (slice_get cells (place_of key (own_part s k)))) varies missing empty)
     where
       both_none : (f : Bool) (v : Option Val) (c : Option Value) → f ≡ false → v ≡ None → c ≡ None → SlotAt s code m f key v c

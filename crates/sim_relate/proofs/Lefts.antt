@@ -22,17 +22,18 @@ use Rattle.sim_code.specs.declared.instr.Instr.TheVariants as i
 use Rattle.sim_code.specs.Code.{CodeOf}
 use Rattle.sim_code.specs.Machine.{Frames}
 use Rattle.sim_meaning.specs.Attributes.{connection_at, declared_attribute}
-use Rattle.sim_meaning.specs.Closing.{by_name, class_of_formal, formal_by_name, left_named as left_held, left_plain, name_denoted, name_term, named_formal, named_text, reference_left, type_of_formal, Left, LeftAddress, LeftCell, LeftNamed, LeftReference, LeftText, LeftUnbuilt, array_left, close, close_all, close_left, close_left_of, close_place, declared_left, formal_left, home_of, in_instance, is_text, left_found, left_in, left_variable, named_left, reference_place, result_left, result_meant, result_or, variable_left, match_left, own_match}
+use Rattle.sim_meaning.specs.Closing.{by_name, class_of_formal, formal_by_name, left_named as left_held, left_plain, name_denoted, name_term, named_formal, named_text, reference_left, type_of_formal, Left, LeftAddress, LeftCell, LeftNamed, LeftReference, LeftText, LeftUnbuilt, array_left, close, close_all, close_left, close_left_of, close_place, declared_left, formal_left, home_of, in_instance, is_text, left_found, left_in, left_variable, named_left, reference_place, result_left, result_meant, result_or, variable_left, match_left, own_match, named_array_left, named_array_place}
 use Rattle.sim_meaning.specs.Pending.{Cell, Declared, Do, ElementOf, Eval, ForPlace, Instances, Item, NamedOf, Result, ShareOp, StoreOp, Target, Term, ToAddress, ToCell, ValueAt}
 use Rattle.sim_meaning.specs.Pending as meaning
 use Rattle.sim_meaning.specs.Statements.{Lefts, assigning, before, lefts}
 use Rattle.codegen_expr.specs.Sites.{At, HasCell, Inside, Is, Site, Varies, frame_text, is_constant}
-use Rattle.codegen_expr.specs.CodeExpr.{ByNameAt, ElementAt, ExprAt, ExprsAt, PlaceAt, ReferencePlaceAt}
+use Rattle.codegen_expr.specs.CodeExpr.{ByNameAt, ElementAt, ExprAt, ExprsAt, PlaceAt, ReferencePlaceAt, ConnectedAt, DeclaredPlaceAt, FormalPlaceAt, NamedArrayPlaceAt, NamedPlaceAt, PlaceBehindAt, ThroughAt}
 use Rattle.codegen.specs.Agrees.{Agrees}
 use Rattle.sim_meaning.specs.Virtuals.{text_of_procedure}
-use Rattle.codegen.specs.CodeLeft.{AtAddress, AtAttribute, GivesAt, GoesAt, InCell, LeftsAt, NotBuilt, ResultAt, SharesAt, StoreAt, Stored, ToNamed, ToNamedReference, ToNamedText, ToReference, ToResult, ToText, below, each_stored, stored, stored_by_sign, stored_held, stored_named_by, stored_or_named, stored_declared, stored_element, stored_formal, stored_found, stored_left, stored_named, stored_of, stored_result, stored_text, stored_variable, stored_match}
+use Rattle.codegen.specs.CodeLeft.{AtAddress, AtAttribute, GivesAt, GoesAt, InCell, LeftsAt, NotBuilt, ResultAt, SharesAt, StoreAt, Stored, ToNamed, ToNamedReference, ToNamedText, ToReference, ToResult, ToText, below, each_stored, stored, stored_by_sign, stored_held, stored_named_by, stored_or_named, stored_declared, stored_element, stored_formal, stored_found, stored_left, stored_named, stored_of, stored_result, stored_text, stored_variable, stored_match, stored_anew}
 use Rattle.sim_relate.proofs.ClassNames.{qualification_classed}
-use Rattle.sim_relate.proofs.Closing.{close_all_at, close_at, count_close, place_at, reference_at, used_at}
+use Rattle.sim_relate.proofs.ClosedNames.{used_at, named_element_at}
+use Rattle.sim_relate.proofs.Closing.{close_all_at, close_at, count_close, place_at, reference_at}
 use Rattle.sim_relate.proofs.Frames.{own_frame}
 use Rattle.sim_relate.proofs.Known.{Any, Finds, IsRead, Kind, LeavesIs, Named, Reaches, Refers, Runs, is_declared, is_fixed, leaves_any, leaves_read, reads, site_at, Settled}
 use Rattle.sim_relate.proofs.Pending.{evals, pends}
@@ -133,14 +134,24 @@ module _ (s : Source) (code : CodeOf) (m : Instances) (inst t : ℕ) (b : Runs) 
         reads = refl;
       }
 
-  left_formal : (d : DeclNo) (es : Expressions) (line : ℕ) (by : Mode) (kind : FormalKind) → Varies s d → LeftFits (stored_formal s d es line by kind) (formal_left s m inst line d by kind es)
-  left_formal d es line mode.ByName kind varies = tt
-  left_formal d es line mode.ByValue shape.Simple varies = left_cell d es varies
-  left_formal d es line mode.ByValue shape.Array varies = left_element d es line varies
-  left_formal d es line mode.ByValue shape.Procedure varies = tt
-  left_formal d es line mode.ByReference shape.Simple varies = left_cell d es varies
-  left_formal d es line mode.ByReference shape.Array varies = left_element d es line varies
-  left_formal d es line mode.ByReference shape.Procedure varies = tt
+  -- of an array by name
+  left_named_element : (d : DeclNo) (e : Expression) (es : Expressions) (line : ℕ) → Varies s d → ((n p q : ℕ) → PlaceAt s code site n 0 e p q → NamedArrayPlaceAt s code site n line 0 d es (ExprsAt s code site (suc n) es) p q) → LeftFits (stored_anew e es) (named_array_left s m inst line d es)
+  left_named_element d e NoMore line varies f = tt
+  left_named_element d e (Then a es) line varies f = λ n p q x.
+      let terms = close_all s m inst (Then a es) in
+      let y = named_element_at s code m inst site agrees reach None d line n (Then a es) (ExprsAt s code site (suc n) (Then a es)) terms (λ p q. close_all_at s code m inst site agrees reach (Then a es) (suc n) p q) (count_close s code m inst site agrees reach (Then a es)) p q varies (f n p q x) in
+      record { tree = named_array_place s m inst line d (Then a es) terms; is = refl; place = y.0; reads = y.1 }
+
+  left_formal : (d : DeclNo) (e : Expression) (es : Expressions) (line : ℕ) (by : Mode) (kind : FormalKind) → Varies s d → ((n p q : ℕ) → PlaceAt s code site n 0 e p q → FormalPlaceAt s code site n line 0 d by kind es (ExprsAt s code site (suc n) es) p q) → LeftFits (stored_formal s e d es line by kind) (formal_left s m inst line d by kind es)
+  left_formal d e es line mode.ByName shape.Simple varies f = tt
+  left_formal d e es line mode.ByName shape.Array varies f = left_named_element d e es line varies f
+  left_formal d e es line mode.ByName shape.Procedure varies f = tt
+  left_formal d e es line mode.ByValue shape.Simple varies f = left_cell d es varies
+  left_formal d e es line mode.ByValue shape.Array varies f = left_element d es line varies
+  left_formal d e es line mode.ByValue shape.Procedure varies f = tt
+  left_formal d e es line mode.ByReference shape.Simple varies f = left_cell d es varies
+  left_formal d e es line mode.ByReference shape.Array varies f = left_element d es line varies
+  left_formal d e es line mode.ByReference shape.Procedure varies f = tt
 
   left_result : (k : ℕ) (es : Expressions) → LeftFits (stored_result k es) (result_left s m inst k es)
   left_result k NoMore = λ ins has.
@@ -148,22 +159,22 @@ module _ (s : Source) (code : CodeOf) (m : Instances) (inst t : ℕ) (b : Runs) 
       record { instance = r.0; is = ap (λ o. left_in o (λ j. LeftCell j Result)) r.2; reaches = r.1; own = own_frame s agrees k Result has refl; varies = refl; declared = refl }
   left_result k (Then e es) = tt
 
-  left_declared : (d : DeclNo) (es : Expressions) (line : ℕ) (o : Option Entry) → entry_of s.tables d ≡ o → LeftFits (stored_declared s d es line o) (declared_left s m inst line d o es)
-  left_declared d es line (Some (entry.Variable type)) is = left_cell d es (ap is_constant is)
-  left_declared d es line (Some (entry.Constant type)) is = tt
-  left_declared d es line (Some (entry.Array element dimensions)) is = left_element d es line (ap is_constant is)
-  left_declared d es line (Some (entry.Formal f)) is = left_formal d es line f.mode f.kind (ap is_constant is)
-  left_declared d es line (Some (entry.Procedure result k)) is = left_result k es
-  left_declared d es line (Some (entry.Class block)) is = tt
-  left_declared d es line (Some (entry.Virtual result own)) is = tt
-  left_declared d es line (Some (entry.Unspecified written)) is = tt
-  left_declared d es line (Some (entry.Attribute name parameter result)) is = tt
-  left_declared d es line None is = tt
+  left_declared : (d : DeclNo) (e : Expression) (es : Expressions) (line : ℕ) (o : Option Entry) → entry_of s.tables d ≡ o → ((n p q : ℕ) → PlaceAt s code site n 0 e p q → DeclaredPlaceAt s code site n line 0 d o es (ExprsAt s code site (suc n) es) p q) → LeftFits (stored_declared s e d es line o) (declared_left s m inst line d o es)
+  left_declared d e es line (Some (entry.Variable type)) is f = left_cell d es (ap is_constant is)
+  left_declared d e es line (Some (entry.Constant type)) is f = tt
+  left_declared d e es line (Some (entry.Array element dimensions)) is f = left_element d es line (ap is_constant is)
+  left_declared d e es line (Some (entry.Formal x)) is f = left_formal d e es line x.mode x.kind (ap is_constant is) f
+  left_declared d e es line (Some (entry.Procedure result k)) is f = left_result k es
+  left_declared d e es line (Some (entry.Class block)) is f = tt
+  left_declared d e es line (Some (entry.Virtual result own)) is f = tt
+  left_declared d e es line (Some (entry.Unspecified written)) is f = tt
+  left_declared d e es line (Some (entry.Attribute name parameter result)) is f = tt
+  left_declared d e es line None is f = tt
 
-  pub left_named : (x : Option Denotation) (es : Expressions) (line : ℕ) → LeftFits (stored_named s x es line) (named_left s m inst line x es)
-  left_named (Some (denotation.Declared d)) es line = left_declared d es line (entry_of s.tables d) refl
-  left_named (Some (denotation.Standard name)) es line = tt
-  left_named None es line = tt
+  pub left_named : (x : Option Denotation) (e : Expression) (es : Expressions) (line : ℕ) → ((n p q : ℕ) → PlaceAt s code site n 0 e p q → NamedPlaceAt s code site n line 0 x es (ExprsAt s code site (suc n) es) p q) → LeftFits (stored_named s e x es line) (named_left s m inst line x es)
+  left_named (Some (denotation.Declared d)) e es line f = left_declared d e es line (entry_of s.tables d) refl f
+  left_named (Some (denotation.Standard name)) e es line f = tt
+  left_named None e es line f = tt
 
   -- the result of a match
   pub left_match : (o : Option ℕ) (x : Stored) (y : Left) → LeftFits x y → LeftFits (stored_match o x) (match_left s m inst o y)
@@ -174,15 +185,18 @@ module _ (s : Source) (code : CodeOf) (m : Instances) (inst t : ℕ) (b : Runs) 
   left_place : (e : Expression) → LeftFits (AtAttribute e) (LeftAddress (close_place s m inst e))
   left_place e = λ n p q a. let x = place_at s code m inst site agrees reach None e n p q a in record { tree = close_place s m inst e; is = refl; place = x.0; reads = x.1 }
 
-  left_by : {A : Type 0} (o : Option A) (e : Expression) (x : Stored) (y : Left) → LeftFits x y → LeftFits (stored_found o e x) (left_found o (close_place s m inst e) y)
-  left_by None e x y h = h
+  left_by : {A : Type 0} (o : Option A) (e : Expression) (x : Stored) (y : Left) → (o ≡ None → LeftFits x y) → LeftFits (stored_found o e x) (left_found o (close_place s m inst e) y)
+  left_by None e x y h = h refl
   left_by (Some z) e x y h = left_place e
 
   pub left_at : (e : Expression) → LeftFits (stored_left s e) (left_variable s m inst e)
   left_at (syntax.Named name es) =
-      left_by (connection_at s name.token.0) (syntax.Named name es) (stored_match (text_of_procedure s (own_match s (syntax.Named name es))) (stored_named s (denoted s name.token.0) es (line_at s name.token.0))) (match_left s m inst (text_of_procedure s (own_match s (syntax.Named name es))) (named_left s m inst (line_at s name.token.0) (denoted s name.token.0) es))
-      (left_match (text_of_procedure s (own_match s (syntax.Named name es))) (stored_named s (denoted s name.token.0) es (line_at s name.token.0)) (named_left s m inst (line_at s name.token.0) (denoted s name.token.0) es) (left_named (denoted s name.token.0) es (line_at s name.token.0)))
-  left_at (syntax.Dot token x name es) = left_by (declared_attribute (denoted s name.token.0)) (syntax.Dot token x name es) NotBuilt LeftUnbuilt tt
+      let line = line_at s name.token.0 in
+      let whole : Expression = syntax.Named name es in
+      left_by (connection_at s name.token.0) whole (stored_match (text_of_procedure s (own_match s whole)) (stored_named s whole (denoted s name.token.0) es line)) (match_left s m inst (text_of_procedure s (own_match s whole)) (named_left s m inst line (denoted s name.token.0) es)) (λ none.
+      left_match (text_of_procedure s (own_match s whole)) (stored_named s whole (denoted s name.token.0) es line) (named_left s m inst line (denoted s name.token.0) es) (left_named (denoted s name.token.0) whole es line (λ n p q a.
+      subst (λ o. ThroughAt o (λ k. PlaceBehindAt s code line 0 (denoted s name.token.0) es (ConnectedAt s code site n k) (ExprsAt s code site (suc n) es)) (NamedPlaceAt s code site n line 0 (denoted s name.token.0) es (ExprsAt s code site (suc n) es)) p q) none a)))
+  left_at (syntax.Dot token x name es) = left_by (declared_attribute (denoted s name.token.0)) (syntax.Dot token x name es) NotBuilt LeftUnbuilt (λ none. tt)
   left_at (syntax.If token c x y) = tt
   left_at (syntax.Binary op token x y) = tt
   left_at (syntax.Not token x) = tt
@@ -212,7 +226,7 @@ module _ (s : Source) (code : CodeOf) (m : Instances) (inst t : ℕ) (b : Runs) 
 
   -- through a parameter by name
   named_found : (d : DeclNo) (line n p q : ℕ) → Varies s d → ByNameAt s code site n d NoMore (ForPlace false line) p q → NamedFound line n p q (name_term s m inst d NoMore (ForPlace false line))
-  named_found d line n p q varies a = used_at s code m inst site agrees reach d NoMore (ForPlace false line) n (λ x. NamedFound line n p q x) p q varies tt (λ j b. record { instance = j; key = Declared d.0; is = refl; place = b }) a
+  named_found d line n p q varies a = used_at s code m inst site agrees reach d NoMore (ForPlace false line) n (λ x. NamedFound line n p q x) p q varies tt tt (λ j b. record { instance = j; key = Declared d.0; is = refl; place = b }) a
 
   named_place : (d : DeclNo) (line : ℕ) → Varies s d → LeftFits (ToNamed d line) (LeftAddress (name_term s m inst d NoMore (ForPlace false line)))
   named_place d line varies = λ n p q a.

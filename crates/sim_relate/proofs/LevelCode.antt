@@ -1,8 +1,8 @@
 -- The code of the levels of an instance, as the code of its program has it, and the work of a level.
-use Rattle.std.proofs.Common.{◌+◌, ◌≡◌, ◌<◌, ◌≤◌, ℕ, zero, suc, Bool, true, false, List, [], ◌∷◌, length, Option, Some, None, refl, sym, ap, ◌∙◌, subst, arith}
+use Rattle.std.proofs.Common.{◌+◌, ◌⊎◌, inl, inr, ◌≡◌, ◌<◌, ◌≤◌, ℕ, zero, suc, Bool, true, false, List, [], ◌∷◌, length, Option, Some, None, refl, sym, ap, ◌∙◌, subst, arith}
 use Rattle.std.specs.Prelude.{drop, not, pos, slice_get}
 use Rattle.sim_scope.specs.Access.{encloser}
-use Rattle.sim_scope.specs.Source.{Source}
+use Rattle.sim_scope.specs.Source.{Source, level_of}
 use Rattle.sim_tree.specs.Syntax.{Also, Declarations, NoStatement, Statements}
 use Rattle.sim_code.specs.declared.instr.Instr.TheVariants as i
 use Rattle.sim_code.specs.declared.stage.Stage.{Stage}
@@ -14,9 +14,9 @@ use Rattle.sim_meaning.specs.Levels.{both, has_levels, level_made, levels_made, 
 use Rattle.sim_meaning.specs.Objects.{level_work, no_line, process_begun, process_done, with_inner}
 use Rattle.sim_meaning.specs.Pending.{Do, EndProcessOp, Execs, InnerOp, Instances, Item, Level, SelfOp, TransferOp}
 use Rattle.sim_meaning.specs.Texts.{text}
-use Rattle.codegen_expr.specs.Sites.{expression_temps, Is, LevelOf, Site, block_in_front, block_number, block_of_text, frame_text, innermost, outer, own_end, prefix_of, room_of_block}
+use Rattle.codegen_expr.specs.Sites.{Pushes, expression_temps, Is, LevelOf, Site, block_in_front, block_number, block_of_text, frame_text, innermost, outer, own_end, prefix_of, room_of_block}
 use Rattle.codegen.specs.CodeArrays.{ArraysAt}
-use Rattle.codegen.specs.CodeStm.{EndsAt, LevelAt, ProcessAt, subclasses}
+use Rattle.codegen.specs.CodeStm.{EndsAt, LevelAt, ProcessAt, StmsAt, WithInnerAt, is_class_text, origins, subclasses}
 use Rattle.codegen.specs.Compiled.{Compiled, site_of}
 use Rattle.sim_relate.proofs.ClassLevels.{class_levels, level_levels, levels_solid, numbered}
 use Rattle.sim_relate.proofs.ClassTexts.{ClassHas, LevelHas, class_has}
@@ -277,18 +277,22 @@ module _ (s : Source) (code : CodeOf) (compiled : Compiled s code) where
         pends_in s code m fs Below inst k at_runs used (low_here (stage.Stating n)) w (InnerOp xs) k (spot k behind_runs used) p a.class.after_inner [] [] (same_frame s k)
         (inner_last xs refl (record { place = n; at = at_inner; is = is; inside = inside })) work
 
+    -- no thunk runs a level
+    as_here : (A : Site → Type 0) → A (site_of s code k a.block) → A (record (site_of s code k a.block) { thunk = b.thunk })
+    as_here A h = subst (λ z. A (record (site_of s code k a.block) { thunk = z })) (sym a.level.base) h
+
     others_begin : (xs : List Level) (w : List Item) → levels_made s (drop (suc n) (levels_of s b.own)) ≡ Some xs → is_process_in s k ≡ false → Pends behind_runs w a.stop []
         → (written last : Bool) → last ≡ not written → LevelAt s code (site_of s code k a.block) n a.class.after_inner written x.statements a.class.statements a.stop → Pends at_runs (Do (Execs x.statements) ∷ with_inner last xs w) a.class.statements []
     others_begin xs w inside ordinary work true true e h = absurd (cc)
     others_begin xs w inside ordinary work true false e h =
         pends_in s code m fs Below inst k at_runs used (low_here (stage.Stating n)) w (Execs x.statements) k (spot k behind_runs used) a.class.statements a.stop [] [] (same_frame s k)
-        (among_them x.statements refl (record { place = n; after = a.class.after_inner; at = at_inner; is = h; ordinary = ordinary })) work
+        (among_them x.statements refl (record { place = n; after = a.class.after_inner; at = at_inner; is = as_here (λ z. WithInnerAt s code z n a.class.after_inner x.statements a.class.statements a.stop) h; ordinary = ordinary })) work
     others_begin xs w inside ordinary work false false e h = absurd (cc)
     others_begin xs w inside ordinary work false true e h =
-        pends s code m fs Below inst k at_runs used settled_here (Do (InnerOp xs) ∷ w) (Execs x.statements) a.class.statements h.x [] [] (h.statements, refl)
+        pends s code m fs Below inst k at_runs used settled_here (Do (InnerOp xs) ∷ w) (Execs x.statements) a.class.statements h.x [] [] (as_here (λ z. StmsAt s code z 0 x.statements a.class.statements h.x) h.statements, refl)
         (inner_pends xs w h.x inside h.inner (subst (λ z. Pends behind_runs w z []) h.on work))
 
-    process_ends : (w : List Item) → is_process_in s k ≡ true → (around : ℕ) → encloser s.tables k ≡ Some around → EndsAt s code (site_of s code k a.block) around (subclasses s k) a.class.after_inner a.stop → Pends behind_runs w a.stop [] → Pends behind_runs (Do EndProcessOp ∷ w) a.class.after_inner []
+    process_ends : (w : List Item) → is_process_in s k ≡ true → (around : ℕ) → encloser s.tables k ≡ Some around → EndsAt s code (site_of s code k a.block) around (subclasses s k) (origins s k) a.class.after_inner a.stop → Pends behind_runs w a.stop [] → Pends behind_runs (Do EndProcessOp ∷ w) a.class.after_inner []
     process_ends w process around is_around ends work =
         pends_in s code m fs Below inst k behind_runs used (low_here (stage.Behind n)) w EndProcessOp k (spot k behind_runs used) a.class.after_inner a.stop [] [] (same_frame s k)
         (ends_process refl (record {
@@ -301,24 +305,24 @@ module _ (s : Source) (code : CodeOf) (compiled : Compiled s code) where
           is_around = is_around;
           classes = subclasses s k;
           each_class = each_class s k;
-          own_at = own.0;
-          own_is = own.1;
-          ends = ends;
+          own = own (a.level.of_class k a.level.level process);
+          ends = as_here (λ z. EndsAt s code z around (subclasses s k) (origins s k) a.class.after_inner a.stop) ends;
           low = refl;
           goes_on = refl;
           none = refl;
           none_behind = refl;
         })) work
       where
-        own : (n : ℕ) × (slice_get (subclasses s k) n ≡ Some b.own)
-        own = own_class s k compiled.agrees b.own (levels_solid s code compiled b.own (levels_around b.own k a.level.level a.level.has)) (a.level.of_class k a.level.level process) a.level.level
+        own : (is_class_text (text s b.own) ≡ true) ⊎ (b.own ≡ k) → ((n : ℕ) × (slice_get (subclasses s k) n ≡ Some b.own)) ⊎ (b.own ≡ k)
+        own (inl class) = inl (own_class s k compiled.agrees b.own (levels_solid s code compiled b.own (levels_around b.own k a.level.level a.level.has)) class a.level.level)
+        own (inr same) = inr same
 
     process_begins : (xs : List Level) (w : List Item) → levels_made s (drop (suc n) (levels_of s b.own)) ≡ Some xs → is_process_in s k ≡ true → Pends behind_runs w a.stop [] → (last : Bool) → last ≡ true → (ss : Statements) → ss ≡ NoStatement
         → ProcessAt s code (site_of s code k a.block) n a.class.statements a.class.after_inner a.stop → Pends at_runs (Do SelfOp ∷ Do (TransferOp Detaching no_line) ∷ Do (Execs ss) ∷ with_inner last xs (Do EndProcessOp ∷ w)) a.class.statements []
     process_begins xs w inside process work false e ss none h = absurd (cc)
     process_begins xs w inside process work true e (Also y more) none h = absurd (cc)
     process_begins xs w inside process work true e NoStatement none h =
-        pends s code m fs Below inst k at_runs used settled_here (Do (TransferOp Detaching no_line) ∷ Do (Execs NoStatement) ∷ Do (InnerOp xs) ∷ Do EndProcessOp ∷ w) SelfOp a.class.statements h.a [] (Any ∷ []) (record { push = h.this; out = refl })
+        pends s code m fs Below inst k at_runs used settled_here (Do (TransferOp Detaching no_line) ∷ Do (Execs NoStatement) ∷ Do (InnerOp xs) ∷ Do EndProcessOp ∷ w) SelfOp a.class.statements h.a [] (Any ∷ []) (record { push = as_here (λ z. Pushes code z 0 (i.This (pos (level_of s k))) a.class.statements h.a) h.this; out = refl })
         (pends s code m fs Below inst k at_runs used settled_here (Do (Execs NoStatement) ∷ Do (InnerOp xs) ∷ Do EndProcessOp ∷ w) (TransferOp Detaching no_line) h.a h.b (Any ∷ []) [] (record { is = h.detach; left = []; «in» = refl; out = refl })
         (pends s code m fs Below inst k at_runs used settled_here (Do (InnerOp xs) ∷ Do EndProcessOp ∷ w) (Execs NoStatement) h.b h.b [] [] (refl, refl)
         (inner_pends xs (Do EndProcessOp ∷ w) h.b inside h.inner (process_ends w process h.around h.is_around h.ends work))))

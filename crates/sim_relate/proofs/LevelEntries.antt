@@ -41,7 +41,7 @@ use Rattle.sim_relate.proofs.ClassLevels.{later_block, levels_numbers, levels_so
 use Rattle.sim_relate.proofs.ClassTexts.{ClassHas}
 use Rattle.sim_relate.proofs.Ends.{chosen}
 use Rattle.sim_relate.proofs.Entering.{chain_entered, enters, instance_of, later_fs, later_m, new_frame, parked_entered}
-use Rattle.sim_relate.proofs.FirstCells.{all_attributes, attributes_count, first_cells_of, made_cells}
+use Rattle.sim_relate.proofs.FirstCells.{all_attributes, attributes_count, made_cells}
 use Rattle.sim_relate.proofs.Known.{HasClass, Runs, Stands, ValAt}
 use Rattle.sim_relate.proofs.Laying.{laid}
 use Rattle.sim_relate.proofs.LevelCells.{CellsOf, Fills, FormalCell, FormalCells, MayFill, fill, fills, no_fill}
@@ -90,7 +90,7 @@ module _ (s : Source) (code : CodeOf) (compiled : Compiled s code) (l : Limits) 
   abbrev Related : Configuration → Machine → Type 0
   Related = StateAt s code
 
-  module _ (g line : ℕ) (x : ClassHas s code g) (values : List Val) (values' : List Value) (each : EachAt (ValAt s code m) values values') (j around : ℕ) (stands_in : encloser s.tables g ≡ Some around) (link : Stands s m j around) (of_class : HasClass s g) where
+  module _ (g line : ℕ) (x : ClassHas s code g) (values : List Val) (values' : List Value) (each : EachAt (ValAt s code m) values values') (j around : ℕ) (stands_in : encloser s.tables g ≡ Some around) (link : Stands s m j around) (of_class : HasClass s g) (all : List Level → List Held) (all_there : (xs : List Level) → levels_made s (levels_of s g) ≡ Some xs → CellsOf s code m g (all xs) (machine.first_cells x.block)) where
     tables : Agrees s
     tables = compiled.agrees
 
@@ -118,10 +118,6 @@ module _ (s : Source) (code : CodeOf) (compiled : Compiled s code) (l : Limits) 
     number_here : class_number s code g ≡ new_block.class
     number_here = number_is s code compiled g x
 
-    -- the cells before they are filled
-    first_here : CellsOf s code m g attributes (machine.first_cells new_block)
-    first_here = first_cells_of s code m compiled (levels_laid s code compiled) g x
-
     first_long : length (machine.first_cells new_block) ≡ length new_block.types
     first_long = length-map new_block.types machine.first_value
 
@@ -133,8 +129,8 @@ module _ (s : Source) (code : CodeOf) (compiled : Compiled s code) (l : Limits) 
         let same : k ≡ m' = omega (arith, at) in
         subst (λ z. FormalCell s code g parameter z d) same (subst (λ z. FormalCell s code g (parameter_cell code z) k d) number_here (formal_cell s code compiled g x.levels k d is))
 
-    filling : MayFill s code m g parameter values values' formals 0 attributes (machine.first_cells new_block)
-    filling = fill s code m g laid_here parameter (length new_block.types) (λ v key level has. laid_here.fits v key new_block level has x.found) values values' formals 0 attributes (machine.first_cells new_block) each first_here formals_here first_long
+    filling : (xs : List Level) → levels_made s (levels_of s g) ≡ Some xs → MayFill s code m g parameter values values' formals 0 (all xs) (machine.first_cells new_block)
+    filling xs made = fill s code m g laid_here parameter (length new_block.types) (λ v key level has. laid_here.fits v key new_block level has x.found) values values' formals 0 (all xs) (machine.first_cells new_block) each (all_there xs made) formals_here first_long
 
     words : (process : Bool) → instance_words new_block.cells process ≡ instance_words (length attributes) process
     words process = ap (λ n. instance_words n process) (attributes_count s code m compiled (levels_laid s code compiled) g x)
@@ -180,7 +176,7 @@ module _ (s : Source) (code : CodeOf) (compiled : Compiled s code) (l : Limits) 
           abbrev begins : Runs
           begins = (at_level s code runs k0 outermost.block (stage.Declaring 0)).runs
 
-          module _ (r : Fills s code m g parameter values values' formals 0 attributes (machine.first_cells new_block)) where
+          module _ (r : Fills s code m g parameter values values' formals 0 (all (x0 ∷ xs)) (machine.first_cells new_block)) where
             abbrev new : Instance (List Held)
             new = new_instance s g (Some j) r.now
 
@@ -236,24 +232,24 @@ module _ (s : Source) (code : CodeOf) (compiled : Compiled s code) (l : Limits) 
                 (follows outermost.class.declarations r.frame _ supplied_is
                 (alike_entering Configuration Machine Related l line line (instance_words (length attributes) process) (instance_words new_block.cells frame_process) o _ _ refl (ap (instance_words new_block.cells) processes ∙ words process) (λ p. in_world _ _ _ _ (ap frame_grow (worlds_same p) ∙ grown (arrays_given (length m.instances) values p)) entered_state)))
 
-          from_filling : MayFill s code m g parameter values values' formals 0 attributes (machine.first_cells new_block) → Alike Related (From (x0 ∷ xs) attributes (filled_in values (Some attributes) formals)) Levelled
+          from_filling : MayFill s code m g parameter values values' formals 0 (all (x0 ∷ xs)) (machine.first_cells new_block) → Alike Related (From (x0 ∷ xs) attributes (filled_in values (Some (all (x0 ∷ xs))) formals)) Levelled
           unfolding having no_rule
           from_filling (no_fill e) = subst (λ z. Alike Related (From (x0 ∷ xs) attributes z) Levelled) (sym e) unruled
           from_filling (fills r) = subst (λ z. Alike Related (From (x0 ∷ xs) attributes z) Levelled) (sym r.is) (enters_so r)
 
-          made_alike : levels_made s (levels_of s g) ≡ Some (x0 ∷ xs) → Alike Related (From (x0 ∷ xs) (cells_of_levels s (x0 ∷ xs)) (filled_in values (Some (cells_of_levels s (x0 ∷ xs))) formals)) Levelled
+          made_alike : levels_made s (levels_of s g) ≡ Some (x0 ∷ xs) → Alike Related (From (x0 ∷ xs) (cells_of_levels s (x0 ∷ xs)) (filled_in values (Some (all (x0 ∷ xs))) formals)) Levelled
           made_alike made =
-              subst (λ z. Alike Related (From (x0 ∷ xs) z (filled_in values (Some z) formals)) Levelled) (sym (made_cells s (levels_of s g) (x0 ∷ xs) made)) (from_filling filling)
+              subst (λ z. Alike Related (From (x0 ∷ xs) z (filled_in values (Some (all (x0 ∷ xs))) formals)) Levelled) (sym (made_cells s (levels_of s g) (x0 ∷ xs) made)) (from_filling (filling (x0 ∷ xs) made))
 
         none_there : levels_of s g ≡ [] → ⊥
         none_there e = let some = levels_some s tables g connected in let many = ap length e in omega (arith, some, many)
 
-        by_levels : (levels_there : Option (List Level)) → levels_made s (levels_of s g) ≡ levels_there → Alike Related (having levels_there o (λ xs. From xs (cells_of_levels s xs) (filled_in values (Some (cells_of_levels s xs)) formals))) Levelled
+        by_levels : (levels_there : Option (List Level)) → levels_made s (levels_of s g) ≡ levels_there → Alike Related (having levels_there o (λ xs. From xs (cells_of_levels s xs) (filled_in values (Some (all xs)) formals))) Levelled
         unfolding having no_rule
         by_levels None e = unruled
         by_levels (Some []) e = absurd (none_there (none_made s (levels_of s g) e))
         by_levels (Some (x0 ∷ xs)) e = let p = made_of s (levels_of s g) x0 xs e in made_alike p.number p.more x0 xs p.is p.first p.rest e
 
-        pub entry_alike : Alike Related (having (levels s g) o (λ xs. From xs (cells_of_levels s xs) (filled_in values (Some (cells_of_levels s xs)) formals))) Levelled
+        pub entry_alike : Alike Related (having (levels s g) o (λ xs. From xs (cells_of_levels s xs) (filled_in values (Some (all xs)) formals))) Levelled
         unfolding levels
         entry_alike = by_levels (levels_made s (levels_of s g)) refl

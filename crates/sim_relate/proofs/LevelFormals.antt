@@ -16,7 +16,7 @@ use Rattle.sim_code.specs.Levels.{extent, own_or_outer, parameter_by, parameter_
 use Rattle.sim_code.specs.Levels as code_levels
 use Rattle.sim_meaning.specs.Closing.{class_parameters}
 use Rattle.sim_meaning.specs.Closing as closing
-use Rattle.sim_meaning.specs.Entries.{cells_from, numbers_in, numbers_of}
+use Rattle.sim_meaning.specs.Entries.{cells_from, numbers_in, numbers_of, of_formal}
 use Rattle.sim_meaning.specs.Levels.{has_levels}
 use Rattle.sim_meaning.specs.Pending.{Declared}
 use Rattle.sim_meaning.specs.Pending as meaning
@@ -60,7 +60,7 @@ module _ (s : Source) where
   taken_get (suc f) (x ∷ ds) (suc k) d e = taken_get f ds k d e
 
   -- with the cell of a formal in front
-  front_cell : (x : DeclNo) (f : Formal) (ds : List DeclNo) → entry_of s.tables x ≡ Some (entry.Formal f) → cells_from s (x ∷ ds) ≡ record { key = Declared x.0; value = None } ∷ cells_from s ds
+  front_cell : (x : DeclNo) (f : Formal) (ds : List DeclNo) → entry_of s.tables x ≡ Some (entry.Formal f) → cells_from s (x ∷ ds) ≡ record { key = Declared x.0; value = of_formal f.mode f.kind f.ty } ∷ cells_from s ds
   front_cell x f ds e = rw e
 
   same_number : (x d : DeclNo) → x.0 ≡ d.0 → x ≡ d
@@ -196,8 +196,8 @@ module _ (s : Source) (code : CodeOf) (compiled : Compiled s code) where
   pub formals_many : (k : ℕ) (x : ClassHas s code k) → is_connected s.tables k ≡ false → length x.block.formals ≡ length (class_formals s.tables k)
   formals_many k x c =
       let heads = x.has.heads in
-      let f = ap length (heads.formals ∙ ap (map code_formal) x.parameters) in
-      let p = length-map (class_parameters s (Some k)) code_formal in
+      let f = ap length (heads.formals ∙ ap (map (code_formal s code)) x.parameters) in
+      let p = length-map (class_parameters s (Some k)) (code_formal s code) in
       let q = parameters_count s agrees k c in
       omega (arith, f, p, q)
 

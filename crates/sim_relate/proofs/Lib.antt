@@ -16,6 +16,7 @@ pub mod Parameters
 pub mod Reach
 pub mod Formals
 pub mod ActualTrees
+pub mod ClosedNames
 pub mod Closing
 pub mod Heads
 pub mod LevelLists
@@ -103,3 +104,7 @@ pub mod Tops
 pub mod Resited
 pub mod Givens
 pub mod Evaluations
+pub mod Checked
+pub mod CheckedFits
+pub mod HeldFormals
+pub mod Origins

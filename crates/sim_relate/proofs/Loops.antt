@@ -39,7 +39,7 @@ use Rattle.sim_meaning.specs.Statements.{controlled, controlled_left, finding, l
 use Rattle.sim_meaning.specs.Steps.{go}
 use Rattle.sim_meaning.specs.Texts.{text}
 use Rattle.codegen_expr.specs.Sites.{Inside, Is, Site, HasCell, Pushes, slot_of}
-use Rattle.codegen_expr.specs.CodeExpr.{ExprAt, PlaceAt}
+use Rattle.codegen_expr.specs.CodeExpr.{ExprAt, PlaceAt, ConnectedAt, ExprsAt, NamedPlaceAt, PlaceBehindAt, ThroughAt}
 use Rattle.codegen.specs.Agrees.{Agrees}
 use Rattle.codegen.specs.CodeFor.{OfCell, OfPlace, OfReference, PutsAt, TakesValues, variable_of, variable_stored, ElementsAt, ForAt, ListAt, LoadsVariable, OneElementAt, SharedAt, StoresVariable, Variable, is_empty, GivesVariable, assigned_by}
 use Rattle.sim_meaning.specs.Virtuals.{text_of_procedure}
@@ -48,7 +48,7 @@ use Rattle.codegen.specs.CodeStm.{StmAt}
 use Rattle.sim_relate.proofs.Closing.{place_at, reference_at}
 use Rattle.sim_relate.proofs.Frames.{same_frame}
 use Rattle.sim_relate.proofs.Trees.{FetchIs, FetchesAt}
-use Rattle.sim_relate.proofs.Known.{Named, Finds, FixedOf, IsRead, LinkTo, Located, OwnerOf, Refers, gives, kind_read, leaves_kind, left_kind, place_kind, place_target, read_kind, reads, reads_kind, Any, HandAt, Kind, StackAt, anys, more_at, plain_at, site_at, variable_target, Runs, spot, Settled, LinkOf, MatchOf}
+use Rattle.sim_relate.proofs.Known.{Named, Finds, FixedOf, IsRead, LinkTo, Located, OwnerOf, Refers, gives, kind_read, leaves_kind, left_kind, place_kind, place_target, read_kind, reads, reads_kind, Any, HandAt, Kind, StackAt, anys, more_at, plain_at, site_at, variable_target, Runs, spot, Settled, LinkOf}
 use Rattle.sim_relate.proofs.Operations.{StoreIs}
 use Rattle.sim_relate.proofs.Relation.{BeginsAt, CellVariableIs, ChainAt, ComesTo, OpAt, PlaceVariableIs, StateAt, TurnOf, VariableIs, WorkAt, over, stays, straight, there, turning}
 use Rattle.sim_relate.proofs.Hands.{hand_plain}
@@ -166,7 +166,6 @@ module _ (s : Source) (code : CodeOf) (l : Limits) (agrees : Agrees s) (o : Worl
   fetched_kind (LinkTo text) r n z p' is = absurd r
   fetched_kind (OwnerOf text) r n z p' is = absurd r
   fetched_kind (LinkOf j) r n z p' is = absurd r
-  fetched_kind (MatchOf d) r n z p' is = absurd r
   fetched_kind (Refers class) r n z p' is = absurd r
   fetched_kind (FixedOf d) r n z p' is = absurd r
 
@@ -418,35 +417,37 @@ module _ (s : Source) (code : CodeOf) (l : Limits) (agrees : Agrees s) (o : Worl
   variable_alone d NoMore = tt
   variable_alone d (Then e es) = tt
 
-  formal_alone : (d : DeclNo) (es : Expressions) (line : ℕ) (by : Mode) (kind : FormalKind) → NoAttribute (stored_formal s d es line by kind)
-  formal_alone d es line mode.ByName kind = tt
-  formal_alone d es line mode.ByValue shape.Simple = variable_alone d es
-  formal_alone d es line mode.ByValue shape.Array = element_alone d es line
-  formal_alone d es line mode.ByValue shape.Procedure = tt
-  formal_alone d es line mode.ByReference shape.Simple = variable_alone d es
-  formal_alone d es line mode.ByReference shape.Array = element_alone d es line
-  formal_alone d es line mode.ByReference shape.Procedure = tt
+  formal_alone : (d : DeclNo) (x : Expression) (line : ℕ) (by : Mode) (kind : FormalKind) → NoAttribute (stored_formal s x d NoMore line by kind)
+  formal_alone d x line mode.ByName shape.Simple = tt
+  formal_alone d x line mode.ByName shape.Array = tt
+  formal_alone d x line mode.ByName shape.Procedure = tt
+  formal_alone d x line mode.ByValue shape.Simple = variable_alone d NoMore
+  formal_alone d x line mode.ByValue shape.Array = element_alone d NoMore line
+  formal_alone d x line mode.ByValue shape.Procedure = tt
+  formal_alone d x line mode.ByReference shape.Simple = variable_alone d NoMore
+  formal_alone d x line mode.ByReference shape.Array = element_alone d NoMore line
+  formal_alone d x line mode.ByReference shape.Procedure = tt
 
   result_alone : (z : ℕ) (es : Expressions) → NoAttribute (stored_result z es)
   result_alone z NoMore = tt
   result_alone z (Then e es) = tt
 
-  declared_alone : (d : DeclNo) (es : Expressions) (line : ℕ) (o : Option Entry) → NoAttribute (stored_declared s d es line o)
-  declared_alone d es line (Some (entry.Variable type)) = variable_alone d es
-  declared_alone d es line (Some (entry.Constant type)) = tt
-  declared_alone d es line (Some (entry.Array element dimensions)) = element_alone d es line
-  declared_alone d es line (Some (entry.Formal f)) = formal_alone d es line f.mode f.kind
-  declared_alone d es line (Some (entry.Procedure result z)) = result_alone z es
-  declared_alone d es line (Some (entry.Class block)) = tt
-  declared_alone d es line (Some (entry.Virtual result own)) = tt
-  declared_alone d es line (Some (entry.Unspecified written)) = tt
-  declared_alone d es line (Some (entry.Attribute name parameter result)) = tt
-  declared_alone d es line None = tt
+  declared_alone : (d : DeclNo) (x : Expression) (line : ℕ) (o : Option Entry) → NoAttribute (stored_declared s x d NoMore line o)
+  declared_alone d x line (Some (entry.Variable type)) = variable_alone d NoMore
+  declared_alone d x line (Some (entry.Constant type)) = tt
+  declared_alone d x line (Some (entry.Array element dimensions)) = element_alone d NoMore line
+  declared_alone d x line (Some (entry.Formal f)) = formal_alone d x line f.mode f.kind
+  declared_alone d x line (Some (entry.Procedure result z)) = result_alone z NoMore
+  declared_alone d x line (Some (entry.Class block)) = tt
+  declared_alone d x line (Some (entry.Virtual result own)) = tt
+  declared_alone d x line (Some (entry.Unspecified written)) = tt
+  declared_alone d x line (Some (entry.Attribute name parameter result)) = tt
+  declared_alone d x line None = tt
 
-  named_alone : (x : Option Denotation) (es : Expressions) (line : ℕ) → NoAttribute (stored_named s x es line)
-  named_alone (Some (denotation.Declared d)) es line = declared_alone d es line (entry_of s.tables d)
-  named_alone (Some (denotation.Standard name)) es line = tt
-  named_alone None es line = tt
+  named_alone : (u : Option Denotation) (x : Expression) (line : ℕ) → NoAttribute (stored_named s x u NoMore line)
+  named_alone (Some (denotation.Declared d)) x line = declared_alone d x line (entry_of s.tables d)
+  named_alone (Some (denotation.Standard name)) x line = tt
+  named_alone None x line = tt
 
   match_alone : (o : Option ℕ) (x : Stored) → NoAttribute x → NoAttribute (stored_match o x)
   match_alone None x n = n
@@ -468,17 +469,18 @@ module _ (s : Source) (code : CodeOf) (l : Limits) (agrees : Agrees s) (o : Worl
     looped_stored (ToNamedReference d class line) v n fit h = absurd h
     looped_stored NotBuilt v n fit h = absurd h
 
-    looped_found : (c : Option ℕ) (x : Expression) (st : Stored) (v : Left) → NoAttribute st → LeftFits s code m inst t b u agrees reaching_here st v → ForAt s code (site_at t b u) (length ks) (variable_stored (stored_found c x st) by) (is_empty a) es (λ site. StmAt s code site (length ks) a) y q → Loops (left_found c (close_place s m inst x) v)
-    looped_found None x st v n fit h = looped_stored st v n fit h
+    looped_found : (c : Option ℕ) (x : Expression) (st : Stored) (v : Left) → NoAttribute st → (c ≡ None → LeftFits s code m inst t b u agrees reaching_here st v) → ForAt s code (site_at t b u) (length ks) (variable_stored (stored_found c x st) by) (is_empty a) es (λ site. StmAt s code site (length ks) a) y q → Loops (left_found c (close_place s m inst x) v)
+    looped_found None x st v n fit h = looped_stored st v n (fit refl) h
     looped_found (Some z) x st v n fit h = looped p (OfPlace x by) (target (LeftAddress (close_place s m inst x))) es a y (meant_place x by target places) h.1 e
 
     looped_named : (x : Identifier) → ForAt s code (site_at t b u) (length ks) (variable_stored (stored_left s (syntax.Named x NoMore)) by) (is_empty a) es (λ site. StmAt s code site (length ks) a) y q → Loops (left_variable s m inst (syntax.Named x NoMore))
     looped_named x h =
-        looped_found (connection_at s x.token.0) (syntax.Named x NoMore)
-        (stored_match (text_of_procedure s (own_match s (syntax.Named x NoMore))) (stored_named s (denoted s x.token.0) NoMore (line_at s x.token.0)))
-        (match_left s m inst (text_of_procedure s (own_match s (syntax.Named x NoMore))) (named_left s m inst (line_at s x.token.0) (denoted s x.token.0) NoMore))
-        (match_alone (text_of_procedure s (own_match s (syntax.Named x NoMore))) _ (named_alone (denoted s x.token.0) NoMore (line_at s x.token.0)))
-        (left_match s code m inst t b u agrees reaching_here (text_of_procedure s (own_match s (syntax.Named x NoMore))) _ _ (left_named s code m inst t b u agrees reaching_here (denoted s x.token.0) NoMore (line_at s x.token.0))) h
+        let line = line_at s x.token.0 in
+        let whole : Expression = syntax.Named x NoMore in
+        looped_found (connection_at s x.token.0) whole (stored_match (text_of_procedure s (own_match s whole)) (stored_named s whole (denoted s x.token.0) NoMore line)) (match_left s m inst (text_of_procedure s (own_match s whole)) (named_left s m inst line (denoted s x.token.0) NoMore))
+        (match_alone (text_of_procedure s (own_match s whole)) _ (named_alone (denoted s x.token.0) whole line))
+        (λ none. left_match s code m inst t b u agrees reaching_here (text_of_procedure s (own_match s whole)) _ _ (left_named s code m inst t b u agrees reaching_here (denoted s x.token.0) whole NoMore line (λ n p q a.
+        subst (λ o. ThroughAt o (λ k. PlaceBehindAt s code line 0 (denoted s x.token.0) NoMore (ConnectedAt s code (site_at t b u) n k) (ExprsAt s code (site_at t b u) (suc n) NoMore)) (NamedPlaceAt s code (site_at t b u) n line 0 (denoted s x.token.0) NoMore (ExprsAt s code (site_at t b u) (suc n) NoMore)) p q) none a))) h
 
   looped_left : (p : World) (g : Bool) (sign : Assignment) (line : ℕ) (x : Identifier) (es : List Element) (a : Statement) (y : ℕ) → ForAt s code (site_at t b u) (length ks) (variable_of s line (syntax.Named x NoMore) (assigned_by g sign line)) (is_empty a) es (λ site. StmAt s code site (length ks) a) y q → ks' ≡ ks
       → Alike R (looping p m inst w vals rest (controlled g sign line (controlled_left g sign s m inst (syntax.Named x NoMore))) es a) (Going p (record { chain = act inst y stack b ∷ below; memory = fs }))

@@ -1,27 +1,28 @@
 -- Where control has come to what is pending, the machine follows the program: both make a step, or the program one that shows nothing.
-use Rattle.std.proofs.Common.{◌≡◌, ◌<◌, ℕ, List, [], ◌∷◌, length, refl, sym, ap, ◌∙◌, subst, arith}
-use Rattle.std.specs.Prelude.{pos}
+use Rattle.std.proofs.Common.{◌≡◌, ◌<◌, ℕ, List, [], ◌∷◌, length, refl, sym, ap, ◌∙◌, subst, arith, Bool, true}
+use Rattle.std.specs.Prelude.{pos, ◌==◌, if◌then◌else◌}
 use Rattle.sim_base.specs.declared.limits.Limits.{Limits}
 use Rattle.sim_scope.specs.Source.{Source, level_of}
-use Rattle.sim_tree.specs.Syntax.{Also, Element, NoStatement, Statement, Statements}
+use Rattle.sim_tree.specs.Syntax.{Also, Element, NoStatement, Statement, Statements, Expressions}
 use Rattle.sim_tree.specs.Syntax as syntax
 use Rattle.sim_values.specs.declared.standard.Standard.{Standard}
 use Rattle.sim_code.specs.declared.instr.Instr.TheVariants as i
 use Rattle.sim_code.specs.Code.{CodeOf}
-use Rattle.sim_code.specs.Events.{no_rule}
+use Rattle.sim_code.specs.Events.{no_rule, when}
 use Rattle.sim_code.specs.Outcome.{Ended, Going, NoRule, World}
 use Rattle.sim_code.specs.Machine.{Frames, Machine, Value}
 use Rattle.sim_code.specs.Machine as machine
 use Rattle.sim_code.specs.Rows.{mstep, on_top}
 use Rattle.sim_code.proofs.Simulation.{Alike, unruled}
 use Rattle.sim_meaning.specs.Meaning.{do_op, has_result, step}
-use Rattle.sim_meaning.specs.Pending.{Activation, ActualOf, AgainOp, ArrayOp, AttributeOf, AttributeOp, BackOp, BranchOp, CallOf, CallOp, Cell, ChooseOp, Configuration, ConnectOp, CopyOf, CopyOp, DeclareOp, Do, DropOp, Either, ElementOf, ElementOp, ElementsOp, EndBlock, EndLevel, EndObject, EndPrefixed, EndProcedure, EndProgram, EnterOp, Eval, Exec, Execs, FetchOp, FitsOf, FitsOp, GiveOp, Given, IfOp, ImageOf, Instances, Item, JoinOp, Joined, KeepOp, KeptOf, MemberOf, MemberOp, NewOf, NewOp, NotNoneOf, NotNoneOp, ObjectOp, One, OneOp, Op, PastOp, PlaceOf, PrefixedOp, QuaOf, QuaOp, QualifiedElementOf, QualifiedElementOp, QualifiedPlaceOf, RaiseOp, ReferOp, RemoteCallOf, SetOf, SelfOp, SetOp, ShareOp, StandardOf, StandardOp, StepOp, StepTestOp, StoreOp, SwapOp, Target, Term, Terms, TestOp, ToAddress, ToCell, ToPlace, ToReference, ToReferenceAt, ToText, ToTextAt, ToTextOf, TransferOf, TransferOp, Two, TwoOp, Unbuilt, Val, ValueAt, WhenOp, WhileElementOp, ActivateOp, BlockOp, ProcessOf, ProcessOp, SimulationOf, SimulationOp, VirtualOf, VirtualOp, CheckOp, CallValueOp, CloseOp, EndEvaluation, NamedOf, NamedOp, ToNamed}
+use Rattle.sim_meaning.specs.Pending.{Activation, ActualOf, AgainOp, ArrayOp, AttributeOf, AttributeOp, BackOp, BranchOp, CallOf, CallOp, Cell, ChooseOp, Configuration, ConnectOp, CopyOf, CopyOp, DeclareOp, Do, DropOp, Either, ElementOf, ElementOp, ElementsOp, EndBlock, EndLevel, EndObject, EndPrefixed, EndProcedure, EndProgram, EnterOp, Eval, Exec, Execs, FetchOp, FitsOf, FitsOp, GiveOp, Given, IfOp, ImageOf, Instances, Item, JoinOp, Joined, KeepOp, KeptOf, MemberOf, MemberOp, NewOf, NewOp, NotNoneOf, NotNoneOp, ObjectOp, One, OneOp, Op, PastOp, PlaceOf, PrefixedOp, QuaOf, QuaOp, QualifiedElementOf, QualifiedElementOp, QualifiedPlaceOf, RaiseOp, ReferOp, RemoteCallOf, SetOf, SelfOp, SetOp, ShareOp, StandardOf, StandardOp, StepOp, StepTestOp, StoreOp, SwapOp, Target, Term, Terms, TestOp, ToAddress, ToCell, ToPlace, ToReference, ToReferenceAt, ToText, ToTextAt, ToTextOf, TransferOf, TransferOp, Two, TwoOp, Unbuilt, Val, ValueAt, WhenOp, WhileElementOp, ActivateOp, BlockOp, ProcessOf, ProcessOp, SimulationOf, SimulationOp, VirtualOp, CheckOp, CallValueOp, CloseOp, EndEvaluation, NamedOf, NamedOp, ToNamed, CheckedOf, MatchOf, OriginOf, OriginOp, ParameterOp, ProcedureOf, ProcedureOp, RemoteProcedureOf}
 use Rattle.sim_meaning.specs.Entries.{arrays_declared}
-use Rattle.sim_meaning.specs.Steps.{count}
+use Rattle.sim_meaning.specs.Steps.{count, count_of, go, parameters}
 use Rattle.sim_meaning.specs.Sane.{AllLead, NamesOn, Sane, SaneOn}
 use Rattle.codegen.specs.Compiled.{Compiled}
 use Rattle.sim_relate.proofs.Assigns as assigns
 use Rattle.sim_relate.proofs.Calls as calls
+use Rattle.sim_relate.proofs.Checked as checked
 use Rattle.sim_relate.proofs.Connections as connections
 use Rattle.sim_relate.proofs.Ends as ends
 use Rattle.sim_relate.proofs.Entries as entries
@@ -36,13 +37,14 @@ use Rattle.sim_relate.proofs.Stages as stages
 use Rattle.sim_relate.proofs.Living.{reached}
 use Rattle.sim_relate.proofs.Loops as loops
 use Rattle.sim_relate.proofs.Operators as operators
+use Rattle.sim_relate.proofs.Origins as origins
 use Rattle.sim_relate.proofs.Passed as passed
 use Rattle.sim_relate.proofs.Pending.{each_pends, pends}
 use Rattle.sim_relate.proofs.PrefixedEntries as prefixed
 use Rattle.sim_relate.proofs.ProcessEnds as process_ends
 use Rattle.sim_relate.proofs.Quiet.{arrays_weight, each_weight, weight}
 use Rattle.sim_relate.proofs.Quiet as quiet_steps
-use Rattle.sim_relate.proofs.Known.{Any, FixedOf, Kind, LinkTo, Located, Low, Named, OwnerOf, Refers, anys, given, low_same, more_at, owner_of, site_at, text_gives, Runs, Spot, Settled, LinkOf, MatchOf}
+use Rattle.sim_relate.proofs.Known.{Any, FixedOf, Kind, LinkTo, Located, Low, Named, OwnerOf, Refers, anys, given, low_same, more_at, owner_of, site_at, text_gives, Runs, Spot, Settled, LinkOf}
 use Rattle.sim_relate.proofs.Relation.{BeginsAt, ChainAt, ChainNow, InStage, NowAt, OpAt, StandingsAt, StateAt, StateNow, StoreAt, WorkAt, WithInnerIs, declares, inner_here, inner_last, stays, with_inner, ends_process}
 use Rattle.sim_relate.proofs.References as references
 use Rattle.sim_relate.proofs.Settle.{as_act}
@@ -105,7 +107,7 @@ module _ (s : Source) (code : CodeOf) (compiled : Compiled s code) (l : Limits) 
       (operators.pushes s code l o m inst w vals rest fs t b pc stack below ks here o (machine.Link j) _ _ (x.link).fits
       (goes s code u x.x (with_values s code here (more_at (record { instance = j; is_val = refl; is_value = refl; stands = reaches.stands }) here.values))
       (each_pends s code m fs Below inst t b u low (Do (NewOp c (count ts) line) ∷ w) ts x.x x.y (LinkTo x.text ∷ ks) x.actuals
-      (pends s code m fs Below inst t b u low w (NewOp c (count ts) line) x.y q (anys (count ts) (LinkTo x.text ∷ ks)) ks' (record { text = x.text; is = x.new; stands_in = x.stands_in; class = x.class; made = x.made; left = ks; fits = (x.link).fits; «in» = refl; out = a.1 }) k))
+      (pends s code m fs Below inst t b u low w (NewOp c (count ts) line) x.y q (anys (count ts) (LinkTo x.text ∷ ks)) ks' (record { text = x.text; is = x.new; stands_in = x.stands_in; class = x.class; left = ks; fits = (x.link).fits; «in» = refl; out = a.1 }) k))
       (is.is).on)))
 
   -- and the name of a simulation block
@@ -121,6 +123,25 @@ module _ (s : Source) (code : CodeOf) (compiled : Compiled s code) (l : Limits) 
       (each_pends s code m fs Below inst t b u low (Do (SimulationOp name line) ∷ w) ts x.x x.y (LinkOf j ∷ ks) x.actuals
       (pends s code m fs Below inst t b u low w (SimulationOp name line) x.y q (anys (count ts) (LinkOf j ∷ ks)) ks' (record { many = count ts; is = x.is; text = x.text; block = j; reaches = reaches; left = ks; «in» = refl; out = a.1 }) k))
       (is.is).on)))
+
+  -- and a procedure as a value
+  procedure_link : (j c : ℕ) → OpAt s code m fs inst (site_at t b u) (Eval (ProcedureOf j c)) pc q ks ks' → Alike (StateAt s code) (do_op s l o m inst w vals rest (Eval (ProcedureOf j c))) (on_top code l o fs (act inst pc stack b) below)
+  procedure_link j c a =
+      let x = a.0 in
+      let reaches = x.reaches in
+      let is = (x.link).is in
+      at_row s code l o fs (act inst pc stack b) below _ (i.Link (pos (level_of s x.text))) is.line x.x is.is
+      (operators.at_frame s code l o m inst w vals rest fs t b pc stack below ks here o (level_of s x.text) j _ _ (reached s m inst x.text j here.lives reaches)
+      (operators.pushes s code l o m inst w vals rest fs t b pc stack below ks here o (machine.Link j) _ _ (x.link).fits
+      (goes s code u x.x (with_values s code here (more_at (record { instance = j; is_val = refl; is_value = refl; stands = reaches.stands }) here.values))
+      (pends s code m fs Below inst t b u low w (ProcedureOp c) x.x q (LinkTo x.text ∷ ks) ks' (record { is = x.value; text = x.text; procedure = x.procedure; left = ks; link = LinkTo x.text; links = refl; «in» = refl; out = a.1 }) k)
+      (is.is).on)))
+
+  -- a call of a procedure as a value stands in the instance that does it
+  checked_begins : (x : Term) (leaves : Bool) (home : ℕ) (es : Expressions) (line : ℕ) → home ≡ inst
+      → do_op s l o m inst w vals rest (Eval (CheckedOf x leaves home es line)) ≡ go o m inst (Do (Eval x) ∷ Do (CheckOp es line) ∷ parameters 0 line es (Do (CallValueOp (count_of es) leaves line) ∷ w)) vals rest
+  unfolding when
+  checked_begins x leaves home es line e = let same : (home == inst) ≡ true = grind (arith, e) in ap (λ b. if b then go o m inst (Do (Eval x) ∷ Do (CheckOp es line) ∷ parameters 0 line es (Do (CallValueOp (count_of es) leaves line) ∷ w)) vals rest else no_rule o) same
 
   -- a step that is followed at once, or in several steps
   followed : {op : Op} → ranked.Follows (mstep code l) (StateAt s code) (do_op s l o m inst w vals rest op) o machine_here → MovesNow s code l o (record { chain = record { instance = inst; work = Do op ∷ w; values = vals } ∷ rest; memory = m }) machine_here
@@ -148,7 +169,12 @@ module _ (s : Source) (code : CodeOf) (compiled : Compiled s code) (l : Limits) 
   eval_moves (QualifiedPlaceOf j key c) a = both (references.qualified_place s code compiled l o m inst w vals rest fs t b pc stack below ks here u q ks' low k j key c a)
   eval_moves (AttributeOf text key class line x) a = quiet _ refl (stands_so _ (quiet_steps.attribute_opened s code m fs Below inst t b u low w pc q ks ks' k text key class line x a)) (omega arith)
   eval_moves (RemoteCallOf x c ts line) a = quiet _ refl (stands_so _ (quiet_steps.remote_opened s code m fs Below inst t b u low w pc q ks ks' k x c ts line a)) (omega arith)
-  eval_moves (VirtualOf x v n line) a = quiet _ refl (stands_so _ (quiet_steps.virtual_opened s code m fs Below inst t b u low w pc q ks ks' k x v n line a)) (omega arith)
+  eval_moves (OriginOf c token line x) a = quiet _ refl (stands_so _ (quiet_steps.origin_opened s code m fs Below inst t b u low w pc q ks ks' k c token line x a)) (omega arith)
+  eval_moves (ProcedureOf j c) a = both (procedure_link j c a)
+  eval_moves (RemoteProcedureOf x c line) a = quiet _ refl (stands_so _ (quiet_steps.remote_procedure_opened s code m fs Below inst t b u low w pc q ks ks' k x c line a)) (omega arith)
+  eval_moves (MatchOf x v line) a = quiet _ refl (stands_so _ (quiet_steps.match_opened s code m fs Below inst t b u low w pc q ks ks' k x v line a)) (omega arith)
+  eval_moves (CheckedOf x leaves home es line) a =
+      quiet _ (checked_begins x leaves home es line (a.0).here) (stands_so _ (quiet_steps.checked_opened s code m fs Below inst t b u low w pc q ks ks' k x leaves home es line a)) (omega arith)
   eval_moves (QualifiedElementOf line c x ts) a = quiet _ refl (stands_so _ (quiet_steps.qualified_element_opened s code m fs Below inst t b u low w pc q ks ks' k line c x ts a)) (omega arith)
   eval_moves (MemberOf member c x) a = quiet _ refl (stands_so _ (quiet_steps.member_opened s code m fs Below inst t b u low w pc q ks ks' k member c x a)) (omega arith)
   eval_moves (QuaOf c line x) a = quiet _ refl (stands_so _ (quiet_steps.qua_opened s code m fs Below inst t b u low w pc q ks ks' k c line x a)) (omega arith)
@@ -161,7 +187,7 @@ module _ (s : Source) (code : CodeOf) (compiled : Compiled s code) (l : Limits) 
       quiet _ refl (stands_so _ (quiet_steps.set_opened s code m fs Below inst t b u low w pc q ks ks' k name ts a)) (omega (arith, e))
   eval_moves (ProcessOf name line x) a = quiet _ refl (stands_so _ (quiet_steps.process_opened s code m fs Below inst t b u low w pc q ks ks' k name line x a)) (omega arith)
   eval_moves (SimulationOf j name ts line) a = both (simulation_link j name ts line a)
-  eval_moves (ActualOf home e) a = followed (passed.passed s code l o m inst w vals rest fs t b pc stack below ks here u q ks' low k home e a)
+  eval_moves (ActualOf home as_procedure e) a = followed (passed.passed s code l o m inst w vals rest fs t b pc stack below ks here u q ks' low k home as_procedure e a)
   eval_moves (NamedOf j key wanted) a = quiet _ refl (stands_so _ (quiet_steps.named_opened s code m fs Below inst t b u low w pc q ks ks' k j key wanted a)) (omega arith)
   eval_moves Unbuilt a = both unruled
 
@@ -201,7 +227,6 @@ module _ (s : Source) (code : CodeOf) (compiled : Compiled s code) (l : Limits) 
   fetch_moves (LinkTo text) left is e out = absurd is
   fetch_moves (OwnerOf text) left is e out = absurd is
   fetch_moves (LinkOf j) left is e out = absurd is
-  fetch_moves (MatchOf d) left is e out = absurd is
 
   -- one line for each operator
   op_moves : (op : Op) → Follows op
@@ -249,10 +274,13 @@ module _ (s : Source) (code : CodeOf) (compiled : Compiled s code) (l : Limits) 
   op_moves (AttributeOp text key class line) a = both (references.attribute s code compiled l o m inst w vals rest fs t b pc stack below ks here u q ks' low k text key class line a)
   op_moves (ObjectOp c line) a = both (references.object s code compiled l o m inst w vals rest fs t b pc stack below ks here u q ks' low k c line a)
   op_moves (VirtualOp v line) a = both (virtuals.virtual s code compiled l o m inst w vals rest fs t b pc stack below ks here u q ks' low k v line a)
-  op_moves (CheckOp n line) a = both (virtuals.check s code compiled l o m inst w vals rest fs t b pc stack below ks here u q ks' low k n line a)
-  op_moves (CallValueOp line) a = both (virtuals.call_value s code compiled l o m inst w vals rest fs t b pc stack below ks here u q ks' low k line a)
+  op_moves (OriginOp c token line) a = several (λ ruled. origins.keeps_origin s code compiled l o m inst w vals rest fs t b pc stack below ks here u q ks' low k c token line a ruled)
+  op_moves (ProcedureOp c) a = both (checked.procedure s code compiled l o m inst w vals rest fs t b pc stack below ks here u q ks' low k c a)
+  op_moves (CheckOp es line) a = both (checked.check s code compiled l o m inst w vals rest fs t b pc stack below ks here u q ks' low k es line a)
+  op_moves (ParameterOp n e line) a = several (λ ruled. checked.parameter s code compiled l o m inst w vals rest fs t b pc stack below ks here u q ks' low k n e line a ruled)
+  op_moves (CallValueOp n leaves line) a = both (checked.call_value s code compiled l o m inst w vals rest fs t b pc stack below ks here u q ks' low k n leaves line a)
   op_moves (NamedOp j key wanted) a = both (evaluations.use_name s code compiled l o m inst w vals rest fs t b pc stack below ks here u q ks' low k j key wanted a)
-  op_moves (CloseOp e) a = quiet _ refl (stands_so _ (evaluations.closes s code compiled l o m inst w vals rest fs t b pc stack below ks here u q ks' low k e a)) (omega arith)
+  op_moves (CloseOp as_procedure e) a = quiet _ refl (stands_so _ (evaluations.closes s code compiled l o m inst w vals rest fs t b pc stack below ks here u q ks' low k as_procedure e a)) (omega arith)
   op_moves (QualifiedElementOp n line c) a = both (references.qualified_element s code compiled l o m inst w vals rest fs t b pc stack below ks here u q ks' low k n line c a)
   op_moves (MemberOp member c) a = both (references.member s code compiled l o m inst w vals rest fs t b pc stack below ks here u q ks' low k member c a)
   op_moves (QuaOp c line) a = both (references.qua s code compiled l o m inst w vals rest fs t b pc stack below ks here u q ks' low k c line a)

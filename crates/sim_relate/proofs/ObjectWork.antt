@@ -1,5 +1,5 @@
 -- The work of a new object or prefixed block: the declarations of all its levels, then the statements of the outermost one, and its end.
-use Rattle.std.proofs.Common.{◌+◌, None, ◌≡◌, ◌<◌, ◌≤◌, ℕ, suc, true, List, [], ◌∷◌, length, Some, refl, ap, ◌∙◌, subst}
+use Rattle.std.proofs.Common.{◌+◌, None, ◌≡◌, ◌<◌, ◌≤◌, ℕ, suc, true, List, [], ◌∷◌, length, Some, refl, sym, ap, ◌∙◌, subst}
 use Rattle.std.specs.Prelude.{drop, pos, slice_get}
 use Rattle.sim_scope.specs.Source.{Source}
 use Rattle.sim_code.specs.declared.instr.Instr.TheVariants as i
@@ -11,7 +11,8 @@ use Rattle.sim_meaning.specs.Objects.{declared, level_work, levels_work}
 use Rattle.sim_meaning.specs.Pending.{DeclareOp, Do, Instances, Item, Level, LevelOp}
 use Rattle.sim_meaning.specs.Texts.{text}
 use Rattle.codegen_expr.specs.Sites.{expression_temps, Is, block_number, frame_text, own_end}
-use Rattle.codegen.specs.Compiled.{Compiled}
+use Rattle.codegen.specs.CodeArrays.{ArraysAt}
+use Rattle.codegen.specs.Compiled.{Compiled, site_of}
 use Rattle.sim_relate.proofs.Frames.{same_frame}
 use Rattle.sim_relate.proofs.Known.{HasClass, Runs, Spot}
 use Rattle.sim_relate.proofs.LevelCode.{low_here, LevelCode, dropped_at, dropped_none, level_begins, level_code, made_of, moved_level, none_made}
@@ -33,7 +34,7 @@ module _ (s : Source) (code : CodeOf) (compiled : Compiled s code) (m : Instance
   one_level : (k n : ℕ) (x : Level) (a : Code k n x) (c : Spot) (q : ℕ) (w : List Item) → q < length code.instrs → DeclaredTo s code (declaring a) n c q → WorkAt s code m fs Below inst c.text c.runs c.used w q [] → Pends k (declaring a) (Do (DeclareOp x.declarations) ∷ Do (LevelOp x.text) ∷ w) a.class.declarations
   one_level k n x a c q w within to work =
       let low = low_here s code compiled m fs Below inst b k n x a (stage.Declaring n) in
-      pends s code m fs Below inst k (declaring a) (own_end s code k + expression_temps) (record { at = low; calm = refl }) (Do (LevelOp x.text) ∷ w) (DeclareOp x.declarations) a.class.declarations a.last_declared [] [] (a.declared, refl, refl)
+      pends s code m fs Below inst k (declaring a) (own_end s code k + expression_temps) (record { at = low; calm = refl }) (Do (LevelOp x.text) ∷ w) (DeclareOp x.declarations) a.class.declarations a.last_declared [] [] (subst (λ z. ArraysAt s code (record (site_of s code k a.block) { thunk = z }) x.declarations a.class.declarations a.last_declared) (sym a.level.base) a.declared, refl, refl)
       (pends_in s code m fs Below inst k (declaring a) (own_end s code k + expression_temps) low w (LevelOp x.text) k c a.last_declared q [] [] (same_frame s k)
       (declares x.text refl (record { place = n; was = refl; on = a.on; is = a.next; there = within; to = to; none = refl; none_behind = refl })) work)
 

@@ -6,6 +6,7 @@ use Rattle.sim_scope.specs.Source.{Source, level_of}
 use Rattle.sim_values.specs.declared.kind.Kind.{Kind as TypeKind}
 use Rattle.sim_values.specs.declared.standard.Standard.{Standard}
 use Rattle.sim_values.specs.Standard.{row_of}
+use Rattle.sim_tree.specs.Syntax.{Expression, Expressions}
 use Rattle.sim_code.specs.declared.instr.Instr.{Instr}
 use Rattle.sim_code.specs.declared.instr.Instr.TheVariants as i
 use Rattle.sim_code.specs.Code.{CodeOf}
@@ -19,13 +20,13 @@ use Rattle.sim_meaning.specs.Statements.{has_value}
 use Rattle.sim_meaning.specs.Texts.{text}
 use Rattle.sim_meaning.specs.Texts as Texts
 use Rattle.codegen_expr.specs.Sites.{Ahead, At, HasCell, Is, Pushes, Site, block_number, class_number, expression_temps, frame_text, own_end, slot_of}
-use Rattle.codegen_expr.specs.CodeExpr.{StandardIs}
+use Rattle.codegen_expr.specs.CodeExpr.{CheckAt, StandardIs}
 use Rattle.codegen.specs.CodeArrays.{element_number}
 use Rattle.codegen.specs.Agrees.{is_prefixed}
 use Rattle.codegen.specs.CodeStm.{activation_number}
-use Rattle.sim_relate.proofs.Known.{AllRead, Any, IsLink, IsRead, Kind, LinkTo, Named, OwnerOf, Reaches, Refers, ValAt, anys, attribute_kind, given, is_declared, is_fixed, is_process_in, placed, LeavesIs, LinkOf, MatchOf, virtual_gives}
+use Rattle.sim_relate.proofs.Known.{AllRead, Any, IsLink, IsRead, Kind, LinkTo, Named, OwnerOf, Reaches, Refers, ValAt, anys, attribute_kind, given, is_declared, is_fixed, placed, LeavesIs, LinkOf}
 use Rattle.sim_relate.proofs.Waiting.{kind_used}
-use Rattle.sim_relate.proofs.Trees.{Classed, JoinsIs, UseIs, ProcedureIs, FoundIs, FetchesAt, FitsIs, ProcessIs, SetIs, SimulationNameIs, TermAt, OperandAt, IsVirtual, list_number}
+use Rattle.sim_relate.proofs.Trees.{Classed, JoinsIs, OriginIs, PassesIs, UseIs, ProcedureIs, FoundIs, FetchesAt, FitsIs, ProcessIs, SetIs, SimulationNameIs, TermAt, OperandAt, IsVirtual}
 
 -- the operand of an activation, if there is one, is on top of the process
 abbrev pub operands_with : Bool → ℕ
@@ -84,7 +85,6 @@ module _ (s : Source) (code : CodeOf) where
     pub is : At code (i.New (pos (class_number s code k)) (pos actuals)) line p q
     pub stands_in : encloser s.tables k ≡ Some text
     pub class : is_class (Texts.text s k) ≡ true
-    pub made : is_process_in s k ≡ false
     pub left : List Kind
     pub fits : length left < site.room
     pub «in» : before ≡ anys actuals (LinkTo text ∷ left)
@@ -120,22 +120,44 @@ module _ (s : Source) (code : CodeOf) where
     pub declared : IsVirtual s virtual
     pub left : List Kind
     pub «in» : before ≡ anys 1 left
-    pub out : behind ≡ MatchOf virtual ∷ left
+    pub out : behind ≡ anys 1 left
 
-  pub record CheckOpIs (actuals line p q : ℕ) (before behind : List Kind) : Type 0 where
-    pub is : At code (i.Check (pos (list_number actuals))) line p q
-    pub virtual : ℕ
+  -- the procedure that is declared in the instance in hand, or that the object in hand has
+  pub record ProcedureOpIs (k p q : ℕ) (before behind : List Kind) : Type 0 where
+    pub is : Is code (i.ProcVal (pos (block_number s k))) p q
+    pub text : ℕ
+    pub procedure : ProcedureIs s code k text
     pub left : List Kind
-    pub «in» : before ≡ MatchOf virtual ∷ left
-    pub out : behind ≡ MatchOf virtual ∷ left
+    pub link : Kind
+    pub links : IsLink link text
+    pub «in» : before ≡ link ∷ left
+    pub out : behind ≡ anys 1 left
 
-  pub record CallValueOpIs (site : Site) (line p q : ℕ) (before behind : List Kind) : Type 0 where
-    pub is : At code (i.CallV (pos 0)) line p q
-    pub virtual : ℕ
+  -- a procedure in hand is held against its actual parameters; one of these is passed; and it is called
+  pub record CheckOpIs (es : Expressions) (line p q : ℕ) (before behind : List Kind) : Type 0 where
+    pub is : CheckAt s code line es p q
+    pub left : List Kind
+    pub «in» : before ≡ anys 1 left
+    pub out : behind ≡ anys 1 left
+
+  pub record ParameterOpIs (site : Site) (number : ℕ) (e : Expression) (line p q : ℕ) (before behind : List Kind) : Type 0 where
+    pub was : ℕ
+    pub passes : PassesIs s code site (length before) was number line e p q
+    pub out : behind ≡ anys 1 before
+
+  pub record CallValueOpIs (site : Site) (actuals : ℕ) (leaves : Bool) (line p q : ℕ) (before behind : List Kind) : Type 0 where
+    pub is : At code (i.CallV (pos actuals)) line p q
     pub left : List Kind
     pub fits : length left < site.room
-    pub «in» : before ≡ MatchOf virtual ∷ left
-    pub out : behind ≡ given (virtual_gives s virtual) left
+    pub «in» : before ≡ anys (suc actuals) left
+    pub out : behind ≡ given leaves left
+
+  -- the object of `process` itself in hand keeps a token
+  pub record OriginOpIs (site : Site) (k token line p q : ℕ) (before behind : List Kind) : Type 0 where
+    pub left : List Kind
+    pub is : OriginIs s code site (length left) k token line p q
+    pub «in» : before ≡ anys 1 left
+    pub out : behind ≡ anys 1 left
 
   pub record QualifiedElementOpIs (n line k p q : ℕ) (before behind : List Kind) : Type 0 where
     pub is : At code (i.Elem (pos n) (pos (class_number s code k))) line p q

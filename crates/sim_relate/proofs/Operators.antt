@@ -29,7 +29,7 @@ use Rattle.sim_meaning.specs.Pending as meaning
 use Rattle.sim_meaning.specs.Steps.{go}
 use Rattle.codegen_expr.specs.Sites.{Ahead, Is, slot_of}
 use Rattle.codegen_expr.specs.CodeExpr.{one_instr, two_instr}
-use Rattle.sim_relate.proofs.Known.{actual_at, Any, HandAt, Kind, StackAt, ValAt, anys, array_at, element_at, link_at, more_at, plain_at, site_at, IsImage, image_at, of_input, of_output, Runs, Settled}
+use Rattle.sim_relate.proofs.Known.{actual_at, Any, HandAt, Kind, StackAt, ValAt, anys, array_at, element_at, link_at, more_at, plain_at, site_at, IsImage, image_at, of_input, of_output, Runs, Settled, procedure_at}
 use Rattle.sim_relate.proofs.Trees.{OperandAt, TextIs, empty, listed}
 use Rattle.sim_relate.proofs.Relation.{ChainAt, OpAt, StateAt, WorkAt}
 use Rattle.sim_relate.proofs.Hands.{hand_finding, hand_one, hand_popping, hand_truth, hand_two, stack_length}
@@ -81,6 +81,7 @@ same_plain _ _ array_at = refl
 same_plain _ _ element_at = refl
 same_plain _ _ image_at = refl
 same_plain _ _ (actual_at h) = refl
+same_plain _ _ (procedure_at h) = refl
 
 pub same_array : {s : Source} {code : CodeOf} {m : Instances} (v : Val) (x : Value) → ValAt s code m v x → array_in v ≡ machine.array_in x
 same_array _ _ plain_at = refl
@@ -89,6 +90,7 @@ same_array _ _ array_at = refl
 same_array _ _ element_at = refl
 same_array _ _ image_at = refl
 same_array _ _ (actual_at h) = refl
+same_array _ _ (procedure_at h) = refl
 
 pub chosen : {A : Type 0} (P : A → Type 0) (b : Bool) (x y : A) → b ≡ true → P x → P (if b then x else y)
 chosen P true x y e h = h

@@ -17,20 +17,22 @@ use Rattle.sim_code.specs.Outcome.{Run, World}
 use Rattle.sim_code.specs.Rows.{on_top}
 use Rattle.sim_code.proofs.Lifts.{EachAt, alike_found}
 use Rattle.sim_code.proofs.Simulation.{Alike}
-use Rattle.sim_meaning.specs.Levels.{levels}
+use Rattle.sim_meaning.specs.Levels.{levels, levels_of}
 use Rattle.sim_meaning.specs.Meaning.{do_op}
-use Rattle.sim_meaning.specs.Objects.{block_begun, prefixed_entered}
+use Rattle.sim_meaning.specs.Objects.{block_begun, cells_of_levels, prefixed_entered}
 use Rattle.sim_meaning.specs.Pending.{Activation, Configuration, EndPrefixed, Instances, Item, Op, PrefixedOp, Val}
 use Rattle.codegen_expr.specs.Sites.{block_number}
 use Rattle.codegen.specs.Compiled.{Compiled, RecordOf}
 use Rattle.sim_relate.proofs.Actuals.{counted_many}
 use Rattle.sim_relate.proofs.ClassTexts.{ClassHas, class_has}
 use Rattle.sim_relate.proofs.Entries.{call_row, waits}
+use Rattle.sim_relate.proofs.FirstCells.{block_cells_of, made_cells}
 use Rattle.sim_relate.proofs.Here.{Here, act, at_row, kinds_as}
 use Rattle.sim_relate.proofs.Known.{HandAt, Kind, Runs, StackAt, ValAt, site_at, Settled}
-use Rattle.sim_relate.proofs.LevelEntries.{entry_alike, not_first}
+use Rattle.sim_relate.proofs.LevelCells.{CellsOf}
+use Rattle.sim_relate.proofs.LevelEntries.{entry_alike, levels_laid, not_first}
 use Rattle.sim_relate.proofs.Linkages.{block_same}
-use Rattle.sim_relate.proofs.OfClass.{block_owns}
+use Rattle.sim_relate.proofs.OfClass.{block_ordinary, block_owns}
 use Rattle.sim_relate.proofs.Operations.{PrefixedOpIs}
 use Rattle.sim_relate.proofs.Relation.{ChainAt, OpAt, StateAt, WorkAt}
 use Rattle.sim_relate.proofs.Waiting.{NoValue}
@@ -80,7 +82,8 @@ module _ (s : Source) (code : CodeOf) (compiled : Compiled s code) (l : Limits) 
     prefixed_alike : Alike Related (having (levels s g) o (λ xs. prefixed_entered s l o m chain g line values (Some inst) EndPrefixed xs)) (levelled code block_kind.Prefixed (block_number s g) o Goes)
     prefixed_alike =
         subst (λ z. Alike Related (having (levels s g) o (λ xs. prefixed_entered s l o m chain g line values (Some inst) EndPrefixed xs)) (levelled code z (block_number s g) o Goes)) (x.of_block a.no_class)
-        (entry_alike s code compiled l o m fs here.store here.parked g line x values values' each inst t a.stands_in here.stands (block_owns s compiled.agrees g a.prefixed) false false refl (block_begun s g (length m.instances)) (block_begun_of_code code x.block.class (length fs.instances)) begun_same EndPrefixed (NoObject None) (NoObject None) refl chain under (λ m' fs' number is. tt) under_there
+        (entry_alike s code compiled l o m fs here.store here.parked g line x values values' each inst t a.stands_in here.stands (block_owns s compiled.agrees g a.prefixed) (cells_of_levels s)
+        (λ xs made. subst (λ z. CellsOf s code m g z (machine.first_cells x.block)) (sym (made_cells s (levels_of s g) xs made)) (block_cells_of s code m compiled (levels_laid s code compiled) g x (block_ordinary s compiled.agrees g a.prefixed))) false false refl (block_begun s g (length m.instances)) (block_begun_of_code code x.block.class (length fs.instances)) begun_same EndPrefixed (NoObject None) (NoObject None) refl chain under (λ m' fs' number is. tt) under_there
         (λ m' fs' there block limit temps t' p last at. record {
           levels = x.levels;
           not_first = not_first s code compiled g t x.levels a.stands_in;

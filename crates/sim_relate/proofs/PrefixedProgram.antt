@@ -37,14 +37,14 @@ use Rattle.codegen.specs.Compiled.{Compiled, PrefixedProgramOf}
 use Rattle.sim_relate.proofs.ClassLevels.{levels_solid}
 use Rattle.sim_relate.proofs.ClassTexts.{ClassHas, class_has}
 use Rattle.sim_relate.proofs.Entering.{enters, instance_of, later_fs, later_m, new_frame, parked_entered, program_alike}
-use Rattle.sim_relate.proofs.FirstCells.{all_attributes, attributes_count, first_cells_of, made_cells}
+use Rattle.sim_relate.proofs.FirstCells.{all_attributes, attributes_count, block_cells_of, made_cells}
 use Rattle.sim_relate.proofs.Known.{Low, HasClass, Runs, Stands, is_process_in}
 use Rattle.sim_relate.proofs.LevelCode.{LevelCode, level_code, levels_frame, made_of, none_made}
 use Rattle.sim_relate.proofs.LevelEntries.{levels_laid}
 use Rattle.sim_relate.proofs.LevelLists.{levels_first}
 use Rattle.sim_relate.proofs.Linkages.{block_same}
 use Rattle.sim_relate.proofs.ObjectWork.{levels_pend}
-use Rattle.sim_relate.proofs.OfClass.{alone_owns, process_is}
+use Rattle.sim_relate.proofs.OfClass.{alone_ordinary, alone_owns, process_is}
 use Rattle.sim_relate.proofs.Pending.{pends}
 use Rattle.sim_relate.proofs.Reach.{same_some}
 use Rattle.sim_relate.proofs.Relation.{at_level, ChainAt, StandingsAt, StateAt, StoreAt, WorkAt}
@@ -152,7 +152,7 @@ module _ (s : Source) (code : CodeOf) (compiled : Compiled s code) (l : Limits) 
 
       entered_state : R (record { chain = record { instance = length m.instances; work = Do PastOp ∷ levels_work (x0 ∷ xs) EndProgram; values = [] } ∷ []; memory = new_m }) (record { chain = record { thunk = None; home = length fs.instances; pc = x.block.entry; stack = []; room = x.block.room; stage = stage.Declaring 0 } ∷ []; memory = new_fs })
       entered_state =
-          let pair = instance_of s code m 0 x.kind type.Nothing x.block x.has.heads x.found (x.passes (is_class_free s 0)) own (levels_solid s code compiled 0 x.levels) (levels_laid s code compiled 0 x.levels) None attributes cells (first_cells_of s code m compiled (levels_laid s code compiled) 0 x) (length-map x.block.types first_value) in
+          let pair = instance_of s code m 0 x.kind type.Nothing x.block x.has.heads x.found (x.passes (is_class_free s 0)) own (levels_solid s code compiled 0 x.levels) (levels_laid s code compiled 0 x.levels) None attributes cells (block_cells_of s code m compiled (levels_laid s code compiled) 0 x (alone_ordinary s 0 h.alone (ordinary (is_process_in s 0) refl))) (length-map x.block.types first_value) in
           enters s code m fs store new frame (NoObject None) (NoObject None) refl (parked_entered s code m fs store new frame (NoObject None) (NoObject None) refl tt parked) [] [] 0 begins refl pair
           (ap (λ z. slice_get code.blocks (block_number s z)) own ∙ outermost.level.found) stands stands refl outermost.level.roomy (Do PastOp ∷ levels_work (x0 ∷ xs) EndProgram) (own_end s code 0 + expression_temps) x.block.entry work
 

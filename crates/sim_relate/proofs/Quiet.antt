@@ -1,7 +1,7 @@
 -- Steps of the program that the machine makes no step for, and how many of them there can be in a row.
-use Rattle.std.proofs.Common.{◌≡◌, ℕ, suc, List, [], ◌∷◌, length, Option, refl, sym, ap, ◌∙◌, subst, arith}
+use Rattle.std.proofs.Common.{◌≡◌, ℕ, suc, List, [], ◌∷◌, length, Option, refl, sym, ap, ◌∙◌, subst, arith, Bool}
 use Rattle.sim_scope.specs.Source.{Source}
-use Rattle.sim_tree.specs.Syntax.{Also, Arrayed, Arrays, BoundPair, Declarations, DeclareClass, DeclareProcedure, Element, NoDeclaration, NoStatement, Statement, Statements, Variables, With}
+use Rattle.sim_tree.specs.Syntax.{Also, Arrayed, Arrays, BoundPair, Declarations, DeclareClass, DeclareProcedure, Element, NoDeclaration, NoStatement, Statement, Statements, Variables, With, Expressions, NoMore, Then}
 use Rattle.sim_tree.specs.declared.expr.Identifier.{Identifier}
 use Rattle.sim_tree.specs.Syntax as syntax
 use Rattle.sim_tree.specs.declared.expr.Membership.{Membership}
@@ -12,14 +12,14 @@ use Rattle.sim_values.specs.declared.standard.Standard.{Standard}
 use Rattle.sim_code.specs.Code.{CodeOf}
 use Rattle.sim_code.specs.Machine.{Frames}
 use Rattle.sim_code.specs.Transfers.{Transfer}
-use Rattle.sim_meaning.specs.Closing.{close, close_actual}
+use Rattle.sim_meaning.specs.Closing.{close, close_passed}
 use Rattle.sim_meaning.specs.Entries.{arrays_declared, arrays_of, bounds_of, segments_of}
-use Rattle.sim_meaning.specs.Pending.{Activation, CloseOp, DeclareOp, ForPlace, ForValue, NamedOf, NamedOp, ToNamed, Use, AttributeOf, AttributeOp, CallOp, FitsOf, FitsOp, KeepOp, KeptOf, Key, MemberOf, MemberOp, NotNoneOf, NotNoneOp, ObjectOp, QuaOf, QuaOp, QualifiedElementOf, QualifiedElementOp, ReferOp, RemoteCallOf, SetOf, SetOp, StoreOp, SwapOp, ToAddress, ToPlace, ToReference, ToReferenceAt, CallOf, Cell, Configuration, CopyOf, CopyOp, Do, Either, ElementOf, ElementOp, ElementsOp, Eval, Exec, Execs, FetchOp, Further, GiveOp, Given, IfOp, ImageOf, Instances, Item, JoinOp, Joined, NoTerm, One, OneOp, Op, PlaceOf, RaiseOp, StandardOf, StandardOp, Target, Term, Terms, TransferOf, TransferOp, Two, TwoOp, Val, ValueAt, ProcessOf, ProcessOp, VirtualOf, VirtualOp, CheckOp, CallValueOp}
-use Rattle.sim_meaning.specs.Steps.{count, each}
+use Rattle.sim_meaning.specs.Pending.{Activation, CloseOp, DeclareOp, ForPlace, ForValue, NamedOf, NamedOp, ToNamed, Use, AttributeOf, AttributeOp, CallOp, FitsOf, FitsOp, KeepOp, KeptOf, Key, MemberOf, MemberOp, NotNoneOf, NotNoneOp, ObjectOp, QuaOf, QuaOp, QualifiedElementOf, QualifiedElementOp, ReferOp, RemoteCallOf, SetOf, SetOp, StoreOp, SwapOp, ToAddress, ToPlace, ToReference, ToReferenceAt, CallOf, Cell, Configuration, CopyOf, CopyOp, Do, Either, ElementOf, ElementOp, ElementsOp, Eval, Exec, Execs, FetchOp, Further, GiveOp, Given, IfOp, ImageOf, Instances, Item, JoinOp, Joined, NoTerm, One, OneOp, Op, PlaceOf, RaiseOp, StandardOf, StandardOp, Target, Term, Terms, TransferOf, TransferOp, Two, TwoOp, Val, ValueAt, ProcessOf, ProcessOp, VirtualOp, CheckOp, CallValueOp, CheckedOf, ForParameter, MatchOf, OriginOf, OriginOp, ParameterOp, ProcedureOp, RemoteProcedureOf}
+use Rattle.sim_meaning.specs.Steps.{count, each, count_of, parameters}
 use Rattle.sim_meaning.specs.Texts.{kind_named, text}
 use Rattle.sim_relate.proofs.Pending.{anys_more, each_pends, each_reads, evals, pends}
-use Rattle.sim_relate.proofs.Known.{Any, Kind, OwnerOf, Refers, given, leaves_as, leaving, text_gives, anys, site_at, AllRead, Runs, Settled, MatchOf}
-use Rattle.sim_relate.proofs.Trees.{OperandAt}
+use Rattle.sim_relate.proofs.Known.{Any, Kind, OwnerOf, Refers, given, leaves_as, leaving, text_gives, anys, site_at, AllRead, Runs, Settled}
+use Rattle.sim_relate.proofs.Trees.{OperandAt, AllPassAt}
 use Rattle.sim_relate.proofs.Operations.{of_class}
 use Rattle.sim_relate.proofs.Relation.{BeginsAt, OpAt, WorkAt, straight}
 use Rattle.sim_relate.proofs.Waiting.{Wait, kind_used}
@@ -52,7 +52,10 @@ abbrev mutual
   opened (NotNoneOf line a) = suc (opened a)
   opened (TransferOf t line a) = suc (opened a)
   opened (SetOf name ts) = suc (opened_first ts)
-  opened (VirtualOf a v n line) = suc (opened a)
+  opened (OriginOf k token line a) = suc (opened a)
+  opened (RemoteProcedureOf a k line) = suc (opened a)
+  opened (MatchOf a v line) = suc (opened a)
+  opened (CheckedOf a leaves home es line) = suc (opened a)
   opened (ProcessOf name line a) = suc (opened a)
   opened (NamedOf j key wanted) = 1
   opened _ = 0
@@ -115,7 +118,7 @@ op_weight s m i (Execs ss) rest = begun_all ss rest
 op_weight s m i (GiveOp v ts) rest = given_left ts rest
 op_weight s m i (StoreOp t) rest = stored_first t
 op_weight s m i (ElementsOp t es a) rest = elements_begun s m i es rest
-op_weight s m i (CloseOp e) rest = suc (opened (close_actual s m i e))
+op_weight s m i (CloseOp as_procedure e) rest = suc (opened (close_passed as_procedure s m i e))
 op_weight s m i (DeclareOp ds) rest = suc (arrays_begun s m i ds rest)
 op_weight s m i (RaiseOp t line step limit a) rest = suc (opened (close s m i step))
 op_weight s m i _ rest = 0
@@ -236,13 +239,36 @@ module _ (s : Source) (code : CodeOf) (m : Instances) (fs : Frames) (Below : Wai
       (each_pends s code m fs Below inst t b u low (Do (CallOp c (count ts) line) ∷ w) ts y.y y.z (OwnerOf y.text ∷ ks) y.actuals
       (puts w (CallOp c (count ts) line) y.z q (anys (count ts) (OwnerOf y.text ∷ ks)) ks' (record { text = y.text; procedure = y.procedure; is = y.call; as_many = y.as_many; left = ks; fits = y.fits; link = OwnerOf y.text; links = refl; «in» = refl; out = a.1 ∙ ap (λ g. given g ks) (ap text_gives (y.procedure).is) }) k)))
 
-  pub virtual_opened : (x : Term) (v n line : ℕ) → Becomes (Do (Eval x) ∷ Do (VirtualOp v line) ∷ Do (CheckOp n line) ∷ Do (CallValueOp line) ∷ w) (Eval (VirtualOf x v n line))
-  virtual_opened x v n line a =
+  pub origin_opened : (c token line : ℕ) (x : Term) → Becomes (Do (Eval x) ∷ Do (OriginOp c token line) ∷ w) (Eval (OriginOf c token line x))
+  origin_opened c token line x a = let y = a.0 in opens x (OriginOp c token line) y.0 y.1 (record { left = ks; is = y.2; «in» = refl; out = a.1 })
+
+  -- ---- procedures as values
+
+  pub remote_procedure_opened : (x : Term) (c line : ℕ) → Becomes (Do (Eval x) ∷ Do (ObjectOp c line) ∷ Do (ProcedureOp c) ∷ w) (Eval (RemoteProcedureOf x c line))
+  remote_procedure_opened x c line a =
       let y = a.0 in
-      evals s code m fs Below inst t b u low (Do (VirtualOp v line) ∷ Do (CheckOp n line) ∷ Do (CallValueOp line) ∷ w) x p y.x ks y.object
-      (puts (Do (CheckOp n line) ∷ Do (CallValueOp line) ∷ w) (VirtualOp v line) y.x y.y (Any ∷ ks) (MatchOf v ∷ ks) (record { is = y.found; declared = y.declared; left = ks; «in» = refl; out = refl })
-      (puts (Do (CallValueOp line) ∷ w) (CheckOp n line) y.y y.z (MatchOf v ∷ ks) (MatchOf v ∷ ks) (record { is = y.checked; virtual = v; left = ks; «in» = refl; out = refl })
-      (puts w (CallValueOp line) y.z q (MatchOf v ∷ ks) ks' (record { is = y.called; virtual = v; left = ks; fits = y.fits; «in» = refl; out = a.1 }) k)))
+      evals s code m fs Below inst t b u low (Do (ObjectOp c line) ∷ Do (ProcedureOp c) ∷ w) x p y.x ks y.object
+      (puts (Do (ProcedureOp c) ∷ w) (ObjectOp c line) y.x y.y (Any ∷ ks) (OwnerOf y.text ∷ ks) (record { is = y.there; text = y.text; around = (y.procedure).stands_in; left = ks; «in» = refl; out = refl })
+      (puts w (ProcedureOp c) y.y q (OwnerOf y.text ∷ ks) ks' (record { is = y.value; text = y.text; procedure = y.procedure; left = ks; link = OwnerOf y.text; links = refl; «in» = refl; out = a.1 }) k))
+
+  pub match_opened : (x : Term) (v line : ℕ) → Becomes (Do (Eval x) ∷ Do (VirtualOp v line) ∷ w) (Eval (MatchOf x v line))
+  match_opened x v line a = let y = a.0 in opens x (VirtualOp v line) y.x y.object (record { is = y.found; declared = y.declared; left = ks; «in» = refl; out = a.1 })
+
+  -- the actual parameters of a call that is checked
+  parameters_pend : (after : List Item) (was number line : ℕ) (es : Expressions) (y z : ℕ) (before : List Kind) → AllPassAt s code (site_at t b u) (length before) was number line es y z → Pends after z (anys (count_of es) before) → Pends (parameters number line es after) y before
+  parameters_pend after was number line NoMore y z before a r = subst (λ place. Pends after place before) a r
+  parameters_pend after was number line (Then e es) y z before a r =
+      puts (parameters (suc number) line es after) (ParameterOp number e line) y a.0 before (Any ∷ before) (record { was = was; passes = a.1; out = refl })
+      (parameters_pend after was (suc number) line es a.0 z (Any ∷ before) a.2 (subst (λ place. Pends after z place) (sym (anys_more (count_of es) before)) r))
+
+  pub checked_opened : (x : Term) (leaves : Bool) (home : ℕ) (es : Expressions) (line : ℕ) → Becomes (Do (Eval x) ∷ Do (CheckOp es line) ∷ parameters 0 line es (Do (CallValueOp (count_of es) leaves line) ∷ w)) (Eval (CheckedOf x leaves home es line))
+  checked_opened x leaves home es line a =
+      let y = a.0 in
+      let called = Do (CallValueOp (count_of es) leaves line) ∷ w in
+      evals s code m fs Below inst t b u low (Do (CheckOp es line) ∷ parameters 0 line es called) x p y.x ks y.procedure
+      (puts (parameters 0 line es called) (CheckOp es line) y.x y.y (Any ∷ ks) (Any ∷ ks) (record { is = y.check; left = ks; «in» = refl; out = refl })
+      (parameters_pend called y.was 0 line es y.y y.z (Any ∷ ks) y.passes
+      (puts w (CallValueOp (count_of es) leaves line) y.z q (anys (count_of es) (Any ∷ ks)) ks' (record { is = y.called; left = ks; fits = y.fits; «in» = anys_more (count_of es) ks; out = a.1 }) k)))
 
   pub qualified_element_opened : (line c : ℕ) (x : Term) (ts : Terms) → Becomes (Do (Eval x) ∷ each ts (Do (QualifiedElementOp (count ts) line c) ∷ w)) (Eval (QualifiedElementOf line c x ts))
   qualified_element_opened line c x ts a =
@@ -280,6 +306,7 @@ module _ (s : Source) (code : CodeOf) (m : Instances) (fs : Frames) (Below : Wai
   used_leaves : (j : ℕ) (key : Key) (wanted : Use) → leaving s (NamedOf j key wanted) ks ≡ kind_used wanted ∷ ks
   used_leaves j key (ForValue class line) = refl
   used_leaves j key (ForPlace value_too line) = refl
+  used_leaves j key (ForParameter number line) = refl
 
   pub named_opened : (j : ℕ) (key : Key) (wanted : Use) → Becomes (Do (NamedOp j key wanted) ∷ w) (Eval (NamedOf j key wanted))
   named_opened j key wanted a = puts w (NamedOp j key wanted) p q ks ks' (record { is = a.0; out = a.1 ∙ used_leaves j key wanted }) k

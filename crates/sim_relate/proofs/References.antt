@@ -32,7 +32,7 @@ use Rattle.sim_relate.proofs.Assigns.{wrote_on}
 use Rattle.sim_relate.proofs.Admitting.{admitting_alike, number_found}
 use Rattle.sim_relate.proofs.Hands.{hand_finding, hand_popping}
 use Rattle.sim_relate.proofs.Here.{Here, act, at_row, kinds_as}
-use Rattle.sim_relate.proofs.Known.{NamedAt, actual_at, named_place, named_reference, named_value, Any, Every, RefersAt, FixedOf, Located, Refers, is_fixed, kind_unless, HandAt, Kind, Runs, StackAt, ValAt, anys, array_at, element_at, image_at, link_at, more_at, plain_at, refers_cell, refers_element, site_at, Settled, IsReference}
+use Rattle.sim_relate.proofs.Known.{NamedAt, actual_at, named_place, named_reference, named_value, Any, Every, RefersAt, FixedOf, Located, Refers, is_fixed, kind_unless, HandAt, Kind, Runs, StackAt, ValAt, anys, array_at, element_at, image_at, link_at, more_at, plain_at, refers_cell, refers_element, site_at, Settled, IsReference, procedure_at}
 use Rattle.sim_relate.proofs.Living.{reached}
 use Rattle.sim_relate.proofs.Operations.{IsReferred, by_name, of_class}
 use Rattle.sim_relate.proofs.ObjectsHere.{ObjectHere, class_named, in_class_same, is_of_same, main_in_same, main_is_same, named_in_same, object_here, of_text}
@@ -77,6 +77,7 @@ module _ (s : Source) (code : CodeOf) (coding : Compiled s code) (l : Limits) (o
   referred_on line _ _ r z element_at n f = alike_unruled Configuration Machine R o _
   referred_on line _ _ r z image_at n f = alike_unruled Configuration Machine R o _
   referred_on line _ _ r z (actual_at h) n f = alike_unruled Configuration Machine R o _
+  referred_on line _ _ r z (procedure_at h) n f = alike_unruled Configuration Machine R o _
 
   pub pops_object : (line : ℕ) (left : List Kind) (r : ℕ → List Val → Run Configuration) (z : ℕ → List Value → Run Machine) → ks ≡ anys 1 left → ((j : ℕ) (vals' : List Val) (stack' : List Value) → Names s m (meaning.Of (Object j)) → StackAt (HandAt s code m) left vals' stack' → Alike R (r j vals') (z j stack')) → Alike R (pop_object plain line vals o r) (pop_object machine.plain line stack o z)
   unfolding pop_object pop_plain
@@ -99,6 +100,7 @@ module _ (s : Source) (code : CodeOf) (coding : Compiled s code) (l : Limits) (o
   told_on line _ _ r z element_at n f = alike_unruled Configuration Machine R o _
   told_on line _ _ r z image_at n f = alike_unruled Configuration Machine R o _
   told_on line _ _ r z (actual_at h) n f = alike_unruled Configuration Machine R o _
+  told_on line _ _ r z (procedure_at h) n f = alike_unruled Configuration Machine R o _
 
   pops_reference : (line : ℕ) (left : List Kind) (r : Plain → List Val → Run Configuration) (z : Plain → List Value → Run Machine) → ks ≡ anys 1 left → ((p : Plain) (vals' : List Val) (stack' : List Value) → Names s m (meaning.Of p) → IsReference p → StackAt (HandAt s code m) left vals' stack' → Alike R (r p vals') (z p stack')) → Alike R (pop_reference plain line vals o r) (pop_reference machine.plain line stack o z)
   unfolding pop_reference pop_plain
@@ -121,6 +123,7 @@ module _ (s : Source) (code : CodeOf) (coding : Compiled s code) (l : Limits) (o
   object_told line _ _ r z element_at n f = alike_unruled Configuration Machine R o _
   object_told line _ _ r z image_at n f = alike_unruled Configuration Machine R o _
   object_told line _ _ r z (actual_at h) n f = alike_unruled Configuration Machine R o _
+  object_told line _ _ r z (procedure_at h) n f = alike_unruled Configuration Machine R o _
 
   tests_object : (line : ℕ) (left : List Kind) (r : ℕ → List Val → Run Configuration) (z : Plain → List Value → Run Machine) → ks ≡ anys 1 left → ((j : ℕ) (vals' : List Val) (stack' : List Value) → Names s m (meaning.Of (Object j)) → StackAt (HandAt s code m) left vals' stack' → Alike R (r j vals') (z (Object j) stack')) → Alike R (pop_object plain line vals o r) (pop_reference machine.plain line stack o z)
   unfolding pop_object pop_reference pop_plain
@@ -200,6 +203,7 @@ module _ (s : Source) (code : CodeOf) (coding : Compiled s code) (l : Limits) (o
   tested_on member c h _ _ r z element_at n f = alike_unruled Configuration Machine R o _
   tested_on member c h _ _ r z image_at n f = alike_unruled Configuration Machine R o _
   tested_on member c h _ _ r z (actual_at y) n f = alike_unruled Configuration Machine R o _
+  tested_on member c h _ _ r z (procedure_at y) n f = alike_unruled Configuration Machine R o _
 
   pub member : (x : Membership) (c : ℕ) → Follows (MemberOp x c)
   unfolding pop_plain
@@ -229,6 +233,7 @@ module _ (s : Source) (code : CodeOf) (coding : Compiled s code) (l : Limits) (o
   kept_on _ _ vals' stack' left element_at hs e place = alike_unruled Configuration Machine R o _
   kept_on _ _ vals' stack' left image_at hs e place = alike_unruled Configuration Machine R o _
   kept_on _ _ vals' stack' left (actual_at h) hs e place = alike_unruled Configuration Machine R o _
+  kept_on _ _ vals' stack' left (procedure_at h) hs e place = alike_unruled Configuration Machine R o _
 
   pub keep : Follows KeepOp
   keep y =
@@ -298,6 +303,7 @@ module _ (s : Source) (code : CodeOf) (coding : Compiled s code) (l : Limits) (o
   attribute c key (Some class) line a = found_reference c key class line a.found a.left a.«in» a.out
   attribute c (Declared d) None line a = found_by c d line (is_fixed s (Declared d)) refl a.found a.left a.«in» a.out
   attribute c meaning.Result None line a = found_located c meaning.Result line a.found a.left a.«in» a.out
+  attribute c meaning.Origin None line a = found_located c meaning.Origin line a.found a.left a.«in» a.out
   attribute c (meaning.Connection token) None line a = found_located c (meaning.Connection token) line a.found a.left a.«in» a.out
 
   -- ---- references go where they belong
@@ -340,6 +346,7 @@ module _ (s : Source) (code : CodeOf) (coding : Compiled s code) (l : Limits) (o
   value_refers line p _ _ vals2 z (element_at {a} {n}) = unclassed line p (ElementPlace a n None) z vals2 refl
   value_refers line p _ _ vals2 z (image_at {n}) = unclassed line p (ImagePlace n) z vals2 tt
   value_refers line p _ _ vals2 z (actual_at h) = alike_unruled Configuration Machine R o _
+  value_refers line p _ _ vals2 z (procedure_at h) = alike_unruled Configuration Machine R o _
 
   named_refers : (line : ℕ) → (p : Plain) → Names s m (meaning.Of p) → (v : Val) (x : Value) (vals2 : List Val) (stack2 : List Value) → NamedAt s code m v x → StackAt (HandAt s code m) ks' vals2 stack2 → q ≡ suc pc → Alike R (meaning_refers line v p vals2) (machine_refers line x p stack2)
   named_refers line p n v x vals2 stack2 (named_reference c h w) hs place = refers_to line c h p n v x vals2 stack2 w hs place
@@ -361,6 +368,7 @@ module _ (s : Source) (code : CodeOf) (coding : Compiled s code) (l : Limits) (o
   refers_on line kind h _ _ vals1 stack1 element_at n h1 place = alike_unruled Configuration Machine R o _
   refers_on line kind h _ _ vals1 stack1 image_at n h1 place = alike_unruled Configuration Machine R o _
   refers_on line kind h _ _ vals1 stack1 (actual_at y) n h1 place = alike_unruled Configuration Machine R o _
+  refers_on line kind h _ _ vals1 stack1 (procedure_at y) n h1 place = alike_unruled Configuration Machine R o _
 
   pub refer : (line : ℕ) → Follows (ReferOp line)
   unfolding pop_plain

@@ -1,5 +1,5 @@
 -- Which states of the machine stand for which states of a program.
-use Rattle.std.proofs.Common.{◌≡◌, ◌≢◌, ◌+◌, ◌<◌, ◌≤◌, ℕ, suc, Bool, true, false, List, [], ◌∷◌, length, Option, Some, None}
+use Rattle.std.proofs.Common.{◌≡◌, ◌⊎◌, ◌≢◌, ◌+◌, ◌<◌, ◌≤◌, ℕ, suc, Bool, true, false, List, [], ◌∷◌, length, Option, Some, None}
 use Rattle.std.specs.Prelude.{⊤, drop, pos, slice_get}
 use Rattle.sim_chains.specs.Components.{AttachedObject, DetachedObject, NoObject, ResumedObject, Standing, TerminatedObject}
 use Rattle.sim_scope.specs.Access.{encloser}
@@ -23,7 +23,7 @@ use Rattle.sim_code.specs.Machine.{Frames, Machine, Cells, joined}
 use Rattle.sim_code.specs.Machine as machine
 use Rattle.sim_code.proofs.Lifts.{Both}
 use Rattle.sim_meaning.specs.Levels.{has_levels, is_class, levels_made, levels_of, text_at}
-use Rattle.sim_meaning.specs.Pending.{Activation, ActivateOp, AgainOp, ArrayOp, AttributeOp, BackOp, BlockOp, BranchOp, CallOp, ChooseOp, CloseOp, Configuration, ConnectOp, CopyOp, DeclareOp, Do, DropOp, ElementOp, ElementsOp, EndBlock, EndEvaluation, EndLevel, EndObject, EndPrefixed, EndProcedure, EndProcessOp, EndProgram, EnterOp, Eval, Exec, Execs, FetchOp, FitsOp, GiveOp, Held, IfOp, InnerOp, Instances, Item, JoinOp, KeepOp, Key, Level, LevelOp, MemberOp, NamedOp, NewOp, NotNoneOp, ObjectOp, OneOp, Op, PastOp, PrefixedOp, ProcessOp, QuaOp, QualifiedElementOp, RaiseOp, ReferOp, SelfOp, SetOp, ShareOp, SimulationOp, StandardOp, StepOp, StepTestOp, StoreOp, SwapOp, Target, Term, TestOp, ToReferenceAt, TransferOp, TwoOp, WhenOp, WhileElementOp, held, VirtualOp, CheckOp, CallValueOp}
+use Rattle.sim_meaning.specs.Pending.{Activation, ActivateOp, AgainOp, ArrayOp, AttributeOp, BackOp, BlockOp, BranchOp, CallOp, ChooseOp, CloseOp, Configuration, ConnectOp, CopyOp, DeclareOp, Do, DropOp, ElementOp, ElementsOp, EndBlock, EndEvaluation, EndLevel, EndObject, EndPrefixed, EndProcedure, EndProcessOp, EndProgram, EnterOp, Eval, Exec, Execs, FetchOp, FitsOp, GiveOp, Held, IfOp, InnerOp, Instances, Item, JoinOp, KeepOp, Key, Level, LevelOp, MemberOp, NamedOp, NewOp, NotNoneOp, ObjectOp, OneOp, Op, PastOp, PrefixedOp, ProcessOp, QuaOp, QualifiedElementOp, RaiseOp, ReferOp, SelfOp, SetOp, ShareOp, SimulationOp, StandardOp, StepOp, StepTestOp, StoreOp, SwapOp, Target, Term, TestOp, ToReferenceAt, TransferOp, TwoOp, WhenOp, WhileElementOp, held, VirtualOp, CheckOp, CallValueOp, OriginOp, ParameterOp, ProcedureOp}
 use Rattle.sim_meaning.specs.Entries.{passes}
 use Rattle.sim_meaning.specs.Meaning.{has_result}
 use Rattle.sim_meaning.specs.Texts.{BlockText, ProcedureText, is_class_free, text}
@@ -32,13 +32,13 @@ use Rattle.codegen_expr.specs.Sites.{Ahead, At, HasCell, Is, LevelOf, LoopAt, Pu
 use Rattle.codegen_expr.specs.CodeExpr.{ExprAt, PlaceAt, ReferencePlaceAt, member_instr, one_instr, two_instr}
 use Rattle.codegen.specs.CodeArrays.{ArraysAt}
 use Rattle.codegen.specs.CodeFor.{ElementsAt, OfCell, OfPlace, OfReference, ReturnsAt, StepAt, TurnAt, Variable, WhileElementAt}
-use Rattle.codegen.specs.CodeStm.{ArmsAt, ConnectsAt, EndsAt, StmAt, StmsAt, WithInnerAt}
+use Rattle.codegen.specs.CodeStm.{ArmsAt, ConnectsAt, EndsAt, is_class_text, origins, StmAt, StmsAt, WithInnerAt}
 use Rattle.codegen.specs.Compiled.{RecordOf, type_of_name}
 use Rattle.sim_relate.proofs.Known.{HasClass, Calm, HandAt, InTemps, IsGiven, IsTemp, Keeps, Kind, Later, Low, Reaches, Refers, Runs, SameFrame, SlotAt, Spot, StackAt, Stands, anys, at_stage, is_declared, is_fixed, is_process_in, owner_of, place_target, placed, reads, site_at, spot, variable_target, LeavesIs}
 use Rattle.sim_relate.proofs.Thunks.{AskedAt, CloseIs}
 use Rattle.sim_relate.proofs.Waiting.{GetsIs, NoValue, OfName, Wait, demand, gets_any, given_by, suspended_by, value_if}
 use Rattle.sim_relate.proofs.Trees.{Classed, TermAt, transfer_instr}
-use Rattle.sim_relate.proofs.Operations.{Works, WorksAnyLine, ChoiceIs, IfIs, CallOpIs, NewOpIs, PrefixedOpIs, AttributeOpIs, NamedOpIs, ObjectOpIs, QualifiedElementOpIs, FitsOpIs, FetchOpIs, SwapIs, ReferIs, StandardOpIs, SetOpIs, ProcessOpIs, SimulationOpIs, BlockOpIs, ActivateOpIs, SelfOpIs, JoinOpIs, AgainIs, ArrayIs, StoreIs, TempIs, ShareIs, GiveIs, VirtualOpIs, CheckOpIs, CallValueOpIs}
+use Rattle.sim_relate.proofs.Operations.{Works, WorksAnyLine, ChoiceIs, IfIs, CallOpIs, NewOpIs, PrefixedOpIs, AttributeOpIs, NamedOpIs, ObjectOpIs, QualifiedElementOpIs, FitsOpIs, FetchOpIs, SwapIs, ReferIs, StandardOpIs, SetOpIs, ProcessOpIs, SimulationOpIs, BlockOpIs, ActivateOpIs, SelfOpIs, JoinOpIs, AgainIs, ArrayIs, StoreIs, TempIs, ShareIs, GiveIs, VirtualOpIs, CheckOpIs, CallValueOpIs, OriginOpIs, ParameterOpIs, ProcedureOpIs}
 
 module _ (s : Source) (code : CodeOf) where
   -- ---- statements
@@ -243,10 +243,13 @@ module _ (s : Source) (code : CodeOf) where
   OpAt m fs inst site (AttributeOp k key class line) p q before behind = AttributeOpIs s code k key class line p q before behind
   OpAt m fs inst site (ObjectOp k line) p q before behind = ObjectOpIs s code k line p q before behind
   OpAt m fs inst site (VirtualOp v line) p q before behind = VirtualOpIs s code v line p q before behind
-  OpAt m fs inst site (CheckOp n line) p q before behind = CheckOpIs s code n line p q before behind
-  OpAt m fs inst site (CallValueOp line) p q before behind = CallValueOpIs s code site line p q before behind
+  OpAt m fs inst site (OriginOp k token line) p q before behind = OriginOpIs s code site k token line p q before behind
+  OpAt m fs inst site (ProcedureOp k) p q before behind = ProcedureOpIs s code k p q before behind
+  OpAt m fs inst site (CheckOp es line) p q before behind = CheckOpIs s code es line p q before behind
+  OpAt m fs inst site (ParameterOp n e line) p q before behind = ParameterOpIs s code site n e line p q before behind
+  OpAt m fs inst site (CallValueOp n leaves line) p q before behind = CallValueOpIs s code site n leaves line p q before behind
   OpAt m fs inst site (NamedOp j key wanted) p q before behind = NamedOpIs s code m inst site j key wanted p q before behind
-  OpAt m fs inst site (CloseOp e) p q before behind = CloseIs s code site e p q before behind
+  OpAt m fs inst site (CloseOp as_procedure e) p q before behind = CloseIs s code site as_procedure e p q before behind
   OpAt m fs inst site (QualifiedElementOp n line k) p q before behind = QualifiedElementOpIs s code n line k p q before behind
   OpAt m fs inst site (MemberOp member k) p q before behind = Classed s k × WorksAnyLine s code (member_instr member (class_number s code k)) 1 true p q before behind
   OpAt m fs inst site (QuaOp k line) p q before behind = Classed s k × Works s code (i.Qua (pos (class_number s code k))) line 1 true p q before behind
@@ -354,7 +357,7 @@ module _ (s : Source) (code : CodeOf) where
     pub is : WithInnerAt s code site place after ss p q
     pub ordinary : is_process_in s site.text ≡ false
 
-  -- The end of a process, behind `inner` of the level of the class `process`: among the classes with that level is its own.
+  -- The end of a process, behind `inner` of the level of the class `process`: its own class is that, or among the classes with that level.
   pub record EndProcessIs (site : Site) (b : Runs) (c : Spot) (p q : ℕ) (before behind : List Kind) : Type 0 where
     pub place : ℕ
     pub was : b.stage ≡ stage.Behind place
@@ -364,10 +367,9 @@ module _ (s : Source) (code : CodeOf) where
     pub around : ℕ
     pub is_around : encloser s.tables site.text ≡ Some around
     pub classes : List ℕ
-    pub each_class : (n k : ℕ) → slice_get classes n ≡ Some k → is_class (Texts.text s k) ≡ true
-    pub own_at : ℕ
-    pub own_is : slice_get classes own_at ≡ Some b.own
-    pub ends : EndsAt s code site around classes p q
+    pub each_class : (n k : ℕ) → slice_get classes n ≡ Some k → is_class_text (Texts.text s k) ≡ true
+    pub own : ((n : ℕ) × (slice_get classes n ≡ Some b.own)) ⊎ (b.own ≡ site.text)
+    pub ends : EndsAt s code site around classes (origins s site.text) p q
     pub low : site.used ≡ own_end s code site.text + expression_temps
     pub goes_on : c ≡ spot site.text b site.used
     pub none : before ≡ []

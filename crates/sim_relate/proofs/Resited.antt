@@ -1,17 +1,19 @@
 -- A closed tree has the same code where other temps are in use.
-use Rattle.std.proofs.Common.{ℕ, suc, true, false, Option, Some, None}
+use Rattle.std.proofs.Common.{ℕ, suc, Bool, true, false, Option, Some, None}
 use Rattle.sim_scope.specs.Source.{Source}
+use Rattle.sim_tree.specs.Syntax.{Expression, Expressions, NoMore, Then}
 use Rattle.sim_values.specs.declared.standard.Standard.{Standard}
 use Rattle.sim_values.specs.declared.value.TextVal.{TextVal}
 use Rattle.sim_values.specs.Plain.{Character, Integer, Nothing, Object, Plain, Text, Truth, MainOf}
 use Rattle.sim_code.specs.declared.instr.Instr.{Instr}
 use Rattle.sim_code.specs.Code.{CodeOf}
-use Rattle.sim_meaning.specs.Pending.{ActualOf, AttributeOf, CallOf, Cell, CopyOf, Either, ElementOf, FitsOf, Further, Given, ImageOf, Instances, Joined, KeptOf, Key, MemberOf, NamedOf, NewOf, NoTerm, NotNoneOf, One, PlaceOf, ProcessOf, QuaOf, QualifiedElementOf, QualifiedPlaceOf, RemoteCallOf, SetOf, SimulationOf, StandardOf, Term, Terms, TransferOf, Two, Unbuilt, ValueAt, VirtualOf}
+use Rattle.sim_meaning.specs.Pending.{ActualOf, AttributeOf, CallOf, Cell, CopyOf, Either, ElementOf, FitsOf, Further, Given, ImageOf, Instances, Joined, KeptOf, Key, MemberOf, NamedOf, NewOf, NoTerm, NotNoneOf, One, PlaceOf, ProcessOf, QuaOf, QualifiedElementOf, QualifiedPlaceOf, RemoteCallOf, SetOf, SimulationOf, StandardOf, Term, Terms, TransferOf, Two, Unbuilt, ValueAt, OriginOf, ProcedureOf, RemoteProcedureOf, MatchOf, CheckedOf}
+use Rattle.sim_meaning.specs.Checks.{passed}
 use Rattle.sim_meaning.specs.Texts.{constant_of}
 use Rattle.codegen_expr.specs.Sites.{Pushes, Site}
-use Rattle.codegen_expr.specs.CodeExpr.{GivenAt, HeldAt, PlainAt, StandardIs}
-use Rattle.sim_relate.proofs.Known.{Any, FixedOf, Kind, LinkOf, LinkTo, Located, MatchOf, Named, OwnerOf, Refers}
-use Rattle.sim_relate.proofs.Trees.{CellPlaceIs, FetchesAt, GivenIs, ReadsAt, TermAt, TermsAt, TextIs, empty, listed}
+use Rattle.codegen_expr.specs.CodeExpr.{GivenAt, HeldAt, PastThunkAt, PlainAt, StandardIs, ThunkIfAt, is_procedure, is_value}
+use Rattle.sim_relate.proofs.Known.{Any, FixedOf, Kind, LinkOf, LinkTo, Located, Named, OwnerOf, Refers, ActualCode}
+use Rattle.sim_relate.proofs.Trees.{AllPassAt, CellPlaceIs, OriginIs, PassesIs, FetchesAt, GivenIs, ReadsAt, TermAt, TermsAt, TextIs, empty, listed}
 
 module _ (s : Source) (code : CodeOf) (m : Instances) (inst : ℕ) (site : Site) (u : ℕ) where
   abbrev other : Site
@@ -59,13 +61,49 @@ module _ (s : Source) (code : CodeOf) (m : Instances) (inst : ℕ) (site : Site)
   fetches_sited n (LinkTo t) p q a = absurd a
   fetches_sited n (OwnerOf t) p q a = absurd a
   fetches_sited n (LinkOf j) p q a = absurd a
-  fetches_sited n (MatchOf d) p q a = absurd a
 
   standard_sited : (n line : ℕ) (name : Standard) (many p q : ℕ) → StandardIs code site n line name many p q → StandardIs code other n line name many p q
   standard_sited n line name many p q a = record { as_many = a.as_many; number = a.number; numbered = a.numbered; is = a.is; fits = a.fits }
 
   held_sited : (n line class p q : ℕ) → HeldAt s code site n line class p q → HeldAt s code other n line class p q
   held_sited n line class p q a = record { x = a.x; y = a.y; z = a.z; within = a.within; address = pushed (suc n) _ p a.x a.address; under = a.under; put = a.put; again = pushed n _ a.z q a.again }
+
+  -- the code of a thunk has an operand stack of its own, and is closed at a site with so much in use
+  past_sited : (was number : ℕ) (Gives : Site → ℕ → ℕ → Type 0) (p q : ℕ) → PastThunkAt code site number (λ inner x y. Gives (record inner { used = was }) x y) p q → PastThunkAt code other number (λ inner x y. Gives (record inner { used = was }) x y) p q
+  past_sited was number Gives p q a = record { x = a.x; y = a.y; room = a.room; over = a.over; past = a.past; there = a.there; later = a.later; given = a.given; end = a.end }
+
+  thunk_sited : (b : Bool) (was number : ℕ) (Gives : Site → ℕ → ℕ → Type 0) (p q : ℕ) → ThunkIfAt b code site number (λ inner x y. Gives (record inner { used = was }) x y) p q → ThunkIfAt b code other number (λ inner x y. Gives (record inner { used = was }) x y) p q
+  thunk_sited true was number Gives p q a = past_sited was number Gives p q a
+  thunk_sited false was number Gives p q a = a
+
+  passes_sited : (n was number line : ℕ) (e : Expression) (p q : ℕ) → PassesIs s code site n was number line e p q → PassesIs s code other n was number line e p q
+  passes_sited n was number line e p q a = record {
+    x = a.x;
+    y = a.y;
+    value_thunk = a.value_thunk;
+    procedure_thunk = a.procedure_thunk;
+    value = thunk_sited (is_value (passed s e)) was a.value_thunk (λ inner x y. ActualCode s code inner false e x y) p a.x a.value;
+    procedure = thunk_sited (is_procedure (passed s e)) was a.procedure_thunk (λ inner x y. ActualCode s code inner true e x y) a.x a.y a.procedure;
+    passes = a.passes;
+    fits = a.fits;
+  }
+
+  all_sited : (n was number line : ℕ) (es : Expressions) (p q : ℕ) → AllPassAt s code site n was number line es p q → AllPassAt s code other n was number line es p q
+  all_sited n was number line NoMore p q a = a
+  all_sited n was number line (Then e es) p q a = (a.0, passes_sited n was number line e p a.0 a.1, all_sited (suc n) was (suc number) line es a.0 q a.2)
+
+  origin_sited : (n k token line p q : ℕ) → OriginIs s code site n k token line p q → OriginIs s code other n k token line p q
+  origin_sited n k token line p q a = record {
+    x = a.x;
+    y = a.y;
+    z = a.z;
+    again = pushed (suc n) _ p a.x a.again;
+    address = a.address;
+    pushed = pushed (suc (suc n)) _ a.y a.z a.pushed;
+    put = a.put;
+    own = a.own;
+    has = a.has;
+  }
 
   mutual
     pub term_sited : (n : ℕ) (x : Term) (p q : ℕ) → TermAt s code m inst site n x p q → TermAt s code m inst other n x p q
@@ -115,7 +153,6 @@ module _ (s : Source) (code : CodeOf) (m : Instances) (inst : ℕ) (site : Site)
       new = a.new;
       stands_in = a.stands_in;
       class = a.class;
-      made = a.made;
     }
     term_sited n (AttributeOf text key class line x) p q a = (a.0, (term_sited n x p a.0 (a.1).0, (a.1).1), a.2)
     term_sited n (RemoteCallOf x k ts line) p q a = record {
@@ -142,25 +179,34 @@ module _ (s : Source) (code : CodeOf) (m : Instances) (inst : ℕ) (site : Site)
     term_sited n (SetOf name ts) p q a = (a.0, terms_sited n ts p a.0 a.1, a.2)
     term_sited n (ProcessOf name line x) p q a = (a.0, (term_sited n x p a.0 (a.1).0, (a.1).1), a.2)
     term_sited n (SimulationOf j name ts line) p q a = record { text = a.text; x = a.x; y = a.y; link = pushed n _ p a.x a.link; reaches = a.reaches; actuals = terms_sited (suc n) ts a.x a.y a.actuals; is = a.is }
-    term_sited n (VirtualOf x v many line) p q a = record {
+    term_sited n (OriginOf k token line x) p q a = (a.0, (term_sited n x p a.0 (a.1).0, (a.1).1), origin_sited n k token line a.0 q a.2)
+    term_sited n (ProcedureOf j k) p q a = record { text = a.text; x = a.x; link = pushed n _ p a.x a.link; reaches = a.reaches; value = a.value; procedure = a.procedure }
+    term_sited n (RemoteProcedureOf x k line) p q a = record {
+      text = a.text;
+      x = a.x;
+      y = a.y;
+      object = (term_sited n x p a.x (a.object).0, (a.object).1);
+      there = a.there;
+      value = a.value;
+      procedure = a.procedure;
+    }
+    term_sited n (MatchOf x v line) p q a = record { x = a.x; object = (term_sited n x p a.x (a.object).0, (a.object).1); declared = a.declared; found = a.found }
+    term_sited n (CheckedOf x leaves home es line) p q a = record {
       x = a.x;
       y = a.y;
       z = a.z;
-      object = (term_sited n x p a.x (a.object).0, (a.object).1);
+      was = a.was;
+      here = a.here;
+      procedure = (term_sited n x p a.x (a.procedure).0, (a.procedure).1);
       fits = a.fits;
-      declared = a.declared;
-      found = a.found;
-      checked = a.checked;
+      check = a.check;
+      passes = all_sited (suc n) a.was 0 line es a.y a.z a.passes;
       called = a.called;
     }
-    term_sited n (ActualOf home x) p q a =
+    term_sited n (ActualOf home as_procedure x) p q a =
         let z = a.thunk in
-        record {
-          was = a.was;
-          here = a.here;
-          thunk = record { x = z.x; y = z.y; z = z.z; number = z.number; room = z.room; over = z.over; past = z.past; there = z.there; given = z.given; end = z.end; thunk = pushed n _ z.z q z.thunk };
-        }
-    term_sited n (NamedOf j key wanted) p q a = record { text = a.text; use_is = a.use_is; fits = a.fits; reaches = a.reaches; own = a.own; has = a.has; varies = a.varies; classed = a.classed }
+        record { was = a.was; here = a.here; thunk = record { z = z.z; number = z.number; past = past_sited a.was z.number (λ inner u v. ActualCode s code inner as_procedure x u v) p z.z z.past; thunk = pushed n _ z.z q z.thunk } }
+    term_sited n (NamedOf j key wanted) p q a = record { text = a.text; use_is = a.use_is; fits = a.fits; reaches = a.reaches; own = a.own; has = a.has; varies = a.varies; classed = a.classed; is_use = a.is_use }
     term_sited n Unbuilt p q a = a
 
     terms_sited : (n : ℕ) (xs : Terms) (p q : ℕ) → TermsAt s code m inst site n xs p q → TermsAt s code m inst other n xs p q

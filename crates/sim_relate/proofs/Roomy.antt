@@ -1,12 +1,11 @@
 -- Where an expression stands there is room for its value.
-use Rattle.std.proofs.Common.{◌≡◌, ◌<◌, ℕ, suc, Bool, true, false, List, Option, Some, None}
+use Rattle.std.proofs.Common.{◌≡◌, ◌<◌, ℕ, suc, Bool, true, false, Option, Some, None}
 use Rattle.std.specs.Prelude.{◌||◌}
 use Rattle.sim_base.specs.declared.numbering.DeclNo.{DeclNo}
 use Rattle.sim_scope.specs.declared.scopes.Denotation.{Denotation}
 use Rattle.sim_scope.specs.declared.scopes.Denotation.TheVariants as denotation
 use Rattle.sim_scope.specs.declared.types.Entry.{Entry}
 use Rattle.sim_scope.specs.declared.types.Entry.TheVariants as entry
-use Rattle.sim_scope.specs.declared.types.Formal.{Formal}
 use Rattle.sim_scope.specs.declared.types.FormalKind.{FormalKind}
 use Rattle.sim_scope.specs.declared.types.FormalKind.TheVariants as shape
 use Rattle.sim_scope.specs.declared.types.Mode.{Mode}
@@ -23,15 +22,16 @@ use Rattle.sim_values.specs.Plain.{Plain, Character, Integer, Nothing, Object, T
 use Rattle.sim_values.specs.Standard.{is_image, on_image, row_of}
 use Rattle.sim_code.specs.Code.{CodeOf}
 use Rattle.sim_code.specs.Simulations.{is_simulation_name}
-use Rattle.sim_meaning.specs.Attributes.{connection_at, is_connection, own_attribute, class_made}
+use Rattle.sim_meaning.specs.Attributes.{connection_at, is_connection, own_attribute}
 use Rattle.sim_meaning.specs.Closing.{Joining, Lazily, Negated, Plainly, Sort, formals_at, is_attribute, is_text, is_variable, sort_of, stream_of, sysout}
 use Rattle.sim_meaning.specs.Constants.{text_constant}
-use Rattle.sim_meaning.specs.Levels.{class_at}
+use Rattle.sim_meaning.specs.Levels.{class_at, is_process_itself}
 use Rattle.sim_meaning.specs.Names.{procedure_named}
+use Rattle.sim_meaning.specs.Pending.{Use}
 use Rattle.sim_meaning.specs.Statements.{has_value, standard_leaves}
 use Rattle.sim_meaning.specs.Texts.{constant_of, text}
 use Rattle.codegen_expr.specs.Sites.{Site}
-use Rattle.codegen_expr.specs.CodeExpr.{ActualsAt, ArrayAt, ArrayOfAt, AttributeAt, BehindDotAt, ConnectedAt, ConnectedNameAt, ConstantAt, ConstantAttributeAt, DeclaredAt, DotAt, ExprAt, ExprsAt, FormalAt, GenerationAt, GivenAt, LiteralAt, MemberAt, NameAt, NamedAt, OfObjectAt, OwnAt, ParameterOfAt, PlaceAt, PlainAt, QuaAt, SignedAt, StandardAt, ThisFoundAt, ThisOfAt, ThroughAt, TwoAt, VariableAt, VariableOfAt, gives, OwnBy, OwnNameAt, SimulationFoundAt}
+use Rattle.codegen_expr.specs.CodeExpr.{ActualsAt, ByNameAt, Listed, NamedArrayAt, OriginIfAt, NewAt, FormalProcedureAt, Parameters, parameters_at, ArrayAt, ArrayOfAt, AttributeAt, BehindDotAt, ConnectedAt, ConnectedNameAt, ConstantAt, ConstantAttributeAt, DeclaredAt, DotAt, ExprAt, ExprsAt, FormalAt, GenerationAt, GivenAt, LiteralAt, MemberAt, NameAt, NamedAt, OfObjectAt, OwnAt, ParameterOfAt, PlaceAt, PlainAt, QuaAt, SignedAt, StandardAt, ThisFoundAt, ThisOfAt, ThroughAt, TwoAt, VariableAt, VariableOfAt, gives, OwnBy, OwnNameAt, SimulationFoundAt}
 
 module _ (s : Source) (code : CodeOf) (site : Site) where
   -- one value more has room
@@ -90,26 +90,37 @@ module _ (s : Source) (code : CodeOf) (site : Site) where
   array_fits d line n NoMore Inner p q a = (a.load).fits
   array_fits d line n (Then e es) Inner p q a = let x = a.1 in ((x.array).load).fits
 
-  formal_fits : (d : DeclNo) (line n : ℕ) (by : Mode) (kind : FormalKind) (es : Expressions) (Inner : ℕ → ℕ → Type 0) (p q : ℕ) → FormalAt s code site n line d by kind es Inner p q → Fits n
-  formal_fits d line n mode.ByName shape.Simple NoMore Inner p q a = a.fits
-  formal_fits d line n mode.ByName shape.Simple (Then e es) Inner p q a = absurd a
-  formal_fits d line n mode.ByName shape.Array es Inner p q a = absurd a
-  formal_fits d line n mode.ByName shape.Procedure es Inner p q a = absurd a
-  formal_fits d line n mode.ByValue shape.Simple es Inner p q a = variable_fits d es n p q a
-  formal_fits d line n mode.ByValue shape.Array es Inner p q a = array_fits d line n es Inner p q a
-  formal_fits d line n mode.ByValue shape.Procedure es Inner p q a = absurd a
-  formal_fits d line n mode.ByReference shape.Simple es Inner p q a = variable_fits d es n p q a
-  formal_fits d line n mode.ByReference shape.Array es Inner p q a = array_fits d line n es Inner p q a
-  formal_fits d line n mode.ByReference shape.Procedure es Inner p q a = absurd a
+  name_alone_fits : (d : DeclNo) (es : Expressions) (wanted : Use) (n p q : ℕ) → ByNameAt s code site n d es wanted p q → Fits n
+  name_alone_fits d NoMore wanted n p q a = a.fits
+  name_alone_fits d (Then e es) wanted n p q a = absurd a
 
-  declared_fits : (d : DeclNo) (line n : ℕ) (o : Option Entry) (es : Expressions) (Inner : ℕ → ℕ → Type 0) (Actuals : List Formal → ℕ → ℕ → Type 0) (p q : ℕ) → DeclaredAt s code site n line d o es Inner Actuals p q → Fits n
+  named_array_fits : (d : DeclNo) (line n : ℕ) (es : Expressions) (Inner : ℕ → ℕ → Type 0) (p q : ℕ) → NamedArrayAt s code site n line d es Inner p q → Fits n
+  named_array_fits d line n NoMore Inner p q a = a.fits
+  named_array_fits d line n (Then e es) Inner p q a = let x = a.1 in (x.array).fits
+
+  formal_procedure_fits : (d : DeclNo) (line n : ℕ) (by_name : Bool) (p q : ℕ) → FormalProcedureAt s code site n line d by_name p q → Fits n
+  formal_procedure_fits d line n true p q a = a.fits
+  formal_procedure_fits d line n false p q a = (a.load).fits
+
+  formal_fits : (d : DeclNo) (line n : ℕ) (by : Mode) (kind : FormalKind) (es : Expressions) (Inner : ℕ → ℕ → Type 0) (Actuals : Parameters → ℕ → ℕ → Type 0) (p q : ℕ) → FormalAt s code site n line d by kind es Inner Actuals p q → Fits n
+  formal_fits d line n mode.ByName shape.Simple es Inner Actuals p q a = name_alone_fits d es _ n p q a
+  formal_fits d line n mode.ByName shape.Array es Inner Actuals p q a = named_array_fits d line n es Inner p q a
+  formal_fits d line n mode.ByName shape.Procedure es Inner Actuals p q a = formal_procedure_fits d line n true p a.x a.procedure
+  formal_fits d line n mode.ByValue shape.Simple es Inner Actuals p q a = variable_fits d es n p q a
+  formal_fits d line n mode.ByValue shape.Array es Inner Actuals p q a = array_fits d line n es Inner p q a
+  formal_fits d line n mode.ByValue shape.Procedure es Inner Actuals p q a = formal_procedure_fits d line n false p a.x a.procedure
+  formal_fits d line n mode.ByReference shape.Simple es Inner Actuals p q a = variable_fits d es n p q a
+  formal_fits d line n mode.ByReference shape.Array es Inner Actuals p q a = array_fits d line n es Inner p q a
+  formal_fits d line n mode.ByReference shape.Procedure es Inner Actuals p q a = formal_procedure_fits d line n false p a.x a.procedure
+
+  declared_fits : (d : DeclNo) (line n : ℕ) (o : Option Entry) (es : Expressions) (Inner : ℕ → ℕ → Type 0) (Actuals : Parameters → ℕ → ℕ → Type 0) (p q : ℕ) → DeclaredAt s code site n line d o es Inner Actuals p q → Fits n
   declared_fits d line n (Some (entry.Variable type)) es Inner Actuals p q a = variable_fits d es n p q a
   declared_fits d line n (Some (entry.Constant type)) es Inner Actuals p q a = constant_fits (constant_of s d) es n p q a
   declared_fits d line n (Some (entry.Array element dimensions)) es Inner Actuals p q a = array_fits d line n es Inner p q a
-  declared_fits d line n (Some (entry.Formal x)) es Inner Actuals p q a = formal_fits d line n x.mode x.kind es Inner p q a
+  declared_fits d line n (Some (entry.Formal x)) es Inner Actuals p q a = formal_fits d line n x.mode x.kind es Inner Actuals p q a
   declared_fits d line n (Some (entry.Procedure result k)) es Inner Actuals p q a = (a.link).fits
   declared_fits d line n (Some (entry.Class block)) es Inner Actuals p q a = absurd a
-  declared_fits d line n (Some (entry.Virtual result own)) es Inner Actuals p q a = let x = a.object in (x.push).fits
+  declared_fits d line n (Some (entry.Virtual result own)) es Inner Actuals p q a = let x = a.procedure in let y = x.object in (y.push).fits
   declared_fits d line n (Some (entry.Unspecified written)) es Inner Actuals p q a = absurd a
   declared_fits d line n (Some (entry.Attribute name parameter result)) es Inner Actuals p q a = absurd a
   declared_fits d line n None es Inner Actuals p q a = absurd a
@@ -123,7 +134,7 @@ module _ (s : Source) (code : CodeOf) (site : Site) where
   standard_fits None image line n es Operands Inner p q g a = absurd a
   standard_fits (Some name) image line n es Operands Inner p q g a = name_fits (is_image name) (on_image name) name image line n es Operands Inner p q g a
 
-  named_fits : (u : Option Denotation) (line n : ℕ) (es : Expressions) (Operands Inner : ℕ → ℕ → Type 0) (Actuals : List Formal → ℕ → ℕ → Type 0) (p q : ℕ) → gives s u ≡ true → NamedAt s code site n line u es Operands Inner Actuals p q → Fits n
+  named_fits : (u : Option Denotation) (line n : ℕ) (es : Expressions) (Operands Inner : ℕ → ℕ → Type 0) (Actuals : Parameters → ℕ → ℕ → Type 0) (p q : ℕ) → gives s u ≡ true → NamedAt s code site n line u es Operands Inner Actuals p q → Fits n
   named_fits None line n es Operands Inner Actuals p q g a = absurd a
   named_fits (Some (denotation.Declared d)) line n es Operands Inner Actuals p q g a = declared_fits d line n (entry_of s.tables d) es Inner Actuals p q a
   named_fits (Some (denotation.Standard name)) line n es Operands Inner Actuals p q g a = standard_fits (procedure_named name) sysout line n es Operands Inner p q g a
@@ -154,7 +165,7 @@ module _ (s : Source) (code : CodeOf) (site : Site) where
   of_object_fits d line n (Some (entry.Formal x)) es Base Inner Actuals p q f a = parameter_of_fits d line n x.kind es Base Inner p q f a
   of_object_fits d line n (Some (entry.Procedure result k)) es Base Inner Actuals p q f a = f p a.x a.object
   of_object_fits d line n (Some (entry.Class block)) es Base Inner Actuals p q f a = absurd a
-  of_object_fits d line n (Some (entry.Virtual result own)) es Base Inner Actuals p q f a = f p a.x a.object
+  of_object_fits d line n (Some (entry.Virtual result own)) es Base Inner Actuals p q f a = let x = a.procedure in f p x.x x.object
   of_object_fits d line n (Some (entry.Unspecified written)) es Base Inner Actuals p q f a = absurd a
   of_object_fits d line n (Some (entry.Attribute name parameter result)) es Base Inner Actuals p q f a = f p a.x a.object
   of_object_fits d line n None es Base Inner Actuals p q f a = absurd a
@@ -167,16 +178,16 @@ module _ (s : Source) (code : CodeOf) (site : Site) where
   behind_fits (Some image) name is line n es Place Value Operands Inner p q g a = standard_fits name image line n es Operands Inner p q g a
   behind_fits None name is line n es Place Value Operands Inner p q g a = attribute_fits name is line n es Place Value Inner p q g a
 
-  dot_fits : (u : Option Denotation) (stream : Option ℕ) (is : Bool) (line n : ℕ) (es : Expressions) (Place Value Operands Inner : ℕ → ℕ → Type 0) (Actuals : List Formal → ℕ → ℕ → Type 0) (p q : ℕ) → gives s u ≡ true → FitsWhere n Value → DotAt s code site n line u stream is es Place Value Operands Inner Actuals p q → Fits n
+  dot_fits : (u : Option Denotation) (stream : Option ℕ) (is : Bool) (line n : ℕ) (es : Expressions) (Place Value Operands Inner : ℕ → ℕ → Type 0) (Actuals : Parameters → ℕ → ℕ → Type 0) (p q : ℕ) → gives s u ≡ true → FitsWhere n Value → DotAt s code site n line u stream is es Place Value Operands Inner Actuals p q → Fits n
   dot_fits None stream is line n es Place Value Operands Inner Actuals p q g f a = absurd a
   dot_fits (Some (denotation.Standard name)) stream is line n es Place Value Operands Inner Actuals p q g f a = behind_fits stream (procedure_named name) is line n es Place Value Operands Inner p q g a
-  dot_fits (Some (denotation.Declared d)) stream is line n es Place Value Operands Inner Actuals p q g f a = of_object_fits d line n (entry_of s.tables d) es Value Inner (Actuals (formals_at s d)) p q f a
+  dot_fits (Some (denotation.Declared d)) stream is line n es Place Value Operands Inner Actuals p q g f a = of_object_fits d line n (entry_of s.tables d) es Value Inner (Actuals (parameters_at s d)) p q f a
 
   pub connected_fits : (t n p q : ℕ) → ConnectedAt s code site n t p q → Fits n
   connected_fits t n p q a = (a.load).fits
 
-  connected_name_fits : (t : ℕ) (u : Option Denotation) (line n : ℕ) (es : Expressions) (Inner : ℕ → ℕ → Type 0) (Actuals : List Formal → ℕ → ℕ → Type 0) (p q : ℕ) → ConnectedNameAt s code site n line t u es Inner Actuals p q → Fits n
-  connected_name_fits t (Some (denotation.Declared d)) line n es Inner Actuals p q a = of_object_fits d line n (entry_of s.tables d) es (ConnectedAt s code site n t) Inner (Actuals (formals_at s d)) p q (λ p q. connected_fits t n p q) a
+  connected_name_fits : (t : ℕ) (u : Option Denotation) (line n : ℕ) (es : Expressions) (Inner : ℕ → ℕ → Type 0) (Actuals : Parameters → ℕ → ℕ → Type 0) (p q : ℕ) → ConnectedNameAt s code site n line t u es Inner Actuals p q → Fits n
+  connected_name_fits t (Some (denotation.Declared d)) line n es Inner Actuals p q a = of_object_fits d line n (entry_of s.tables d) es (ConnectedAt s code site n t) Inner (Actuals (parameters_at s d)) p q (λ p q. connected_fits t n p q) a
   connected_name_fits t (Some (denotation.Standard name)) line n es Inner Actuals p q a = absurd a
   connected_name_fits t None line n es Inner Actuals p q a = absurd a
 
@@ -206,14 +217,14 @@ module _ (s : Source) (code : CodeOf) (site : Site) where
   own_name_fits found line n (Some (entry.Unspecified written)) es Actuals Other p q f a = f p q a
   own_name_fits found line n None es Actuals Other p q f a = f p q a
 
-  own_fits : (own : Option DeclNo) (u : Option Denotation) (found : Option ℕ) (line n : ℕ) (es : Expressions) (Operands Inner : ℕ → ℕ → Type 0) (Actuals : List Formal → ℕ → ℕ → Type 0) (p q : ℕ) → gives s u ≡ true
-      → OwnAt own (λ d. OwnNameAt s code site n line found (entry_of s.tables d) es (Actuals (formals_at s d)) (OfObjectAt s code site n line d (entry_of s.tables d) es (ThisFoundAt s code site n found) Inner (Actuals (formals_at s d)))) (NamedAt s code site n line u es Operands Inner Actuals) p q → Fits n
+  own_fits : (own : Option DeclNo) (u : Option Denotation) (found : Option ℕ) (line n : ℕ) (es : Expressions) (Operands Inner : ℕ → ℕ → Type 0) (Actuals : Parameters → ℕ → ℕ → Type 0) (p q : ℕ) → gives s u ≡ true
+      → OwnAt own (λ d. OwnNameAt s code site n line found (entry_of s.tables d) es (Actuals (Listed (formals_at s d))) (OfObjectAt s code site n line d (entry_of s.tables d) es (ThisFoundAt s code site n found) Inner (Actuals (parameters_at s d)))) (NamedAt s code site n line u es Operands Inner Actuals) p q → Fits n
   own_fits None u found line n es Operands Inner Actuals p q g a = named_fits u line n es Operands Inner Actuals p q g a
   own_fits (Some d) u found line n es Operands Inner Actuals p q g a =
-      own_name_fits found line n (entry_of s.tables d) es (Actuals (formals_at s d)) (OfObjectAt s code site n line d (entry_of s.tables d) es (ThisFoundAt s code site n found) Inner (Actuals (formals_at s d))) p q
-      (λ p q b. of_object_fits d line n (entry_of s.tables d) es (ThisFoundAt s code site n found) Inner (Actuals (formals_at s d)) p q (λ p q. this_fits found n p q) b) a
+      own_name_fits found line n (entry_of s.tables d) es (Actuals (Listed (formals_at s d))) (OfObjectAt s code site n line d (entry_of s.tables d) es (ThisFoundAt s code site n found) Inner (Actuals (parameters_at s d))) p q
+      (λ p q b. of_object_fits d line n (entry_of s.tables d) es (ThisFoundAt s code site n found) Inner (Actuals (parameters_at s d)) p q (λ p q. this_fits found n p q) b) a
 
-  through_fits : (c : Option ℕ) (u : Option Denotation) (line n : ℕ) (es : Expressions) (Inner Direct : ℕ → ℕ → Type 0) (Actuals : List Formal → ℕ → ℕ → Type 0) → FitsWhere n Direct → (p q : ℕ) → ThroughAt c (λ t. ConnectedNameAt s code site n line t u es Inner Actuals) Direct p q → Fits n
+  through_fits : (c : Option ℕ) (u : Option Denotation) (line n : ℕ) (es : Expressions) (Inner Direct : ℕ → ℕ → Type 0) (Actuals : Parameters → ℕ → ℕ → Type 0) → FitsWhere n Direct → (p q : ℕ) → ThroughAt c (λ t. ConnectedNameAt s code site n line t u es Inner Actuals) Direct p q → Fits n
   through_fits None u line n es Inner Direct Actuals f p q a = f p q a
   through_fits (Some t) u line n es Inner Direct Actuals f p q a = connected_name_fits t u line n es Inner Actuals p q a
 
@@ -225,11 +236,15 @@ module _ (s : Source) (code : CodeOf) (site : Site) where
   qua_fits line None A n p q f a = absurd a
   qua_fits line (Some k) A n p q f a = f p a.0 a.1
 
-  generation_fits : (u : Option Denotation) (class : Option ℕ) (line n : ℕ) (es : Expressions) (Actuals : ℕ → ℕ → Type 0) (p q : ℕ) → GenerationAt s code site n line u class es Actuals p q → Fits n
-  generation_fits None class line n es Actuals p q a = absurd a
-  generation_fits (Some (denotation.Standard name)) class line n es Actuals p q a = absurd a
-  generation_fits (Some (denotation.Declared d)) None line n es Actuals p q a = absurd a
-  generation_fits (Some (denotation.Declared d)) (Some t) line n es Actuals p q a = (a.link).fits
+  generation_fits : (u : Option Denotation) (class : Option ℕ) (line token n : ℕ) (es : Expressions) (Actuals : ℕ → ℕ → Type 0) (p q : ℕ) → GenerationAt s code site n line token u class es Actuals p q → Fits n
+  generation_fits None class line token n es Actuals p q a = absurd a
+  generation_fits (Some (denotation.Standard name)) class line token n es Actuals p q a = absurd a
+  generation_fits (Some (denotation.Declared d)) None line token n es Actuals p q a = absurd a
+  generation_fits (Some (denotation.Declared d)) (Some t) line token n es Actuals p q a = by (is_process_itself s t) a
+    where
+      by : (c : Bool) → OriginIfAt s code site n line token t c (NewAt s code site n line d t es Actuals) p q → Fits n
+      by true a = let x = a.new in (x.link).fits
+      by false a = (a.link).fits
 
   pub expression_fits : (e : Expression) (n p q : ℕ) → ExprAt s code site n e p q → Fits n
   expression_fits (syntax.If token c x y) n p q a = expression_fits c n p a.y a.test
@@ -243,9 +258,9 @@ module _ (s : Source) (code : CodeOf) (site : Site) where
   expression_fits (syntax.Constant x token) n p q a = literal_fits token x n p q a
   expression_fits (syntax.Named name es) n p q a =
       let line = line_at s name.token.0 in
-      let Actuals : List Formal → ℕ → ℕ → Type 0 = λ fs. ActualsAt s code site (suc n) line false es fs in
+      let Actuals : Parameters → ℕ → ℕ → Type 0 = λ fs. ActualsAt s code site (suc n) line false es fs in
       through_fits (connection_at s name.token.0) (denoted s name.token.0) line n es (ExprsAt s code site (suc n) es) _ Actuals
       (λ p q. own_fits (own_attribute s name.token.0) (denoted s name.token.0) (found_at s name.token.0) line n es (ExprsAt s code site n es) (ExprsAt s code site (suc n) es) Actuals p q a.0) p q a.1
   expression_fits (syntax.This token class) n p q a = this_fits (found_at s token) n p q a
-  expression_fits (syntax.New token class es) n p q a = generation_fits (denoted s class.token.0) (class_made s (class_at s class.token.0)) (line_at s token) n es (ActualsAt s code site (suc n) (line_at s class.token.0) true es _) p q a
+  expression_fits (syntax.New token class es) n p q a = generation_fits (denoted s class.token.0) (class_at s class.token.0) (line_at s token) class.token.0 n es (ActualsAt s code site (suc n) (line_at s class.token.0) true es (Listed _)) p q a
   expression_fits (syntax.Parentheses token x) n p q a = expression_fits x n p q a

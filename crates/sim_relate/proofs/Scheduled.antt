@@ -30,7 +30,7 @@ use Rattle.sim_meaning.specs.Pending as meaning
 use Rattle.sim_meaning.specs.Sane.{AllName, Names}
 use Rattle.sim_meaning.specs.Statements.{has_value}
 use Rattle.codegen.specs.Compiled.{Compiled}
-use Rattle.sim_relate.proofs.Known.{actual_at, Any, HandAt, Kind, LinkOf, StackAt, ValAt, anys, array_at, element_at, image_at, link_at, more_at, plain_at}
+use Rattle.sim_relate.proofs.Known.{actual_at, Any, HandAt, Kind, LinkOf, StackAt, ValAt, anys, array_at, element_at, image_at, link_at, more_at, plain_at, procedure_at}
 use Rattle.sim_relate.proofs.ObjectsHere.{in_process_same}
 use Rattle.sim_relate.proofs.Operations.{operands_of, operands_with}
 use Rattle.sim_relate.proofs.Relation.{StateAt, StoreAt}
@@ -64,6 +64,7 @@ module _ (s : Source) (code : CodeOf) (coding : Compiled s code) (m : Instances)
   value_on _ _ o r q element_at n f = alike_unruled Configuration Machine R o _
   value_on _ _ o r q image_at n f = alike_unruled Configuration Machine R o _
   value_on _ _ o r q (actual_at h) n f = alike_unruled Configuration Machine R o _
+  value_on _ _ o r q (procedure_at h) n f = alike_unruled Configuration Machine R o _
 
   pops_plain : (left : List Kind) (vals : List Val) (stack : List Value) (o : World) (r : Plain → List Val → Run Configuration) (q : Plain → List Value → Run Machine) → Named (Any ∷ left) vals stack → ((p : Plain) (vals' : List Val) (stack' : List Value) → Names s m (Of p) → Named left vals' stack' → Alike R (r p vals') (q p stack')) → Alike R (pop_plain meaning.plain vals o r) (pop_plain machine.plain stack o q)
   unfolding pop_plain popping

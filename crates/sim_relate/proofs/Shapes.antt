@@ -22,9 +22,9 @@ use Rattle.std.specs.Prelude.{◌||◌}
 use Rattle.sim_code.specs.Transfers.{Calling, Detaching, Resuming, Transfer}
 use Rattle.sim_code.specs.Sets.{is_set_name}
 use Rattle.sim_code.specs.Simulations.{is_process_name, is_simulation_name}
-use Rattle.sim_meaning.specs.Attributes.{array_attribute, attribute, attribute_place, connected_object, connection_at, declared_attribute, entry_attribute, generation, if_any, own_attribute, parameter_attribute, this_term, transfer_at, transfer_term, variable_attribute, attribute_of_object, block_found, class_made, own_term, process_term, simulation_term}
-use Rattle.sim_meaning.specs.Closing.{formals_at, is_attribute, array_term, behind_dot, close, close_actuals, close_all, close_place, constant_term, declared_term, dot_term, formal_term, home_of, home_of_class, in_instance, is_variable, standard_name_term, named_term, standard_term, stream_of, sysout, variable_term}
-use Rattle.sim_meaning.specs.Levels.{class_at}
+use Rattle.sim_meaning.specs.Attributes.{array_attribute, attribute, attribute_place, connected_object, connection_at, declared_attribute, entry_attribute, generation, if_any, own_attribute, parameter_attribute, this_term, transfer_at, transfer_term, variable_attribute, attribute_of_object, block_found, origin_if, own_term, process_term, simulation_term}
+use Rattle.sim_meaning.specs.Closing.{formals_at, has_type, is_attribute, array_term, behind_dot, close, close_actuals, close_all, close_place, constant_term, declared_term, dot_term, formal_term, home_of, home_of_class, in_instance, is_variable, standard_name_term, named_term, standard_term, stream_of, sysout, variable_term}
+use Rattle.sim_meaning.specs.Levels.{class_at, is_process_itself}
 use Rattle.sim_meaning.specs.Names.{procedure_named}
 use Rattle.sim_meaning.specs.Pending.{Further, Instances, NoTerm, Term, Terms}
 use Rattle.sim_meaning.specs.Texts.{constant_of}
@@ -51,23 +51,24 @@ module _ (s : Source) (m : Instances) (i : ℕ) where
   array_leaves line d NoMore terms = in_leaves (home_of s m i d) _ (λ j ks. refl)
   array_leaves line d (Then e es) terms = in_leaves (home_of s m i d) _ (λ j ks. refl)
 
-  formal_leaves : (line : ℕ) (d : DeclNo) (by : Mode) (kind : FormalKind) (es : Expressions) (terms : Terms) → Leaves (formal_term s m i line d by kind es terms)
-  formal_leaves line d mode.ByName shape.Simple NoMore terms = in_leaves (home_of s m i d) _ (λ j ks. refl)
-  formal_leaves line d mode.ByName shape.Simple (Then e es) terms = λ ks. refl
-  formal_leaves line d mode.ByName shape.Array es terms = λ ks. refl
-  formal_leaves line d mode.ByName shape.Procedure es terms = λ ks. refl
-  formal_leaves line d mode.ByValue shape.Simple es terms = variable_leaves d es
-  formal_leaves line d mode.ByValue shape.Array es terms = array_leaves line d es terms
-  formal_leaves line d mode.ByValue shape.Procedure es terms = λ ks. refl
-  formal_leaves line d mode.ByReference shape.Simple es terms = variable_leaves d es
-  formal_leaves line d mode.ByReference shape.Array es terms = array_leaves line d es terms
-  formal_leaves line d mode.ByReference shape.Procedure es terms = λ ks. refl
+  formal_leaves : (line : ℕ) (d : DeclNo) (by : Mode) (kind : FormalKind) (leaves : Bool) (es : Expressions) (terms : Terms) → Leaves (formal_term s m i line d by kind leaves es terms)
+  formal_leaves line d mode.ByName shape.Simple leaves NoMore terms = in_leaves (home_of s m i d) _ (λ j ks. refl)
+  formal_leaves line d mode.ByName shape.Simple leaves (Then e es) terms = λ ks. refl
+  formal_leaves line d mode.ByName shape.Array leaves NoMore terms = in_leaves (home_of s m i d) _ (λ j ks. refl)
+  formal_leaves line d mode.ByName shape.Array leaves (Then e es) terms = in_leaves (home_of s m i d) _ (λ j ks. refl)
+  formal_leaves line d mode.ByName shape.Procedure leaves es terms = in_leaves (home_of s m i d) _ (λ j ks. refl)
+  formal_leaves line d mode.ByValue shape.Simple leaves es terms = variable_leaves d es
+  formal_leaves line d mode.ByValue shape.Array leaves es terms = array_leaves line d es terms
+  formal_leaves line d mode.ByValue shape.Procedure leaves es terms = in_leaves (home_of s m i d) _ (λ j ks. refl)
+  formal_leaves line d mode.ByReference shape.Simple leaves es terms = variable_leaves d es
+  formal_leaves line d mode.ByReference shape.Array leaves es terms = array_leaves line d es terms
+  formal_leaves line d mode.ByReference shape.Procedure leaves es terms = in_leaves (home_of s m i d) _ (λ j ks. refl)
 
   declared_leaves : (line : ℕ) (d : DeclNo) (o : Option Entry) (es : Expressions) (terms : Terms) (actuals : List Formal → Terms) → Leaves (declared_term s m i line d o es terms actuals)
   declared_leaves line d (Some (entry.Variable type)) es terms actuals = variable_leaves d es
   declared_leaves line d (Some (entry.Constant type)) es terms actuals = constant_leaves (constant_of s d) es
   declared_leaves line d (Some (entry.Array element dimensions)) es terms actuals = array_leaves line d es terms
-  declared_leaves line d (Some (entry.Formal f)) es terms actuals = formal_leaves line d f.mode f.kind es terms
+  declared_leaves line d (Some (entry.Formal f)) es terms actuals = formal_leaves line d f.mode f.kind (has_type f.ty) es terms
   declared_leaves line d (Some (entry.Procedure result block)) es terms actuals = in_leaves (home_of s m i d) _ (λ j ks. refl)
   declared_leaves line d (Some (entry.Class block)) es terms actuals = λ ks. refl
   declared_leaves line d (Some (entry.Virtual result own)) es terms actuals = in_leaves (home_of s m i d) _ (λ j ks. refl)
@@ -139,7 +140,7 @@ module _ (s : Source) (m : Instances) (i : ℕ) where
   own_leaves (Some (entry.Unspecified written)) block actuals line other f = f
   own_leaves None block actuals line other f = f
 
-  entry_attribute_leaves : (line : ℕ) (d : DeclNo) (o : Option Entry) (object : Term) (es : Expressions) (terms actuals : Terms) → Leaves (entry_attribute s line d o object es terms actuals)
+  entry_attribute_leaves : (line : ℕ) (d : DeclNo) (o : Option Entry) (object : Term) (es : Expressions) (terms actuals : Terms) → Leaves (entry_attribute s i line d o object es terms actuals)
   entry_attribute_leaves line d (Some (entry.Variable type)) object es terms actuals = variable_attribute_leaves (attribute_place s line d object) es
   entry_attribute_leaves line d (Some (entry.Constant type)) object es terms actuals = variable_attribute_leaves (attribute_place s line d object) es
   entry_attribute_leaves line d (Some (entry.Array element dimensions)) object es terms actuals = array_attribute_leaves line (attribute_place s line d object) es terms
@@ -151,7 +152,7 @@ module _ (s : Source) (m : Instances) (i : ℕ) where
   entry_attribute_leaves line d (Some (entry.Attribute name parameter result)) object es terms actuals = object_attribute_leaves (is_set_name name) (is_process_name name) name line object actuals refl
   entry_attribute_leaves line d None object es terms actuals = λ ks. refl
 
-  attribute_leaves : (line : ℕ) (object : Term) (es : Expressions) (terms : Terms) (actuals : DeclNo → Terms) (d : DeclNo) → Leaves (attribute s line object es terms actuals d)
+  attribute_leaves : (line : ℕ) (object : Term) (es : Expressions) (terms : Terms) (actuals : DeclNo → Terms) (d : DeclNo) → Leaves (attribute s i line object es terms actuals d)
   attribute_leaves line object es terms actuals d = entry_attribute_leaves line d (entry_of s.tables d) object es terms (actuals d)
 
   transfer_leaves : (way : Transfer) (line : ℕ) (around : Term) (terms : Terms) → Leaves (transfer_term way line around terms)
@@ -181,10 +182,14 @@ module _ (s : Source) (m : Instances) (i : ℕ) where
       (any_leaves (declared_attribute (denoted s name.token.0)) _ _ (attribute_leaves line (close s m i e) es (close_all s m i es) (λ d. close_actuals s m i line es (formals_at s d)))
       (dot_leaves (denoted s name.token.0) (stream_of s e) (is_variable s e || is_attribute s e) line (close_place s m i e) (close s m i e) (close_all s m i es)))
 
-  generation_leaves : (o c : Option ℕ) (terms : Terms) (line : ℕ) → Leaves (generation o c terms line)
-  generation_leaves (Some j) (Some k) terms line = λ ks. refl
-  generation_leaves (Some j) None terms line = λ ks. refl
-  generation_leaves None c terms line = λ ks. refl
+  origin_leaves : (c : Bool) (k token line : ℕ) (object : Term) → Leaves object → Leaves (origin_if c k token line object)
+  origin_leaves false k token line object f = f
+  origin_leaves true k token line object f = λ ks. refl
+
+  generation_leaves : (token : ℕ) (o c : Option ℕ) (terms : Terms) (line : ℕ) → Leaves (generation s token o c terms line)
+  generation_leaves token (Some j) (Some k) terms line = origin_leaves (is_process_itself s k) k token line _ (λ ks. refl)
+  generation_leaves token (Some j) None terms line = λ ks. refl
+  generation_leaves token None c terms line = λ ks. refl
 
   pub new_leaves : (token : ℕ) (class : Identifier) (es : Expressions) → Leaves (close s m i (syntax.New token class es))
-  new_leaves token class es = generation_leaves (home_of_class s m i (denoted s class.token.0)) (class_made s (class_at s class.token.0)) _ (line_at s token)
+  new_leaves token class es = generation_leaves class.token.0 (home_of_class s m i (denoted s class.token.0)) (class_at s class.token.0) _ (line_at s token)

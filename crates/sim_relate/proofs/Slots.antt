@@ -3,6 +3,11 @@ use Rattle.std.proofs.Common.{◌≡◌, ◌⊎◌, ℕ, zero, suc, ◌+◌, ◌
 use Rattle.std.proofs.lemmas.List.{length-set}
 use Rattle.std.specs.Prelude.{◌==◌, slice_get, slice_set, nat_lt, map, if◌then◌else◌}
 use Rattle.sim_base.specs.declared.numbering.DeclNo.{DeclNo}
+use Rattle.sim_scope.specs.declared.types.FormalKind.{FormalKind}
+use Rattle.sim_scope.specs.declared.types.FormalKind.TheVariants as shape
+use Rattle.sim_scope.specs.declared.types.Mode.{Mode}
+use Rattle.sim_scope.specs.declared.types.Mode.TheVariants as mode
+use Rattle.sim_scope.specs.declared.types.SimType.{SimType}
 use Rattle.sim_scope.specs.declared.types.Entry.{Entry}
 use Rattle.sim_scope.specs.declared.types.Entry.TheVariants as entry
 use Rattle.sim_scope.specs.Scopes.{entry_of}
@@ -15,9 +20,9 @@ use Rattle.sim_code.specs.Code.{CodeOf}
 use Rattle.sim_code.specs.Machine.{Value, first_value, joined}
 use Rattle.sim_code.specs.Machine as machine
 use Rattle.sim_code.proofs.Lifts.{Both, EachAt}
-use Rattle.sim_meaning.specs.Pending.{Connection, Declared, Held, Instances, Key, Result, Val, held, held_put, held_set, same_key}
+use Rattle.sim_meaning.specs.Pending.{Connection, Declared, Held, Instances, Key, Origin, Result, Val, held, held_put, held_set, same_key}
 use Rattle.sim_meaning.specs.Pending as meaning
-use Rattle.sim_meaning.specs.Entries.{cells_from, filled, filled_behind, held_before, of_kind, with_cell, with_result}
+use Rattle.sim_meaning.specs.Entries.{cells_from, filled, filled_behind, held_before, of_formal, of_kind, with_cell, with_result}
 use Rattle.sim_meaning.specs.Objects.{attributes_from, constant_cell, with_attribute}
 use Rattle.sim_meaning.specs.Texts.{constant_of, kind_named, kind_of_type}
 use Rattle.codegen_expr.specs.Sites.{place_of}
@@ -47,11 +52,19 @@ same_is Result (Declared e) h = absurd (cc)
 same_is Result (Connection y) h = absurd (cc)
 same_is (Connection x) (Declared e) h = absurd (cc)
 same_is (Connection x) Result h = absurd (cc)
+same_is Origin Origin h = refl
+same_is Origin (Declared e) h = absurd (cc)
+same_is Origin Result h = absurd (cc)
+same_is Origin (Connection y) h = absurd (cc)
+same_is (Declared d) Origin h = absurd (cc)
+same_is Result Origin h = absurd (cc)
+same_is (Connection x) Origin h = absurd (cc)
 
 pub same_self : (a : Key) → same_key a a ≡ true
 same_self (Declared d) = numbers_same d
 same_self Result = refl
 same_self (Connection x) = numbers_same x
+same_self Origin = refl
 
 -- ---- keys
 
@@ -319,6 +332,17 @@ module _ (s : Source) (code : CodeOf) (m : Instances) where
   first_kind kind.Text = plain_at
   first_kind kind.Reference = plain_at
 
+  first_formal : (by : Mode) (kind : FormalKind) (type : Option SimType) → Both (ValAt s code m) (of_formal by kind type) (first_value (type_of_value (of_formal by kind type)))
+  first_formal mode.ByName kind type = tt
+  first_formal mode.ByValue shape.Simple (Some type) = first_kind (kind_of_type type)
+  first_formal mode.ByValue shape.Simple None = tt
+  first_formal mode.ByValue shape.Array type = tt
+  first_formal mode.ByValue shape.Procedure type = tt
+  first_formal mode.ByReference shape.Simple (Some type) = first_kind (kind_of_type type)
+  first_formal mode.ByReference shape.Simple None = tt
+  first_formal mode.ByReference shape.Array type = tt
+  first_formal mode.ByReference shape.Procedure type = tt
+
   slot_false : (fixed : Bool) (key : Key) (v : Option Val) (c : Option Value) → fixed ≡ false → Both (ValAt s code m) v c → SlotAt s code m fixed key v c
   slot_false true key v c e b = absurd (cc)
   slot_false false key v c e b = b
@@ -335,7 +359,7 @@ module _ (s : Source) (code : CodeOf) (m : Instances) where
     cell_at d (Some (entry.Variable type)) hs gs e a = (slot_false (is_fixed s (Declared d.0)) (Declared d.0) _ _ (is_one d _ e) (first_kind (kind_of_type type)), a)
     cell_at d (Some (entry.Constant type)) hs gs e a = (slot_true (is_fixed s (Declared d.0)) (Declared d.0) _ _ (is_one d _ e) (inl refl), a)
     cell_at d (Some (entry.Array element dimensions)) hs gs e a = (slot_false (is_fixed s (Declared d.0)) (Declared d.0) None None (is_one d _ e) tt, a)
-    cell_at d (Some (entry.Formal f)) hs gs e a = (slot_false (is_fixed s (Declared d.0)) (Declared d.0) None None (is_one d _ e) tt, a)
+    cell_at d (Some (entry.Formal f)) hs gs e a = (slot_false (is_fixed s (Declared d.0)) (Declared d.0) _ _ (is_one d _ e) (first_formal f.mode f.kind f.ty), a)
     cell_at d (Some (entry.Procedure result k)) hs gs e a = a
     cell_at d (Some (entry.Class k)) hs gs e a = a
     cell_at d (Some (entry.Virtual result own)) hs gs e a = a
@@ -386,6 +410,16 @@ pub empty_behind : (gs hidden : List Held) (temps : List CodeType) (c : ℕ) →
 empty_behind [] hidden temps c a le lt = empty_slot hidden temps c a lt
 empty_behind (g ∷ gs) hidden temps zero a le lt = absurd (omega (arith, le))
 empty_behind (g ∷ gs) hidden temps (suc c) a le lt = empty_behind gs hidden temps c a (omega (arith, le)) (omega (arith, lt))
+
+-- the cell of a key begins with the value that goes with it
+pub typed_slot : (key : Key) (hs : List Held) (temps : List CodeType) → place_of key hs < length hs → joined (slice_get (map first_value (map type_of_cell hs ++ temps)) (place_of key hs)) ≡ first_value (type_of_value (held key hs))
+typed_slot key [] temps lt = absurd (omega (arith, lt))
+typed_slot key (h ∷ hs) temps lt = by (same_key h.key key) lt (typed_slot key hs temps)
+  where
+    by : (c : Bool) → (if c then 0 else suc (place_of key hs)) < suc (length hs) → (place_of key hs < length hs → joined (slice_get (map first_value (map type_of_cell hs ++ temps)) (place_of key hs)) ≡ first_value (type_of_value (held key hs)))
+        → joined (slice_get (map first_value (map type_of_cell (h ∷ hs) ++ temps)) (if c then 0 else suc (place_of key hs))) ≡ first_value (type_of_value (if c then h.value else held key hs))
+    by true lt f = refl
+    by false lt f = f (omega (arith, lt))
 
 -- values that fill places leave those behind
 pub put_behind : (n : ℕ) (ys : List Value) (cells : List (Option Value)) (c : ℕ) → n + length ys ≤ c → slice_get (put_from n ys cells) c ≡ slice_get cells c

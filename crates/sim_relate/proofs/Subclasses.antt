@@ -11,7 +11,7 @@ use Rattle.codegen.specs.Agrees.{Agrees}
 use Rattle.codegen.specs.CodeStm.{is_class_text, is_subclass, subclasses, subclasses_from, with_subclass}
 use Rattle.sim_relate.proofs.LevelLists.{level_has}
 
-class_is : (x : Option Text) → is_class_text x ≡ true → is_class x ≡ true
+pub class_is : (x : Option Text) → is_class_text x ≡ true → is_class x ≡ true
 class_is None e = absurd (cc (e))
 class_is (Some (BlockText begin ds ss)) e = absurd (cc (e))
 class_is (Some (ProcedureText result h a)) e = absurd (cc (e))
@@ -39,12 +39,12 @@ some_is e = cc (e)
 
 module _ (s : Source) (k : ℕ) where
   -- the first of them, if it is one, and those behind it
-  each_with : (a j : ℕ) (count : ℕ) → ((n : ℕ) → slice_get (subclasses_from s k (suc a) count) n ≡ Some j → is_class (text s j) ≡ true) → (b : Bool) → is_subclass s k a ≡ b → (n : ℕ) → slice_get (with_subclass b a (subclasses_from s k (suc a) count)) n ≡ Some j → is_class (text s j) ≡ true
+  each_with : (a j : ℕ) (count : ℕ) → ((n : ℕ) → slice_get (subclasses_from s k (suc a) count) n ≡ Some j → is_class_text (text s j) ≡ true) → (b : Bool) → is_subclass s k a ≡ b → (n : ℕ) → slice_get (with_subclass b a (subclasses_from s k (suc a) count)) n ≡ Some j → is_class_text (text s j) ≡ true
   each_with a j count more false f n e = more n e
-  each_with a j count more true f zero e = ap (λ z. is_class (text s z)) (sym (some_is e)) ∙ class_is (text s a) (and_left _ _ f)
+  each_with a j count more true f zero e = ap (λ z. is_class_text (text s z)) (sym (some_is e)) ∙ and_left _ _ f
   each_with a j count more true f (suc n) e = more n e
 
-  each_from : (a count n j : ℕ) → slice_get (subclasses_from s k a count) n ≡ Some j → is_class (text s j) ≡ true
+  each_from : (a count n j : ℕ) → slice_get (subclasses_from s k a count) n ≡ Some j → is_class_text (text s j) ≡ true
   each_from a zero n j e = absurd (cc (e))
   each_from a (suc count) n j e = each_with a j count (λ n e. each_from (suc a) count n j e) (is_subclass s k a) refl n e
 
@@ -64,7 +64,7 @@ module _ (s : Source) (k : ℕ) where
   there_from a zero j h low high = absurd (omega (arith, low, high))
   there_from a (suc count) j h low high = there_with a j count h (λ other. there_from (suc a) count j h (grind (arith, low, other)) (omega (arith, high))) (a == j) refl
 
-  pub each_class : (n j : ℕ) → slice_get (subclasses s k) n ≡ Some j → is_class (text s j) ≡ true
+  pub each_class : (n j : ℕ) → slice_get (subclasses s k) n ≡ Some j → is_class_text (text s j) ≡ true
   unfolding subclasses
   each_class n j e = each_from 0 (length s.tables.blocks) n j e
 

@@ -1,4 +1,4 @@
--- Evaluations of actual parameters by name: what begins one, and what waits for it.
+-- Evaluations of actual parameters: what begins one, and what waits for it.
 use Rattle.std.proofs.Common.{◌≡◌, ℕ, suc, Bool, true, false, List, [], ◌∷◌, Option, Some, None}
 use Rattle.std.specs.Prelude.{ℤ, ⊤, slice_get}
 use Rattle.sim_base.specs.declared.numbering.DeclNo.{DeclNo}
@@ -37,22 +37,25 @@ kind_placed s false formal class e = Any
 kind_placed s true None (Some k) e = Refers k
 kind_placed s true formal class e = place_given s e
 
-abbrev pub kind_given : Source → Expression → Kind
-kind_given s e = kind_placed s (is_placed s e) (by_name s e) (qualification s (type_at s (typed_token e))) e
+-- a procedure is a value
+abbrev pub kind_given : Source → (as_procedure : Bool) → Expression → Kind
+kind_given s true e = Any
+kind_given s false e = kind_placed s (is_placed s e) (by_name s e) (qualification s (type_at s (typed_token e))) e
 
 -- The code of an actual parameter that is closed where it is evaluated. In an evaluation all temps are in use.
-pub record CloseIs (s : Source) (code : CodeOf) (site : Site) (e : Expression) (p q : ℕ) (before behind : List Kind) : Type 0 where
+pub record CloseIs (s : Source) (code : CodeOf) (site : Site) (as_procedure : Bool) (e : Expression) (p q : ℕ) (before behind : List Kind) : Type 0 where
   pub was : ℕ
-  pub gives : ActualCode s code (record site { used = was }) e p q
+  pub gives : ActualCode s code (record site { used = was }) as_procedure e p q
   pub none : before ≡ []
-  pub out : behind ≡ kind_given s e ∷ []
+  pub out : behind ≡ kind_given s as_procedure e ∷ []
 
--- the use of a parameter by name, directly before the place where control goes on
+-- What an evaluation is for: the use of a parameter by name, or the passing of one, directly before the place where control goes on. Its operands are
+-- a level and a cell, or two thunks.
 pub record AskedIs (s : Source) (code : CodeOf) (wanted : Use) (pc : ℕ) : Type 0 where
   pub place : ℕ
-  pub level : ℤ
-  pub cell : ℤ
-  pub is : slice_get code.instrs place ≡ Some (lined (use_instr s code wanted level cell) (line_of_use wanted))
+  pub first : ℤ
+  pub second : ℤ
+  pub is : slice_get code.instrs place ≡ Some (lined (use_instr s code wanted first second) (line_of_use wanted))
   pub on : pc ≡ suc place
   pub classed : UseClassed s wanted
 

@@ -1,11 +1,11 @@
 -- The code of closed trees.
-use Rattle.std.proofs.Common.{◌≡◌, ◌<◌, ℕ, zero, suc, Bool, true, false, List, ◌∷◌, length, Option, Some}
+use Rattle.std.proofs.Common.{◌≡◌, ◌<◌, ℕ, suc, Bool, true, false, List, ◌∷◌, length, Option, Some}
 use Rattle.std.specs.Prelude.{⊤, pos, slice_get}
 use Rattle.sim_scope.specs.Access.{encloser}
 use Rattle.sim_scope.specs.Scopes.{entry_is, entry_of, is_virtual}
 use Rattle.sim_scope.specs.Source.{Source, level_of}
 use Rattle.sim_tree.specs.declared.stmt.TypeName.{TypeName}
-use Rattle.sim_tree.specs.Syntax.{Expression, Statement}
+use Rattle.sim_tree.specs.Syntax.{Expression, Expressions, NoMore, Statement, Then}
 use Rattle.sim_tree.specs.Syntax as syntax
 use Rattle.sim_values.specs.declared.standard.Standard.{Standard}
 use Rattle.sim_values.specs.declared.value.TextVal.{TextVal}
@@ -19,14 +19,15 @@ use Rattle.sim_code.specs.Sets.{is_set_name, parameter_count}
 use Rattle.sim_code.specs.Simulations.{actual_count, is_process_name, is_simulation_name}
 use Rattle.sim_code.specs.Transfers.{Calling, Detaching, Resuming, Transfer}
 use Rattle.sim_meaning.specs.Levels.{is_class}
-use Rattle.sim_meaning.specs.Pending.{ActualOf, AttributeOf, CallOf, Cell, CopyOf, Either, ElementOf, FitsOf, ForValue, Further, Given, ImageOf, Instances, Joined, KeptOf, Key, MemberOf, NamedOf, NewOf, NoTerm, NotNoneOf, One, PlaceOf, ProcessOf, QuaOf, QualifiedElementOf, QualifiedPlaceOf, RemoteCallOf, SetOf, SimulationOf, StandardOf, Term, Terms, TransferOf, Two, Unbuilt, Use, ValueAt, VirtualOf}
+use Rattle.sim_meaning.specs.Pending.{ActualOf, AttributeOf, CallOf, Cell, CheckedOf, CopyOf, Either, ElementOf, FitsOf, ForValue, Further, Given, ImageOf, Instances, Joined, KeptOf, Key, MatchOf, MemberOf, NamedOf, NewOf, NoTerm, NotNoneOf, One, Origin, OriginOf, PlaceOf, ProcedureOf, ProcessOf, QuaOf, QualifiedElementOf, QualifiedPlaceOf, RemoteCallOf, RemoteProcedureOf, SetOf, SimulationOf, StandardOf, Term, Terms, TransferOf, Two, Unbuilt, Use, ValueAt, ForParameter}
 use Rattle.sim_meaning.specs.Entries.{formals_of}
-use Rattle.sim_meaning.specs.Steps.{count}
+use Rattle.sim_meaning.specs.Checks.{passed}
+use Rattle.sim_meaning.specs.Steps.{count, count_of}
 use Rattle.sim_meaning.specs.Texts.{ProcedureText, constant_of, text}
 use Rattle.sim_meaning.specs.Texts as Texts
 use Rattle.codegen_expr.specs.Sites.{At, HasCell, IfAt, Is, Pushes, Site, block_number, class_number, frame_text, slot_of}
-use Rattle.codegen_expr.specs.CodeExpr.{GivenAt, HeldAt, IsConstant, OneAt, PlainAt, Stand, StandardIs, ThunkAt, join_instrs, line_of_use, member_instr, two_instr, use_instr}
-use Rattle.sim_relate.proofs.Known.{ActualCode, Any, FixedOf, Kind, Located, Named, Reaches, Refers, attribute_kind, gives, is_declared, is_fixed, is_process_in, place_kind, reads, with_kind, IsImage}
+use Rattle.codegen_expr.specs.CodeExpr.{CheckAt, GivenAt, HeldAt, IsConstant, OneAt, ParameterAt, PlainAt, Stand, StandardIs, ThunkAt, join_instrs, line_of_use, member_instr, two_instr, use_instr}
+use Rattle.sim_relate.proofs.Known.{ActualCode, Any, FixedOf, Kind, Located, Named, Reaches, Refers, attribute_kind, gives, is_declared, is_fixed, place_kind, reads, with_kind, IsImage}
 
 -- the text of a class, which has a number
 abbrev pub Classed : Source → ℕ → Type 0
@@ -38,11 +39,6 @@ transfer_instr Detaching = i.Detach
 transfer_instr Calling = i.Attach
 transfer_instr Resuming = i.Resume
 
--- the list of actual parameters that stands for so many of them: the first one has none, and the second one has some
-abbrev pub list_number : (actuals : ℕ) → ℕ
-list_number zero = 0
-list_number (suc n) = 1
-
 abbrev pub IsVirtual : Source → ℕ → Type 0
 IsVirtual s v = entry_is is_virtual (entry_of s.tables (record { 0 = v })) ≡ true
 
@@ -50,6 +46,11 @@ IsVirtual s v = entry_is is_virtual (entry_of s.tables (record { 0 = v })) ≡ t
 abbrev pub UseClassed : Source → Use → Type 0
 UseClassed s (ForValue (Some k) line) = Classed s k
 UseClassed s wanted = ⊤
+
+-- a use of a parameter by name
+abbrev pub IsUse : Use → Type 0
+IsUse (ForParameter number line) = ⊥
+IsUse wanted = ⊤
 
 module _ (s : Source) (code : CodeOf) where
   -- ---- closed trees
@@ -128,17 +129,62 @@ module _ (s : Source) (code : CodeOf) where
     pub procedure : ProcedureIs k text
     pub as_many : many ≡ length (formals_of s k)
 
-  -- what matches a virtual in the class of an object
-  pub record VirtualIs (site : Site) (n virtual many line : ℕ) (Object' : ℕ → ℕ → Type 0) (p q : ℕ) : Type 0 where
+  -- a procedure as a value: one that is declared in an instance, one that an object has, and what matches a virtual in the class of an object
+  pub record ProcedureValueIs (m : Instances) (inst : ℕ) (site : Site) (n j k p q : ℕ) : Type 0 where
+    pub text : ℕ
+    pub x : ℕ
+    pub link : Pushes code site n (i.Link (pos (level_of s text))) p x
+    pub reaches : Reaches s m inst text j
+    pub value : Is code (i.ProcVal (pos (block_number s k))) x q
+    pub procedure : ProcedureIs k text
+
+  pub record RemoteProcedureIs (k line : ℕ) (Object' : ℕ → ℕ → Type 0) (p q : ℕ) : Type 0 where
+    pub text : ℕ
+    pub x : ℕ
+    pub y : ℕ
+    pub object : Object' p x
+    pub there : At code i.NotNone line x y
+    pub value : Is code (i.ProcVal (pos (block_number s k))) y q
+    pub procedure : ProcedureIs k text
+
+  pub record MatchOfIs (virtual line : ℕ) (Object' : ℕ → ℕ → Type 0) (p q : ℕ) : Type 0 where
+    pub x : ℕ
+    pub object : Object' p x
+    pub declared : IsVirtual s virtual
+    pub found : At code (i.Virt (pos virtual)) line x q
+
+  -- what an actual parameter is passed as, which stands on n values
+  abbrev pub PassesIs : Site → (n was number line : ℕ) → Expression → ℕ → ℕ → Type 0
+  PassesIs site n was number line e p q = ParameterAt code site n line number (passed s e) (λ as_procedure inner x y. ActualCode s code (record inner { used = was }) as_procedure e x y) p q
+
+  abbrev pub AllPassAt : Site → (n was number line : ℕ) → Expressions → ℕ → ℕ → Type 0
+  AllPassAt site n was number line NoMore p q = q ≡ p
+  AllPassAt site n was number line (Then e es) p q = (x : ℕ) × PassesIs site n was number line e p x × AllPassAt site (suc n) was (suc number) line es x q
+
+  -- a call of a procedure as a value
+  pub record CheckedIs (inst : ℕ) (site : Site) (n home line : ℕ) (es : Expressions) (Procedure : ℕ → ℕ → Type 0) (p q : ℕ) : Type 0 where
     pub x : ℕ
     pub y : ℕ
     pub z : ℕ
-    pub object : Object' p x
+    pub was : ℕ
+    pub here : home ≡ inst
+    pub procedure : Procedure p x
     pub fits : n < site.room
-    pub declared : IsVirtual s virtual
-    pub found : At code (i.Virt (pos virtual)) line x y
-    pub checked : At code (i.Check (pos (list_number many))) line y z
-    pub called : At code (i.CallV (pos 0)) line z q
+    pub check : CheckAt s code line es x y
+    pub passes : AllPassAt site (suc n) was 0 line es y z
+    pub called : At code (i.CallV (pos (count_of es))) line z q
+
+  -- an object of `process` itself on n values keeps a token
+  pub record OriginIs (site : Site) (n k token line p q : ℕ) : Type 0 where
+    pub x : ℕ
+    pub y : ℕ
+    pub z : ℕ
+    pub again : Pushes code site (suc n) i.Dup p x
+    pub address : At code (i.AddrR (pos (slot_of s code k Origin)) (pos 0)) line x y
+    pub pushed : Pushes code site (suc (suc n)) (i.Int (pos token)) y z
+    pub put : Is code i.Put z q
+    pub own : frame_text s k ≡ k
+    pub has : HasCell s k Origin
 
   -- a new object of the class of a text, which stands in the text of the link
   pub record NewIs (m : Instances) (inst : ℕ) (site : Site) (n j k many line : ℕ) (Actuals : ℕ → ℕ → Type 0) (p q : ℕ) : Type 0 where
@@ -151,7 +197,6 @@ module _ (s : Source) (code : CodeOf) where
     pub new : At code (i.New (pos (class_number s code k)) (pos many)) line y q
     pub stands_in : encloser s.tables k ≡ Some text
     pub class : is_class (Texts.text s k) ≡ true
-    pub made : is_process_in s k ≡ false
 
   -- where an attribute lies: its place, or for a constant the object itself
   pub record AttributeIs (text : ℕ) (key : Key) (class line p q : ℕ) : Type 0 where
@@ -203,10 +248,10 @@ module _ (s : Source) (code : CodeOf) where
     pub held : HeldAt s code site n line (class_number s code k) p q
 
   -- an actual parameter by name, for the instance that evaluates it
-  pub record ActualIs (inst : ℕ) (site : Site) (n home : ℕ) (e : Expression) (p q : ℕ) : Type 0 where
+  pub record ActualIs (inst : ℕ) (site : Site) (n home : ℕ) (as_procedure : Bool) (e : Expression) (p q : ℕ) : Type 0 where
     pub was : ℕ
     pub here : home ≡ inst
-    pub thunk : ThunkAt code site n (λ inner x y. ActualCode s code (record inner { used = was }) e x y) p q
+    pub thunk : ThunkAt code site n (λ inner x y. ActualCode s code (record inner { used = was }) as_procedure e x y) p q
 
   -- a use of a parameter by name, whose cell is found outward
   pub record UseIs (m : Instances) (inst : ℕ) (site : Site) (n j : ℕ) (key : Key) (wanted : Use) (p q : ℕ) : Type 0 where
@@ -218,6 +263,7 @@ module _ (s : Source) (code : CodeOf) where
     pub has : HasCell s text key
     pub varies : is_fixed s key ≡ false
     pub classed : UseClassed s wanted
+    pub is_use : IsUse wanted
 
   -- a procedure of SIMSET, behind its object and its actual parameter, if it has one
   pub record SetIs (name : Standard) (count p q : ℕ) : Type 0 where
@@ -287,8 +333,12 @@ module _ (s : Source) (code : CodeOf) where
     TermAt m inst site n (SetOf name ts) p q = (x : ℕ) × TermsAt m inst site n ts p x × SetIs name (count ts) x q
     TermAt m inst site n (ProcessOf name line a) p q = (x : ℕ) × (TermAt m inst site n a p x × (gives s a ≡ true)) × ProcessIs name line x q
     TermAt m inst site n (SimulationOf j name ts line) p q = SimulationIs m inst site n j name (count ts) line (TermsAt m inst site (suc n) ts) p q
-    TermAt m inst site n (VirtualOf a v many line) p q = VirtualIs site n v many line (λ p q. TermAt m inst site n a p q × (gives s a ≡ true)) p q
-    TermAt m inst site n (ActualOf home e) p q = ActualIs inst site n home e p q
+    TermAt m inst site n (OriginOf k token line a) p q = (x : ℕ) × (TermAt m inst site n a p x × (gives s a ≡ true)) × OriginIs site n k token line x q
+    TermAt m inst site n (ProcedureOf j k) p q = ProcedureValueIs m inst site n j k p q
+    TermAt m inst site n (RemoteProcedureOf a k line) p q = RemoteProcedureIs k line (λ p q. TermAt m inst site n a p q × (gives s a ≡ true)) p q
+    TermAt m inst site n (MatchOf a v line) p q = MatchOfIs v line (λ p q. TermAt m inst site n a p q × (gives s a ≡ true)) p q
+    TermAt m inst site n (CheckedOf a leaves home es line) p q = CheckedIs inst site n home line es (λ p q. TermAt m inst site n a p q × (gives s a ≡ true)) p q
+    TermAt m inst site n (ActualOf home as_procedure e) p q = ActualIs inst site n home as_procedure e p q
     TermAt m inst site n (NamedOf j key wanted) p q = UseIs m inst site n j key wanted p q
     TermAt m inst site n Unbuilt p q = ⊤
 

@@ -7,12 +7,12 @@ use Rattle.sim_code.specs.Instances.{Instance}
 use Rattle.sim_code.specs.Machine.{Cells, Value}
 use Rattle.sim_code.proofs.Lifts.{Both, EachAt}
 use Rattle.sim_meaning.specs.Pending.{Held, Instances, Key, Val}
-use Rattle.sim_relate.proofs.Known.{Later, SlotAt, ThunkIs, ValAt, actual_at, array_at, element_at, image_at, is_fixed, link_at, plain_at}
+use Rattle.sim_relate.proofs.Known.{Later, SlotAt, ThunkIs, ValAt, actual_at, array_at, element_at, image_at, is_fixed, link_at, plain_at, procedure_at}
 use Rattle.sim_relate.proofs.Relation.{InstanceAt}
 
 module _ (s : Source) (code : CodeOf) (m m' : Instances) (e : Later s m m') where
-  thunk_later : (home : ℕ) (x : Expression) (number : ℕ) → ThunkIs s code m home x number → ThunkIs s code m' home x number
-  thunk_later home x number a = record {
+  thunk_later : (home : ℕ) (as_procedure : Bool) (x : Expression) (number : ℕ) → ThunkIs s code m home as_procedure x number → ThunkIs s code m' home as_procedure x number
+  thunk_later home as_procedure x number a = record {
     text = a.text;
     block = a.block;
     room = a.room;
@@ -34,7 +34,8 @@ module _ (s : Source) (code : CodeOf) (m m' : Instances) (e : Later s m m') wher
   value_later _ _ array_at = array_at
   value_later _ _ element_at = element_at
   value_later _ _ image_at = image_at
-  value_later _ _ (actual_at {home} {number} {e = x} h) = actual_at (thunk_later home x number h)
+  value_later _ _ (procedure_at {k} {j} h) = procedure_at (record { around = h.around; result = h.result; heading = h.heading; body = h.body; is = h.is; stands_in = h.stands_in; stands = e.stands j h.around h.stands })
+  value_later _ _ (actual_at {home} {number} {as_procedure} {e = x} h) = actual_at (thunk_later home as_procedure x number h)
 
   both_later : (v : Option Val) (c : Option Value) → Both (ValAt s code m) v c → Both (ValAt s code m') v c
   both_later None None h = h

@@ -3,10 +3,10 @@ use Rattle.std.proofs.Common.{◌≡◌, ◌≢◌, ◌<◌, ℕ, zero, suc, Boo
 use Rattle.std.specs.Prelude.{slice_index_or, slice_set}
 use Rattle.sim_chains.specs.Components.{NoObject, Standing}
 use Rattle.sim_code.specs.Instances.{Instance, entered}
-use Rattle.sim_meaning.specs.Pending.{Activation, Do, EndEvaluation, EndLevel, EndProcedure, ForPlace, ForValue, Held, Instances, Item, Use}
+use Rattle.sim_meaning.specs.Pending.{Activation, Do, EndEvaluation, EndLevel, EndProcedure, ForParameter, ForPlace, ForValue, Held, Instances, Item, Use}
 use Rattle.sim_relate.proofs.Known.{Any, Kind, Named}
 
--- What is given at the end of what is above on a chain: nothing, a value, or what a use of a parameter by name asked for.
+-- What is given at the end of what is above on a chain: nothing, a value, or what the evaluation of an actual parameter is for.
 pub data Wait : Type 0 where
   NoValue : Wait
   AValue : Wait
@@ -24,6 +24,7 @@ gets_any _ = true
 abbrev pub kind_used : Use → Kind
 kind_used (ForValue class line) = Any
 kind_used (ForPlace value_too line) = Named
+kind_used (ForParameter number line) = Any
 
 -- the values in hand then
 abbrev pub given_by : Wait → List Kind → List Kind

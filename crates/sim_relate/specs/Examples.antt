@@ -49,7 +49,7 @@ abbrev pub the_parameter : CodeFormal
 the_parameter = record { mode = mode.Value; shape = shape.Simple; code_type = type.Integer; class = 0 }
 
 abbrev pub prefixed_code : CodeOf
-prefixed_code = record (code (record (block block_kind.SubBlock 1 0 0 0 type.Nothing [] []) { class_free = false } ∷ record (block block_kind.Object 2 1 0 0 type.Nothing (type.Nothing ∷ []) (the_parameter ∷ [])) { class_free = false; class = 1 } ∷ record (block block_kind.Prefixed 2 2 0 8 type.Nothing (type.Nothing ∷ type.Integer ∷ []) (the_parameter ∷ [])) { class_free = false; class = 2 } ∷ []) (at 1 (i.Jump (pos 1)) ∷ at 0 i.Tick ∷ at 0 (i.Int (pos 2)) ∷ at 1 (i.Pref (pos 2) (pos 1)) ∷ at 0 (i.EndLevel (pos 0)) ∷ at 0 (i.NextDecl (pos 0)) ∷ at 0 (i.Inner (pos 0)) ∷ at 0 (i.EndLevel (pos 0)) ∷ at 0 (i.NextDecl (pos 1)) ∷ at 0 i.Tick ∷ at 0 (i.Load (pos 2) (pos 0)) ∷ at 0 (i.Store (pos 2) (pos 1)) ∷ at 0 (i.Inner (pos 1)) ∷ at 0 (i.EndLevel (pos 1)) ∷ [])) { classes = the_prefix ∷ the_prefixed ∷ [] }
+prefixed_code = record (code (record (block block_kind.SubBlock 1 0 0 0 type.Nothing [] []) { class_free = false } ∷ record (block block_kind.Object 2 1 0 0 type.Nothing (type.Integer ∷ []) (the_parameter ∷ [])) { class_free = false; class = 1 } ∷ record (block block_kind.Prefixed 2 2 0 8 type.Nothing (type.Integer ∷ type.Integer ∷ []) (the_parameter ∷ [])) { class_free = false; class = 2 } ∷ []) (at 1 (i.Jump (pos 1)) ∷ at 0 i.Tick ∷ at 0 (i.Int (pos 2)) ∷ at 1 (i.Pref (pos 2) (pos 1)) ∷ at 0 (i.EndLevel (pos 0)) ∷ at 0 (i.NextDecl (pos 0)) ∷ at 0 (i.Inner (pos 0)) ∷ at 0 (i.EndLevel (pos 0)) ∷ at 0 (i.NextDecl (pos 1)) ∷ at 0 i.Tick ∷ at 0 (i.Load (pos 2) (pos 0)) ∷ at 0 (i.Store (pos 2) (pos 1)) ∷ at 0 (i.Inner (pos 1)) ∷ at 0 (i.EndLevel (pos 1)) ∷ [])) { classes = the_prefix ∷ the_prefixed ∷ [] }
 
 -- simset begin
 -- head class row; clear;

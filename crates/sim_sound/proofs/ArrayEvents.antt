@@ -13,7 +13,7 @@ use Rattle.sim_code.specs.Outcome.{ArrayOf as OneArray, Run, World}
 use Rattle.sim_code.specs.Arrays.{added, are_inside, as_many, copying_array, element_place, finding_element, is_inside, live_array, making_array, place_from, unless_given, words_of_array}
 use Rattle.sim_code.specs.Events.{computing, having, popping, taking}
 use Rattle.sim_meaning.specs.Pending.{Actual, Address, ArrayValue, Instances, Link, Of, ProcedureValue, Val, array_in, plain}
-use Rattle.sim_sound.specs.Held.{ArrayOf, ByName, Holds, IsOfKind, Refers, Simply}
+use Rattle.sim_sound.specs.Held.{ArrayOf, ByName, Holds, IsOfKind, Refers, Simply, Procedure}
 use Rattle.sim_sound.proofs.Running.{StoreFine}
 use Rattle.sim_sound.proofs.Sound.{integers}
 use Rattle.sim_sound.proofs.Values.{AllArrays, ArrayFine, CopyFine, ElementFine, HandsFine, Hidden, Kinds, Marks, NamesObject, Near, Open, PlainFine, Sight, ValFine, Value, at_itself, near_below, see}
@@ -107,6 +107,7 @@ pub initial_fine : (s : Source) (m : Instances) (h : Holds) (k : Kind) → IsOfK
 initial_fine s m (Simply j) k is = (initial_is k ∙ sym is, initial_known s m k)
 initial_fine s m (Refers c) k is = subst (λ z. PlainFine s m (Refers c) (initial z)) is tt
 initial_fine s m (ArrayOf h) k is = absurd is
+initial_fine s m (Procedure r) k is = absurd is
 initial_fine s m (ByName h) k is = absurd is
 
 -- a new array of an instance
@@ -159,7 +160,7 @@ module _ {S : Type 0} (P : World → S → Type 0) where
   array_is s a m j h (Link i) o f y x = absurd y
   array_is s a m j h (Address i) o f y x = absurd y
   array_is s a m j h (ProcedureValue t i) o f y x = absurd y
-  array_is s a m j h (Actual t z) o f y x = absurd y
+  array_is s a m j h (Actual t pr z) o f y x = absurd y
 
   pub found_element : (s : Source) (m : Instances) (j : ℕ) (h : Holds) (n line : ℕ) (left : List Kinds) (vals : List Val) (o : World) (g : Marks) (f : ℕ → ℕ → List Val → Run S) → HandsFine s (see g o) m j (integers n (Value (ArrayOf h) ∷ left)) vals → ((array index : ℕ) (rest : List Val) → ElementFine (see g o) m j h array index → HandsFine s (see g o) m j left rest → Goes P (f array index rest)) → Goes P (finding_element plain array_in n line vals o f)
   unfolding finding_element

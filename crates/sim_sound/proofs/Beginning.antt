@@ -1,5 +1,5 @@
 -- The program's block is entered, which may have a prefix that gives no level.
-use Rattle.std.proofs.Common.{List, None, Some, [], ap, arith, inr, length, map, refl, subst, sym, true, ℕ, ◌∙◌, ◌∷◌, ◌≡◌}
+use Rattle.std.proofs.Common.{List, None, Some, [], ap, arith, inr, length, map, refl, subst, sym, true, ℕ, ◌∙◌, ◌∷◌, ◌≡◌, Bool, false}
 use Rattle.std.specs.Prelude.{slice_get, slice_index_or, ◌==◌}
 use Rattle.sim_base.specs.declared.limits.Limits.{Limits}
 use Rattle.sim_base.specs.declared.numbering.DeclNo.{DeclNo}
@@ -18,7 +18,7 @@ use Rattle.sim_code.specs.Instances as instances
 use Rattle.sim_code.specs.Outcome.{Run, Simulation, World}
 use Rattle.sim_meaning.specs.Attributes.{is_connection}
 use Rattle.sim_meaning.specs.Entries.{first_cells, in_instance, new_instance, words_of_cells}
-use Rattle.sim_meaning.specs.Levels.{has_levels, is_simulation_text, levels}
+use Rattle.sim_meaning.specs.Levels.{has_levels, is_class, is_simulation_text, levels}
 use Rattle.sim_meaning.specs.Meaning.{block_work, first_step, program_entered}
 use Rattle.sim_meaning.specs.Objects.{attributes_from, block_begun, cells_of_levels, levels_work}
 use Rattle.sim_meaning.specs.Pending.{Activation, Configuration, Declared, Do, EndProgram, Held, Instances, Level, PastOp, held, owner}
@@ -182,7 +182,7 @@ module _ (s : Source) (ok : Typed s) (l : Limits) (o : World) (marks : Marks) (l
 
     begun : Begun s V Then (length m.instances) 0 (arrays_of_levels s xs)
     begun =
-        begun_new s ok (see marks o) m 0 None cells (NoObject None) (PrefixedText class es ds ss) is (ap is_connection is) None linkages blocks store tt (keys s ok 0 has cells same_keys got) fine (alone refl ok.outermost) (arrays_of_levels s xs) (made s ok 0 has cells same_keys got)
+        begun_new s ok (see marks o) m 0 None cells (NoObject None) (PrefixedText class es ds ss) is (ap is_connection is) None linkages blocks store tt (keys s ok 0 has cells same_keys got) (λ class. absurd (let z : ◌≡◌ {A = Bool} true false = sym class ∙ ap is_class is in cc)) fine (alone refl ok.outermost) (arrays_of_levels s xs) (made s ok 0 has cells same_keys got)
         (block_linked s ok o marks m store 0 None cells (NoObject None) has None block) (block_started s ok o marks m store 0 None cells (NoObject None) has None block)
 
     pending : WorkFine s V Then (λ q. ChainFine s V Then [] q) (◌≡◌ {A = List Activation} [] []) (length m.instances) 0 (levels_work xs EndProgram) (arrays_of_levels s xs) []

@@ -11,7 +11,7 @@ use Rattle.sim_meaning.specs.ClassExamples.{prefixed_blocks}
 use Rattle.sim_meaning.specs.Entries.{numbers_of}
 use Rattle.sim_sound.specs.Held.{Among, ArrayOf, Holds, IsFormal, Seen, Simply, entry_holds, first, further, itself, later}
 use Rattle.sim_sound.specs.Typed.{ClassThere, ConstantHas, Ends, PrefixTyped, ProcedureThere, Typed, as_block, outermost, prefixed, stands}
-use Rattle.sim_sound.proofs.Examples.{integer_apart, none_named, NoSetProcedure, NoSetText, RowHolds, TextHolds, no_set_procedure, no_set_text, none_among, number, row_holds, text_holds, true_never, no_virtual}
+use Rattle.sim_sound.proofs.Examples.{integer_apart, none_named, no_procedures, NoSetProcedure, NoSetText, RowHolds, TextHolds, no_set_procedure, no_set_text, none_among, number, row_holds, text_holds, true_never, no_virtual}
 use Rattle.std.specs.Fmt.{digits}
 use Rattle.sim_code.specs.Arrays.{element_place, making_array, copying_array, keeping_array, finding_element, giving_back, handed_over}
 use Rattle.sim_code.specs.Events.{pop_object, qualifying, referring, stopping, no_rule, ticking, taking, entering, having, when, computing, choosing, popping, pop_many, pop_plain, pop_truth, pop_integers, pop_operands, pop_text, answering, applying_one, applying_two, testing_step, performing, putting_back, assigning, making_text, joining}
@@ -149,6 +149,7 @@ b_class = record {
   parameters = b_parameters;
   different = (b_apart_two, (b_apart_one, ((λ a. none_among (number 3) a), tt)));
   not_by_name = λ d k a e. none_named prefixed_blocks d k (numbers_of prefixed_blocks 1) (tt, (tt, (tt, tt))) a e;
+  no_procedure = λ d r a e. no_procedures prefixed_blocks d r (numbers_of prefixed_blocks 1) (tt, (tt, (tt, tt))) a e;
   constants = b_constants;
   arrays = tt;
   distinct = tt;
@@ -160,7 +161,7 @@ b_class = record {
 
 b_procedure : TextHolds prefixed_blocks 2 (text prefixed_blocks 2)
 unfolding digits element_place making_array copying_array keeping_array finding_element giving_back handed_over stopping no_rule ticking taking entering having when computing choosing popping pop_many pop_plain pop_truth pop_integers pop_operands pop_text answering applying_one applying_two testing_step performing putting_back assigning making_text joining at_level kept_on pushing index level_of_machine cell_at jumping block_at own_block leaving with_result putting put_back is_text home_of first_cells leaving_of_meaning constants_of putting_of_steps back_of_steps text_constants text_constant is_variable stream_of own_result own_match result_meant is_inside text is_class_free declared_at constant_of calculate compare compare_as_texts connect same_objects same_texts two_of one_of step_test take_integer take_character take_text take_nothing row_of standard_effect default_mode mode_allowed marked type_named result_named mode_named first_of_procedure first_of_class variable_marks array_marks parameter_marks moded_marks specified_marks headed_marks procedure_marks class_marks virtual_name_marks program_marks inner_marks declaring of_segment of_mode_part of_specification of_specifier of_virtual of_heading declared_by declarations_of run_of_runs lookup shown_of_scopes encloser searched block_at_of_scopes declaration_from binding entry_of formals_of formal_of result_of source_of denoted type_at line_at level_of block_of block_around standard_name text_attribute sysin_attribute sysout_attribute signature undeclared program_events of_statement of_branch of_arm of_block of_whole of_class_body of_declaration accessible protects is_kind some_around_of some_around base brought_by level_shows shown_of is_detach ends_search outward virtual_of represented standard_at qualified_marks qualified_result connection_at transfer_at found_at is_attribute qualification class_prefix_marks prefixed_marks prefix_marks standard_marks marks_of_standard standard_prefix standard_texts class_block has_level is_simulation_block some_level_of shows_detach class_formals class_formals_of found_in if_found object_ended pop_object qualifying referring belongs class_at is_in is_of levels levels_of first_along is_this this_block this_of with_entry_at putting_reference own_attribute
-b_procedure = record { result = tt; formals = (Simply kind.Integer, refl, refl, tt); body = (kind.Integer, ((integer_apart, (refl, b_from_procedure)), tt), (kind.Integer, kind.Integer, (refl, refl), refl, (refl, b_from_procedure), (refl, b_in_procedure))) }
+b_procedure = record { result = tt; formals = (Simply kind.Integer, refl, refl, tt); near = λ around e. (tt, tt); body = (kind.Integer, ((integer_apart, (refl, b_from_procedure)), tt), (kind.Integer, kind.Integer, (refl, refl), refl, (refl, b_from_procedure), (refl, b_in_procedure))) }
 
 -- ---- the prefixed blocks
 
@@ -186,6 +187,7 @@ b_block = record {
   parameters = b_no_parameters;
   different = ((λ a. none_among (number 6) a), tt);
   not_by_name = λ d k a e. none_named prefixed_blocks d k (numbers_of prefixed_blocks 3) (tt, tt) a e;
+  no_procedure = λ d r a e. no_procedures prefixed_blocks d r (numbers_of prefixed_blocks 3) (tt, tt) a e;
   constants = b_no_constants;
   arrays = tt;
   distinct = tt;
@@ -212,6 +214,7 @@ b_other = record {
   parameters = λ d a f. absurd (b_empty d a);
   different = tt;
   not_by_name = λ d k a e. b_empty d a;
+  no_procedure = λ d r a e. b_empty d a;
   constants = λ d type a e. absurd (b_empty d a);
   arrays = tt;
   distinct = tt;

@@ -41,24 +41,24 @@ behind_keeps_control None (Some n) Front Operands h a = run_keeps_control n (((a
 
 -- ---- typed calls
 
-named_keeps_control : (s : Source) (from : Place) (c : Option ℕ) (x : Option Denotation) (es : Expressions) (Indices : Type 0) (Operands : List Kind → Type 0) (Actuals : List Formal → Type 0) (h : Option Holds) → NamedGives s from c x es Indices Operands Actuals h → transfer_denoted x ≡ None
-named_keeps_control s from c (Some (denotation.Declared d)) es Indices Operands Actuals h a = refl
-named_keeps_control s from None (Some (denotation.Standard n)) es Indices Operands Actuals h a = standard_keeps_control (procedure_named n) Operands h a
-named_keeps_control s from (Some k) (Some (denotation.Standard n)) es Indices Operands Actuals h a = absurd a
-named_keeps_control s from c None es Indices Operands Actuals h a = refl
+named_keeps_control : (s : Source) (from : Place) (c : Option ℕ) (x : Option Denotation) (es : Expressions) (Indices Checked : Type 0) (Operands : List Kind → Type 0) (Actuals : List Formal → Type 0) (h : Option Holds) → NamedGives s from c x es Indices Checked Operands Actuals h → transfer_denoted x ≡ None
+named_keeps_control s from c (Some (denotation.Declared d)) es Indices Checked Operands Actuals h a = refl
+named_keeps_control s from None (Some (denotation.Standard n)) es Indices Checked Operands Actuals h a = standard_keeps_control (procedure_named n) Operands h a
+named_keeps_control s from (Some k) (Some (denotation.Standard n)) es Indices Checked Operands Actuals h a = absurd a
+named_keeps_control s from c None es Indices Checked Operands Actuals h a = refl
 
-dot_keeps_control : (s : Source) (x : Option Denotation) (stream : Option ℕ) (Front : Type 0) (Object : ℕ → Type 0) (es : Expressions) (Indices : Type 0) (Operands : List Kind → Type 0) (Actuals : List Formal → Type 0) (h : Option Holds) → DotGives s x stream Front Object es Indices Operands Actuals h → transfer_denoted x ≡ None
-dot_keeps_control s (Some (denotation.Declared d)) stream Front Object es Indices Operands Actuals h a = refl
-dot_keeps_control s (Some (denotation.Standard n)) stream Front Object es Indices Operands Actuals h a = behind_keeps_control stream (procedure_named n) Front Operands h a
-dot_keeps_control s None stream Front Object es Indices Operands Actuals h a = refl
+dot_keeps_control : (s : Source) (x : Option Denotation) (stream : Option ℕ) (Front : Type 0) (Object : ℕ → Type 0) (es : Expressions) (Indices Checked : Type 0) (Operands : List Kind → Type 0) (Actuals : List Formal → Type 0) (h : Option Holds) → DotGives s x stream Front Object es Indices Checked Operands Actuals h → transfer_denoted x ≡ None
+dot_keeps_control s (Some (denotation.Declared d)) stream Front Object es Indices Checked Operands Actuals h a = refl
+dot_keeps_control s (Some (denotation.Standard n)) stream Front Object es Indices Checked Operands Actuals h a = behind_keeps_control stream (procedure_named n) Front Operands h a
+dot_keeps_control s None stream Front Object es Indices Checked Operands Actuals h a = refl
 
 declared_transfers_not : (s : Source) (token : ℕ) (d : DeclNo) → denoted s token ≡ Some (denotation.Declared d) → transfer_at s token ≡ None
 unfolding transfer_at
 declared_transfers_not s token d e = ap transfer_denoted e
 
-pub named_transfers_not : (s : Source) (from : Place) (c : Option ℕ) (token : ℕ) (es : Expressions) (Indices : Type 0) (Operands : List Kind → Type 0) (Actuals : List Formal → Type 0) (h : Option Holds) → NamedGives s from c (denoted s token) es Indices Operands Actuals h → transfer_at s token ≡ None
+pub named_transfers_not : (s : Source) (from : Place) (c : Option ℕ) (token : ℕ) (es : Expressions) (Indices Checked : Type 0) (Operands : List Kind → Type 0) (Actuals : List Formal → Type 0) (h : Option Holds) → NamedGives s from c (denoted s token) es Indices Checked Operands Actuals h → transfer_at s token ≡ None
 unfolding transfer_at
-named_transfers_not s from c token es Indices Operands Actuals h a = named_keeps_control s from c (denoted s token) es Indices Operands Actuals h a
+named_transfers_not s from c token es Indices Checked Operands Actuals h a = named_keeps_control s from c (denoted s token) es Indices Checked Operands Actuals h a
 
 -- a procedure of SIMSET that is seen without a dot is declared
 own_declared : (s : Source) (x : Option Denotation) (d : DeclNo) → attribute_denoted s x ≡ Some d → x ≡ Some (denotation.Declared d)
@@ -93,17 +93,17 @@ pub not_own : (s : Source) (token : ℕ) → own_attribute s token ≡ None → 
 unfolding own_attribute
 not_own s token e = e
 
-pub identifier_transfers_not : (s : Source) (from : Place) (c : Option ℕ) (token : ℕ) (es : Expressions) (Indices : Type 0) (Operands : List Kind → Type 0) (Actuals : List Formal → Type 0) (h : Option Holds) → IdentifierGives s from token c (own_attribute s token) es Indices Operands Actuals h → transfer_at s token ≡ None
-identifier_transfers_not s from c token es Indices Operands Actuals h a = by_own c (own_attribute s token) refl a
+pub identifier_transfers_not : (s : Source) (from : Place) (c : Option ℕ) (token : ℕ) (es : Expressions) (Indices Checked : Type 0) (Operands : List Kind → Type 0) (Actuals : List Formal → Type 0) (h : Option Holds) → IdentifierGives s from token c (own_attribute s token) es Indices Checked Operands Actuals h → transfer_at s token ≡ None
+identifier_transfers_not s from c token es Indices Checked Operands Actuals h a = by_own c (own_attribute s token) refl a
   where
-    by_own : (c : Option ℕ) (own : Option DeclNo) → own_attribute s token ≡ own → IdentifierGives s from token c own es Indices Operands Actuals h → transfer_at s token ≡ None
-    by_own None None e x = named_transfers_not s from None token es Indices Operands Actuals h x
-    by_own (Some k) own e x = named_transfers_not s from (Some k) token es Indices Operands Actuals h x
+    by_own : (c : Option ℕ) (own : Option DeclNo) → own_attribute s token ≡ own → IdentifierGives s from token c own es Indices Checked Operands Actuals h → transfer_at s token ≡ None
+    by_own None None e x = named_transfers_not s from None token es Indices Checked Operands Actuals h x
+    by_own (Some k) own e x = named_transfers_not s from (Some k) token es Indices Checked Operands Actuals h x
     by_own None (Some d) e x = declared_transfers_not s token d (own_denoted s token d e)
 
-pub dot_transfers_not : (s : Source) (token : ℕ) (stream : Option ℕ) (Front : Type 0) (Object : ℕ → Type 0) (es : Expressions) (Indices : Type 0) (Operands : List Kind → Type 0) (Actuals : List Formal → Type 0) (h : Option Holds) → DotGives s (denoted s token) stream Front Object es Indices Operands Actuals h → transfer_at s token ≡ None
+pub dot_transfers_not : (s : Source) (token : ℕ) (stream : Option ℕ) (Front : Type 0) (Object : ℕ → Type 0) (es : Expressions) (Indices Checked : Type 0) (Operands : List Kind → Type 0) (Actuals : List Formal → Type 0) (h : Option Holds) → DotGives s (denoted s token) stream Front Object es Indices Checked Operands Actuals h → transfer_at s token ≡ None
 unfolding transfer_at
-dot_transfers_not s token stream Front Object es Indices Operands Actuals h a = dot_keeps_control s (denoted s token) stream Front Object es Indices Operands Actuals h a
+dot_transfers_not s token stream Front Object es Indices Checked Operands Actuals h a = dot_keeps_control s (denoted s token) stream Front Object es Indices Checked Operands Actuals h a
 
 -- ---- a transfer leaves no value
 

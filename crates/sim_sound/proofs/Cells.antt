@@ -16,9 +16,9 @@ use Rattle.sim_meaning.specs.Attributes.{cell_of_connection, is_connection}
 use Rattle.sim_meaning.specs.Entries.{first_cells, numbers_of}
 use Rattle.sim_meaning.specs.Levels.{has_levels, qualification}
 use Rattle.sim_meaning.specs.Objects.{attributes_from, with_attribute}
-use Rattle.sim_meaning.specs.Pending.{Actual, Address, ArrayValue, Connection, Declared, Held, Instances, Key, Of, Result, Val, cell, cell_set, held, held_set}
+use Rattle.sim_meaning.specs.Pending.{Actual, Address, ArrayValue, Connection, Declared, Held, Instances, Key, Of, Origin, ProcedureValue, Result, Val, cell, cell_set, held, held_set}
 use Rattle.sim_meaning.specs.Texts.{BlockText, ClassText, ConnectionText, PrefixedText, ProcedureText, StandardText, Text, text}
-use Rattle.sim_sound.specs.Held.{Among, ArrayOf, ByName, Holds, Refers, Simply, connection_holds, entry_holds, given_by, held_by, key_holds, reference_to, result_type}
+use Rattle.sim_sound.specs.Held.{Among, ArrayOf, ByName, Holds, Procedure, Refers, Simply, connection_holds, entry_holds, given_by, held_by, key_holds, reference_to, result_type}
 use Rattle.sim_sound.specs.Typed.{ConnectionTyped, Typed}
 use Rattle.sim_sound.proofs.Running.{Begun, StoreFine}
 use Rattle.sim_sound.proofs.Sound.{CellIs, Site, in_connection, in_instance, own_made}
@@ -33,11 +33,13 @@ pub val_up : (s : Source) (o : AllArrays) (m : Instances) (i j : ℕ) → Near o
 val_up s o m i j near (Simply k) (Of p) a = a
 val_up s o m i j near (Refers c) (Of p) a = a
 val_up s o m i j near (ArrayOf k) (ArrayValue n) a = record { it = a.it; lives = a.lives; known = a.known; owned = ⊎_elim (λ k. inl k) (λ w. inr (near_then o m i j (a.it).owner near w)) a.owned; count = a.count }
-val_up s o m i j near (ByName k) (Actual home e) a = record { near = near_then o m i j home near a.near; from = a.from; stands = a.stands; typed = a.typed }
+val_up s o m i j near (Procedure r) (ProcedureValue k e) a = record { around = a.around; near = near_then o m i j e near a.near; whole = a.whole; procedure = a.procedure; gives = a.gives }
+val_up s o m i j near (ByName h) (Actual home p e) a = record { near = near_then o m i j home near a.near; from = a.from; stands = a.stands; typed = a.typed }
 val_up s o m i j near (Simply k) _ a = absurd a
 val_up s o m i j near (Refers c) _ a = absurd a
 val_up s o m i j near (ArrayOf k) _ a = absurd a
-val_up s o m i j near (ByName k) _ a = absurd a
+val_up s o m i j near (Procedure r) _ a = absurd a
+val_up s o m i j near (ByName h) _ a = absurd a
 
 -- what a variable may hold is the same for all instances
 pub plain_anywhere : (s : Source) (o : AllArrays) (m : Instances) (j i : ℕ) (h : Holds) (v : Val) → IsPlain h → ValFine s o m j h v → ValFine s o m i h v
@@ -46,7 +48,8 @@ plain_anywhere s o m j i (Refers c) (Of p) is a = a
 plain_anywhere s o m j i (Simply k) _ is a = absurd a
 plain_anywhere s o m j i (Refers c) _ is a = absurd a
 plain_anywhere s o m j i (ArrayOf k) v is a = absurd is
-plain_anywhere s o m j i (ByName k) v is a = absurd is
+plain_anywhere s o m j i (Procedure r) v is a = absurd is
+plain_anywhere s o m j i (ByName h) v is a = absurd is
 
 -- ---- what is no array
 
@@ -78,6 +81,7 @@ array_among : (s : Source) (t u : ℕ) (todo : List DeclNo) (hs : List Held) (ke
 array_among s t u todo hs (Declared d) k made at e there f = (record { 0 = d }, refl, made u at (record { 0 = d }) k e there f)
 array_among s t u todo hs Result k made at e there f = absurd (given_no_array s (result_type s u) k e)
 array_among s t u todo hs (Connection n) k made at e there f = absurd (connection_no_array s (block_around s n) k e)
+array_among s t u todo hs Origin k made at e there f = absurd (cc)
 
 pub none_among : (d : DeclNo) → Among d [] → ⊥
 none_among d a = elim a [ ]
@@ -167,6 +171,7 @@ own_cell s o m j x key h lives fine made is there = by_held (held key x.cells) r
     by_held (Some v) e h made is = (v, at ∙ e, held_fine s o m j x.text key h x.cells v is fine.cells e)
     by_held None e (Simply k) made is = absurd (held_plain s o m j x.text key (Simply k) (λ a. a) x.cells is fine.cells there e)
     by_held None e (Refers c) made is = absurd (held_plain s o m j x.text key (Refers c) (λ a. a) x.cells is fine.cells there e)
+    by_held None e (Procedure r) made is = absurd (held_plain s o m j x.text key (Procedure r) (λ a. a) x.cells is fine.cells there e)
     by_held None e (ByName k) made is = absurd (held_plain s o m j x.text key (ByName k) (λ a. a) x.cells is fine.cells there e)
     by_held None e (ArrayOf k) made is = absurd (made k refl e)
 

@@ -9,12 +9,12 @@ use Rattle.sim_chains.specs.WellFormed.{chain_in, over_kept, times_above_in}
 use Rattle.sim_chains.proofs.Counts.{above_le, above_le_times, kept_le}
 use Rattle.sim_scope.specs.Source.{Source}
 use Rattle.sim_code.specs.Instances.{is_given_at_end, system_head}
-use Rattle.sim_meaning.specs.Pending.{Activation, Do, EndBlock, EndEvaluation, EndLevel, EndObject, EndPrefixed, EndProcedure, EndProgram, Instances, Item, evaluates, owner}
+use Rattle.sim_meaning.specs.Pending.{Activation, Do, EndBlock, EndEvaluation, EndLevel, EndObject, EndPrefixed, EndProcedure, EndProgram, Instances, Item, evaluates, owner, ForParameter, ForPlace, ForValue, Use}
 use Rattle.sim_meaning.specs.Sane.{Other, OwnerOf, OwnersKeptOf, OwnersOf}
 use Rattle.sim_sound.proofs.Heads.{at_is, stands_as}
 use Rattle.sim_sound.proofs.Lists.{equal_numbers, no_some, other_numbers, same_some}
 use Rattle.sim_sound.proofs.Later.{kept_seats_map, owner_is, seat_owner, seats_map}
-use Rattle.sim_sound.proofs.Running.{AllKeptSeats, AllSeats, ChainFine, ChainOn, Footing, IsObject, KeptSeats, ObjectStands, Operates, SeatOf, StandsFine, StoreFine, WorkFine, evaluation_seat, footing, idle, idle_work, or_below, own_seat, parts, seat_on}
+use Rattle.sim_sound.proofs.Running.{AllKeptSeats, AllSeats, ChainFine, ChainOn, Footing, IsObject, KeptSeats, ObjectStands, Operates, SeatOf, StandsFine, StoreFine, WorkFine, evaluation_seat, footing, idle, idle_work, or_below, own_seat, parts, seat_on, Serves}
 use Rattle.sim_sound.proofs.Values.{AllArrays, Kinds, Seat, Waits, at_seat}
 
 -- ---- counts
@@ -313,6 +313,11 @@ above_head b q m i rest top none is =
 -- ---- what is below
 
 -- what is below is known from what ends the pending work
+serves_below : (s : Source) (Below : Waits → Type 0) (wanted : Use) (x : Kinds) → Serves s Below wanted x → (v : Waits) × Below v
+serves_below s Below (ForParameter number line) x a = (_, a.below)
+serves_below s Below (ForValue class line) x a = (_, a.4)
+serves_below s Below (ForPlace value_too line) x a = (_, a.4)
+
 pub ends_with : (s : Source) (o : AllArrays) (m : Instances) (Below : Waits → Type 0) (Outermost : Type 0) (j t : ℕ) (w : List Item) (todo : List DeclNo) (before : List Kinds) → WorkFine s o m Below Outermost j t w todo before → ((v : Waits) × Below v) ⊎ Outermost
 ends_with s o m Below Outermost j t [] todo before a = absurd a
 ends_with s o m Below Outermost j t (Do op ∷ w) todo before a = ends_with s o m Below Outermost j t w a.0 a.1 a.3
@@ -322,7 +327,7 @@ ends_with s o m Below Outermost j t (EndLevel k ∷ w) todo before a = ends_with
 ends_with s o m Below Outermost j t (EndObject ∷ w) todo before a = inl (a.4, a.6)
 ends_with s o m Below Outermost j t (EndPrefixed ∷ w) todo before a = inl (_, a.1)
 ends_with s o m Below Outermost j t (EndProgram ∷ w) todo before a = inr a.1
-ends_with s o m Below Outermost j t (EndEvaluation wanted ∷ w) todo before a = inl (_, a.8)
+ends_with s o m Below Outermost j t (EndEvaluation wanted ∷ w) todo before a = inl (serves_below s Below wanted a.2 a.4)
 
 -- ---- what was entered on an instance stands on it
 

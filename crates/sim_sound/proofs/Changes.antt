@@ -8,7 +8,7 @@ use Rattle.sim_code.specs.Outcome.{ArrayOf as OneArray, World}
 use Rattle.sim_code.specs.Arrays.{owned_by, unless_given, with_array}
 use Rattle.sim_meaning.specs.Pending.{Declared, Held, Instances, Key, Val, before, held, held_set, same_key}
 use Rattle.sim_meaning.specs.Pending as meaning
-use Rattle.sim_sound.specs.Held.{ArrayOf, ByName, Holds, Refers, Simply, key_holds}
+use Rattle.sim_sound.specs.Held.{ArrayOf, ByName, Holds, Procedure, Refers, Simply, key_holds}
 use Rattle.sim_sound.proofs.Values.{AllArrays, ArrayFine, Beneath, CellFine, CellsFine, CopyFine, ElementFine, Hidden, KeptFine, KeyAmong, Marks, Near, Open, PlainFine, Seat, Sight, ValFine, at_itself, at_seat, elements_of, first_key, key_of, later_key, near_below, near_staying, one_lower, see}
 use Rattle.sim_sound.proofs.Later.{All, AllCopies, Later, as_it_was}
 use Rattle.sim_sound.proofs.Lists.{append_at, append_before, equal_numbers, if_false, if_true, numbers_equal, same_some, set_len, set_other, set_same}
@@ -308,22 +308,32 @@ same_equal meaning.Result (Declared d) h = absurd (cc)
 same_equal meaning.Result (meaning.Connection e) h = absurd (cc)
 same_equal (meaning.Connection d) (Declared e) h = absurd (cc)
 same_equal (meaning.Connection d) meaning.Result h = absurd (cc)
+same_equal meaning.Origin meaning.Origin h = refl
+same_equal (Declared d) meaning.Origin h = absurd (cc)
+same_equal meaning.Result meaning.Origin h = absurd (cc)
+same_equal (meaning.Connection d) meaning.Origin h = absurd (cc)
+same_equal meaning.Origin (Declared e) h = absurd (cc)
+same_equal meaning.Origin meaning.Result h = absurd (cc)
+same_equal meaning.Origin (meaning.Connection e) h = absurd (cc)
 
 pub equal_same : (a : Key) → same_key a a ≡ true
 equal_same (Declared d) = equal_numbers d d refl
 equal_same meaning.Result = refl
 equal_same (meaning.Connection e) = equal_numbers e e refl
+equal_same meaning.Origin = refl
 
 pub cell_of : (s : Source) (o : AllArrays) (m : Instances) (j : ℕ) (h : Holds) (v : Val) → ValFine s o m j h v → CellFine s o m j (Some h) (Some v)
 cell_of s o m j (Simply k) v a = a
 cell_of s o m j (Refers c) v a = a
 cell_of s o m j (ArrayOf k) v a = a
+cell_of s o m j (Procedure r) v a = a
 cell_of s o m j (ByName k) v a = a
 
 pub cell_is : (s : Source) (o : AllArrays) (m : Instances) (j : ℕ) (h : Holds) (v : Val) → CellFine s o m j (Some h) (Some v) → ValFine s o m j h v
 cell_is s o m j (Simply k) v a = a
 cell_is s o m j (Refers c) v a = a
 cell_is s o m j (ArrayOf k) v a = a
+cell_is s o m j (Procedure r) v a = a
 cell_is s o m j (ByName k) v a = a
 
 -- a cell that is set

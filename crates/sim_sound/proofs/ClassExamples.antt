@@ -11,7 +11,7 @@ use Rattle.sim_meaning.specs.ClassExamples.{access_through_none}
 use Rattle.sim_meaning.specs.Entries.{numbers_of}
 use Rattle.sim_sound.specs.Held.{Among, ArrayOf, Holds, IsFormal, Simply, entry_holds, first, itself, later}
 use Rattle.sim_sound.specs.Typed.{ClassThere, ConstantHas, ProcedureThere, Typed, as_block}
-use Rattle.sim_sound.proofs.Examples.{integer_apart, none_named, NoSetProcedure, NoSetText, RowHolds, TextHolds, no_set_procedure, no_set_text, none_among, number, row_holds, text_holds, true_never, no_virtual}
+use Rattle.sim_sound.proofs.Examples.{integer_apart, none_named, no_procedures, NoSetProcedure, NoSetText, RowHolds, TextHolds, no_set_procedure, no_set_text, none_among, number, row_holds, text_holds, true_never, no_virtual}
 use Rattle.std.specs.Fmt.{digits}
 use Rattle.sim_code.specs.Arrays.{element_place, making_array, copying_array, keeping_array, finding_element, giving_back, handed_over}
 use Rattle.sim_code.specs.Events.{pop_object, qualifying, referring, stopping, no_rule, ticking, taking, entering, having, when, computing, choosing, popping, pop_many, pop_plain, pop_truth, pop_integers, pop_operands, pop_text, answering, applying_one, applying_two, testing_step, performing, putting_back, assigning, making_text, joining}
@@ -70,14 +70,14 @@ c_outer = record {
   made = c_made;
   own = λ d a. absurd (none_among d a);
   statements = (
-    (kind.Reference, ((refl, record { class = 2; qualified = refl; at = (refl, record { found = 0; around = itself; instance = refl; level = refl }) }), tt), (record { declaration = number 1; denotes = refl; class = 2; declares = refl; made = refl; single = refl; seen = record { found = 0; around = itself; instance = refl; level = refl }; actuals = tt }, refl)),
+    (kind.Reference, ((refl, record { class = 2; qualified = refl; at = (refl, record { found = 0; around = itself; instance = refl; level = refl }) }), tt), (record { declaration = number 1; denotes = refl; class = 2; declares = refl; single = refl; process = λ e. absurd (cc); seen = record { found = 0; around = itself; instance = refl; level = refl }; actuals = tt }, refl)),
     ((None, (tt, (2, refl, refl, (refl, record { found = 0; around = itself; instance = refl; level = refl })), ((refl, record { found = 0; around = itself; instance = refl; level = refl }, tt), tt)), refl), ((kind.Reference, ((refl, record { class = 2; qualified = refl; at = (refl, record { found = 0; around = itself; instance = refl; level = refl }) }), tt), refl), ((None, (tt, (2, refl, refl, (refl, record { found = 0; around = itself; instance = refl; level = refl })), ((refl, record { found = 0; around = itself; instance = refl; level = refl }, tt), tt)), refl), tt))),
   );
 }
 
 c_function : TextHolds access_through_none 1 (text access_through_none 1)
 unfolding digits element_place making_array copying_array keeping_array finding_element giving_back handed_over stopping no_rule ticking taking entering having when computing choosing popping pop_many pop_plain pop_truth pop_integers pop_operands pop_text answering applying_one applying_two testing_step performing putting_back assigning making_text joining at_level kept_on pushing index level_of_machine cell_at jumping block_at own_block leaving with_result putting put_back is_text home_of first_cells leaving_of_meaning constants_of putting_of_steps back_of_steps text_constants text_constant is_variable stream_of own_result own_match result_meant is_inside text is_class_free declared_at constant_of calculate compare compare_as_texts connect same_objects same_texts two_of one_of step_test take_integer take_character take_text take_nothing row_of standard_effect default_mode mode_allowed marked type_named result_named mode_named first_of_procedure first_of_class variable_marks array_marks parameter_marks moded_marks specified_marks headed_marks procedure_marks class_marks virtual_name_marks program_marks inner_marks declaring of_segment of_mode_part of_specification of_specifier of_virtual of_heading declared_by declarations_of run_of_runs lookup shown_of_scopes encloser searched block_at_of_scopes declaration_from binding entry_of formals_of formal_of result_of source_of denoted type_at line_at level_of block_of block_around standard_name text_attribute sysin_attribute sysout_attribute signature undeclared program_events of_statement of_branch of_arm of_block of_whole of_class_body of_declaration accessible protects is_kind some_around_of some_around base brought_by level_shows shown_of is_detach ends_search outward virtual_of represented standard_at qualified_marks qualified_result connection_at transfer_at found_at is_attribute qualification class_prefix_marks prefixed_marks prefix_marks standard_marks marks_of_standard standard_prefix standard_texts class_block has_level is_simulation_block some_level_of shows_detach class_formals class_formals_of found_in if_found object_ended pop_object qualifying referring belongs class_at is_in is_of levels levels_of first_along is_this this_block this_of with_entry_at putting_reference own_attribute
-c_function = record { result = refl; formals = tt; body = ((None, (((refl, refl, refl), refl), ((_, refl, refl), tt)), refl), ((kind.Integer, ((integer_apart, (refl, itself)), tt), refl), tt)) }
+c_function = record { result = refl; formals = tt; near = λ around e. tt; body = ((None, (((refl, refl, refl), refl), ((_, refl, refl), tt)), refl), ((kind.Integer, ((integer_apart, (refl, itself)), tt), refl), tt)) }
 
 c_parameters : (d : DeclNo) → Among d (numbers_of access_through_none 2) → IsFormal (entry_of access_through_none.tables d) → Among d (class_formals access_through_none.tables 2)
 unfolding digits element_place making_array copying_array keeping_array finding_element giving_back handed_over stopping no_rule ticking taking entering having when computing choosing popping pop_many pop_plain pop_truth pop_integers pop_operands pop_text answering applying_one applying_two testing_step performing putting_back assigning making_text joining at_level kept_on pushing index level_of_machine cell_at jumping block_at own_block leaving with_result putting put_back is_text home_of first_cells leaving_of_meaning constants_of putting_of_steps back_of_steps text_constants text_constant is_variable stream_of own_result own_match result_meant is_inside text is_class_free declared_at constant_of calculate compare compare_as_texts connect same_objects same_texts two_of one_of step_test take_integer take_character take_text take_nothing row_of standard_effect default_mode mode_allowed marked type_named result_named mode_named first_of_procedure first_of_class variable_marks array_marks parameter_marks moded_marks specified_marks headed_marks procedure_marks class_marks virtual_name_marks program_marks inner_marks declaring of_segment of_mode_part of_specification of_specifier of_virtual of_heading declared_by declarations_of run_of_runs lookup shown_of_scopes encloser searched block_at_of_scopes declaration_from binding entry_of formals_of formal_of result_of source_of denoted type_at line_at level_of block_of block_around standard_name text_attribute sysin_attribute sysout_attribute signature undeclared program_events of_statement of_branch of_arm of_block of_whole of_class_body of_declaration accessible protects is_kind some_around_of some_around base brought_by level_shows shown_of is_detach ends_search outward virtual_of represented standard_at qualified_marks qualified_result connection_at transfer_at found_at is_attribute qualification class_prefix_marks prefixed_marks prefix_marks standard_marks marks_of_standard standard_prefix standard_texts class_block has_level is_simulation_block some_level_of shows_detach class_formals class_formals_of found_in if_found object_ended pop_object qualifying referring belongs class_at is_in is_of levels levels_of first_along is_this this_block this_of with_entry_at putting_reference own_attribute
@@ -112,6 +112,7 @@ c_class = record {
   parameters = c_parameters;
   different = (c_apart, ((λ a. none_among (number 3) a), tt));
   not_by_name = λ d k a e. none_named access_through_none d k (numbers_of access_through_none 2) (tt, (tt, tt)) a e;
+  no_procedure = λ d r a e. no_procedures access_through_none d r (numbers_of access_through_none 2) (tt, (tt, tt)) a e;
   constants = c_constants;
   arrays = (Simply kind.Integer, refl, ((refl, refl, tt), tt, (record { declaration = number 2; at = refl; element = sim_type.Integer; dimensions = 1; is = refl; holds = refl }, tt), tt), tt);
   distinct = ((λ a. none_among (number 2) a), tt);
@@ -123,7 +124,7 @@ c_class = record {
 
 c_procedure : TextHolds access_through_none 3 (text access_through_none 3)
 unfolding digits element_place making_array copying_array keeping_array finding_element giving_back handed_over stopping no_rule ticking taking entering having when computing choosing popping pop_many pop_plain pop_truth pop_integers pop_operands pop_text answering applying_one applying_two testing_step performing putting_back assigning making_text joining at_level kept_on pushing index level_of_machine cell_at jumping block_at own_block leaving with_result putting put_back is_text home_of first_cells leaving_of_meaning constants_of putting_of_steps back_of_steps text_constants text_constant is_variable stream_of own_result own_match result_meant is_inside text is_class_free declared_at constant_of calculate compare compare_as_texts connect same_objects same_texts two_of one_of step_test take_integer take_character take_text take_nothing row_of standard_effect default_mode mode_allowed marked type_named result_named mode_named first_of_procedure first_of_class variable_marks array_marks parameter_marks moded_marks specified_marks headed_marks procedure_marks class_marks virtual_name_marks program_marks inner_marks declaring of_segment of_mode_part of_specification of_specifier of_virtual of_heading declared_by declarations_of run_of_runs lookup shown_of_scopes encloser searched block_at_of_scopes declaration_from binding entry_of formals_of formal_of result_of source_of denoted type_at line_at level_of block_of block_around standard_name text_attribute sysin_attribute sysout_attribute signature undeclared program_events of_statement of_branch of_arm of_block of_whole of_class_body of_declaration accessible protects is_kind some_around_of some_around base brought_by level_shows shown_of is_detach ends_search outward virtual_of represented standard_at qualified_marks qualified_result connection_at transfer_at found_at is_attribute qualification class_prefix_marks prefixed_marks prefix_marks standard_marks marks_of_standard standard_prefix standard_texts class_block has_level is_simulation_block some_level_of shows_detach class_formals class_formals_of found_in if_found object_ended pop_object qualifying referring belongs class_at is_in is_of levels levels_of first_along is_this this_block this_of with_entry_at putting_reference own_attribute
-c_procedure = record { result = tt; formals = (Simply kind.Integer, refl, refl, tt); body = (None, (((refl, refl, refl), refl), ((refl, record { found = 3; around = itself; instance = refl; level = refl }), (refl, tt))), refl) }
+c_procedure = record { result = tt; formals = (Simply kind.Integer, refl, refl, tt); near = λ around e. (tt, tt); body = (None, (((refl, refl, refl), refl), ((refl, record { found = 3; around = itself; instance = refl; level = refl }), (refl, tt))), refl) }
 
 c_texts : (k : ℕ) → TextHolds access_through_none k (text access_through_none k)
 unfolding digits element_place making_array copying_array keeping_array finding_element giving_back handed_over stopping no_rule ticking taking entering having when computing choosing popping pop_many pop_plain pop_truth pop_integers pop_operands pop_text answering applying_one applying_two testing_step performing putting_back assigning making_text joining at_level kept_on pushing index level_of_machine cell_at jumping block_at own_block leaving with_result putting put_back is_text home_of first_cells leaving_of_meaning constants_of putting_of_steps back_of_steps text_constants text_constant is_variable stream_of own_result own_match result_meant is_inside text is_class_free declared_at constant_of calculate compare compare_as_texts connect same_objects same_texts two_of one_of step_test take_integer take_character take_text take_nothing row_of standard_effect default_mode mode_allowed marked type_named result_named mode_named first_of_procedure first_of_class variable_marks array_marks parameter_marks moded_marks specified_marks headed_marks procedure_marks class_marks virtual_name_marks program_marks inner_marks declaring of_segment of_mode_part of_specification of_specifier of_virtual of_heading declared_by declarations_of run_of_runs lookup shown_of_scopes encloser searched block_at_of_scopes declaration_from binding entry_of formals_of formal_of result_of source_of denoted type_at line_at level_of block_of block_around standard_name text_attribute sysin_attribute sysout_attribute signature undeclared program_events of_statement of_branch of_arm of_block of_whole of_class_body of_declaration accessible protects is_kind some_around_of some_around base brought_by level_shows shown_of is_detach ends_search outward virtual_of represented standard_at qualified_marks qualified_result connection_at transfer_at found_at is_attribute qualification class_prefix_marks prefixed_marks prefix_marks standard_marks marks_of_standard standard_prefix standard_texts class_block has_level is_simulation_block some_level_of shows_detach class_formals class_formals_of found_in if_found object_ended pop_object qualifying referring belongs class_at is_in is_of levels levels_of first_along is_this this_block this_of with_entry_at putting_reference own_attribute

@@ -73,6 +73,7 @@ pub record LevelIs (s : Source) (k : ℕ) (x : Level) : Type 0 where
   pub own : own_cells s x.text words ≡ attributes_from s (numbers_of s x.text)
   pub typed : ClassTyped s x.text x.declarations x.statements
   pub of_process : x.process ≡ true → text s x.text ≡ Some (StandardText standard.Process)
+  pub to_process : text s x.text ≡ Some (StandardText standard.Process) → x.process ≡ true
 
 abbrev pub LevelsAre : Source → (text : ℕ) → List Level → Type 0
 LevelsAre s k [] = Unit {0}
@@ -106,7 +107,7 @@ are_more s k (y ∷ xs) x a i = (a.0, are_more s k xs x a.1 i)
 
 are_up : (s : Source) (k b : ℕ) → base s.tables k ≡ Some b → (xs : List Level) → LevelsAre s b xs → LevelsAre s k xs
 are_up s k b e [] a = tt
-are_up s k b e (x ∷ xs) a = let i = a.0 in (record { level = prefix_level e i.level; has = i.has; words = i.words; is = i.is; own = i.own; typed = i.typed; of_process = i.of_process }, are_up s k b e xs a.1)
+are_up s k b e (x ∷ xs) a = let i = a.0 in (record { level = prefix_level e i.level; has = i.has; words = i.words; is = i.is; own = i.own; typed = i.typed; of_process = i.of_process; to_process = i.to_process }, are_up s k b e xs a.1)
 
 -- those inside a level
 inside_if : (s : Source) (k : ℕ) (b : Bool) (xs ys : List Level) → LevelsAre s k xs → LevelsAre s k ys → LevelsAre s k (if b then xs else ys)
@@ -235,7 +236,7 @@ module _ (s : Source) (ok : Typed s) where
   own k w = record { text = k; declarations = w.declarations; statements = w.statements; inner_last = w.last; process = w.process }
 
   own_is : (k : ℕ) → has_levels (text s k) ≡ true → (w : Leveled s ok k) → LevelIs s k (own k w)
-  own_is k has w = record { level = same_level; has = has; words = w.words; is = w.is; own = w.own; typed = w.typed; of_process = w.of_process }
+  own_is k has w = record { level = same_level; has = has; words = w.words; is = w.is; own = w.own; typed = w.typed; of_process = w.of_process; to_process = w.to_process }
 
   own_made : (k : ℕ) (w : Leveled s ok k) → level_made s k (text s k) ≡ Some (own k w)
   own_made k w = ap (level_made s k) w.is ∙ w.made

@@ -35,28 +35,48 @@ use Rattle.sim_values.specs.Plain.{Nothing, Object}
 use Rattle.sim_code.specs.Instances.{at_level}
 use Rattle.sim_code.specs.Transfers.{Calling, Detaching, Resuming, Transfer}
 use Rattle.sim_code.specs.Simulations.{is_simulation_name}
-use Rattle.sim_meaning.specs.Attributes.{attribute, attribute_denoted, attribute_formals, attribute_if, block_found, cell_of_connection, class_made, class_unless, connected_object, connection_at, declared_attribute, detach_term, generation, if_any, is_connection, is_standard_attribute, membership_term, own_attribute, own_term, place_of_attribute, qua_term, simulation_term, this_instance, this_term, transfer_at, transfer_term, with_arrays_kept, count_of}
-use Rattle.sim_meaning.specs.Closing.{Joining, Lazily, Negated, Plainly, Sort, array_place, array_term, behind_dot, class_parameters, close, close_actuals, close_all, close_place, constant_term, declared_place, declared_term, dot_term, formal_place, formal_term, home_of, home_of_class, image_place, in_instance, is_attribute, is_attribute_denoted, is_image_behind, is_text, is_variable, is_variable_denoted, is_variable_entry, literal_term, class_of_formal, formal_by_name, named_formal, named_place, named_term, type_of_formal, object_term, signed_term, sort_of, standard_name_term, standard_term, stream_denoted, stream_of, sysout, two_term, variable_place, variable_term}
+use Rattle.sim_meaning.specs.Attributes.{attribute_procedure, origin_if, attribute, attribute_denoted, attribute_formals, attribute_if, block_found, cell_of_connection, connected_object, connection_at, declared_attribute, detach_term, generation, if_any, is_connection, is_standard_attribute, membership_term, own_attribute, own_term, place_of_attribute, qua_term, simulation_term, this_instance, this_term, transfer_at, transfer_term, with_arrays_kept, has_type}
+use Rattle.sim_meaning.specs.Closing.{Joining, Lazily, Negated, Plainly, Sort, array_place, array_term, behind_dot, class_parameters, close, close_actuals, close_all, close_place, close_procedure, constant_term, declared_place, declared_term, dot_term, formal_place, formal_term, home_of, home_of_class, image_place, in_instance, is_attribute, is_attribute_denoted, is_image_behind, is_text, is_variable, is_variable_denoted, is_variable_entry, literal_term, class_of_formal, formal_by_name, named_formal, named_place, named_term, type_of_formal, object_term, signed_term, sort_of, standard_name_term, standard_term, stream_denoted, stream_of, sysout, two_term, variable_place, variable_term}
 use Rattle.sim_meaning.specs.Constants.{text_constant}
 use Rattle.sim_meaning.specs.Entries.{formals_of}
-use Rattle.sim_meaning.specs.Levels.{class_at, has_levels, is_class, qualification}
-use Rattle.sim_meaning.specs.Pending.{ActualOf, Cell, CallOf, Declared, ElementOf, ForPlace, ForValue, NamedOf, Use, Further, ImageOf, Instances, Key, NoTerm, PlaceOf, StandardOf, Term, Terms, Unbuilt, ValueAt, VirtualOf, Given}
+use Rattle.sim_meaning.specs.Levels.{class_at, has_levels, is_class, is_process_itself, qualification}
+use Rattle.sim_meaning.specs.Pending.{CheckedOf, MatchOf, NewOf, ProcedureOf, ActualOf, Cell, CallOf, Declared, ElementOf, ForPlace, ForValue, NamedOf, Use, Further, ImageOf, Instances, Key, NoTerm, PlaceOf, StandardOf, Term, Terms, Unbuilt, ValueAt, Given}
 use Rattle.sim_meaning.specs.Texts.{constant_of, is_class_free, kind_of_type, text}
-use Rattle.sim_sound.specs.Held.{ArrayOf, ByName, Fits, Holds, In, InBound, IsFixed, Place, Refers, Sees, SeesConnected, Simply, StandsAround, declared_holds, entry_holds, entry_names, formal_holds, formal_names, held_by, reference_to}
-use Rattle.sim_sound.specs.Expressions.{ActualIs, ActualsFit, AreIntegers, AreOf, ArrayNames, BehindGives, CallGives, ConstantNames, DeclaredGives, DotGives, ExprIs, HeldNames, IdentifierGives, IsReference, KnownAt, LeftHeld, LiteralIs, NameGives, NamedGives, NewIs, ObjectHas, OfText, OwnGives, OwnKnown, OwnNameGives, SimulationGives, SimulationKnown, SortKinds, StandardGives, ThisFound, ThisIs, VariableNames, VirtualGives}
-use Rattle.sim_sound.specs.Typed.{Typed}
-use Rattle.sim_sound.proofs.Attributes.{NamedEntry, entry_fine, entry_lies, gives_result, held_of_kind, held_plain, known_of, left_known, named_entry, not_named, left_variable_is, leveled, names_variable, no_left_variable, procedure_in, text_left, virtual_in}
+use Rattle.sim_sound.specs.Held.{ArrayOf, ByName, Fits, Holds, In, InBound, IsFixed, Place, Refers, Sees, SeesConnected, Simply, StandsAround, declared_holds, entry_holds, entry_names, formal_holds, held_by, reference_to, Procedure, ResultFits, given_by, formal_means}
+use Rattle.sim_sound.specs.Expressions.{NamedIs, FormalStands, ProcedureDeclared, ProcedureDot, ProcedureNamed, CheckedGives, FormalCalled, ParametersAre, ProcedureIs, ActualsFit, AreIntegers, AreOf, ArrayNames, BehindGives, CallGives, ConstantNames, DeclaredGives, DotGives, ExprIs, HeldNames, IdentifierGives, IsReference, KnownAt, LeftHeld, LiteralIs, NameGives, NamedGives, NewIs, ObjectHas, OfText, OwnGives, OwnKnown, OwnNameGives, SimulationGives, SimulationKnown, SortKinds, StandardGives, ThisFound, ThisIs, VariableNames}
+use Rattle.sim_sound.specs.Typed.{ClassThere, Typed}
+use Rattle.sim_sound.proofs.Attributes.{IsNoProcedure, NamedEntry, entry_alone, entry_fine, holds_result, entry_lies, gives_result, held_of_kind, held_plain, known_of, left_known, named_entry, not_named, left_variable_is, leveled, names_variable, no_left_variable, procedure_in, text_left, virtual_in}
 use Rattle.sim_sound.proofs.Calls.{dot_transfers_not, identifier_transfers_not, not_own, own_denoted, own_is_attribute}
 use Rattle.sim_sound.proofs.Constants.{constant_no_reference, text_no_reference, value_fine}
 use Rattle.sim_sound.proofs.Fitting.{level_self, plain_fits}
 use Rattle.sim_sound.proofs.Cells.{own_level, stands_level_of}
 use Rattle.sim_sound.proofs.Formals.{formals_same}
-use Rattle.sim_sound.proofs.Prefixes.{LevelOf, class_has, level_has, level_has_levels, level_is, level_of_levels, levels_solid}
-use Rattle.sim_sound.proofs.Reach.{Reaches, ReachesText, reaches_from, text_from}
+use Rattle.sim_sound.proofs.Prefixes.{LevelOf, class_has, class_solid, level_has, level_has_levels, level_is, level_of_levels, levels_solid}
+use Rattle.sim_sound.proofs.Reach.{Reached, Reaches, ReachesText, reaches_from, text_from}
+use Rattle.sim_sound.proofs.ProcessClasses.{itself_process}
+use Rattle.sim_sound.proofs.Results.{itself_fits}
 use Rattle.sim_sound.proofs.Running.{StoreFine}
-use Rattle.sim_sound.proofs.Sound.{Gets, BlockIn, IntegersFine, OperandIs, OperandsAre, OperandsFine, TermFine, TermsFine, class_kinds, formal_kinds, held_kinds, in_connection, in_instance as at_cell, simple}
-use Rattle.sim_sound.proofs.Values.{Stands, Whichever, AddressOf, AllArrays, CellTarget, Component, ImageAddress, IsImage, IsPlain, Kinds, ObjectOf, PlainFine, Value, Whole}
+use Rattle.sim_sound.proofs.Sound.{Makes, Gets, BlockIn, IntegersFine, OperandIs, OperandsAre, OperandsFine, TermFine, TermsFine, class_kinds, formal_kinds, in_connection, in_instance as at_cell, simple}
+use Rattle.sim_sound.proofs.Values.{Stands, Whichever, AddressOf, AllArrays, CellTarget, Component, ImageAddress, IsImage, IsPlain, Kinds, ObjectOf, PlainFine, Value, Whole, held_kinds, NewObject}
 use Rattle.sim_sound.proofs.Passed.{class_itself, actual_fine, class_actual, value_kinds, values_are, and_second, or_first, StreamIs, stream_denotes, nothing_left, value_gets, attribute_entry, class_named, target_of, whole_of, TransferFrom}
+
+plain_no_procedure : (h : Holds) → IsPlain h → IsNoProcedure (Some h)
+plain_no_procedure (Simply k) is = tt
+plain_no_procedure (Refers c) is = tt
+plain_no_procedure (ArrayOf h) is = absurd is
+plain_no_procedure (Procedure r) is = absurd is
+plain_no_procedure (ByName h) is = absurd is
+
+pub formal_no_procedure : (s : Source) (g : FormalKind) (ty : Option SimType) (es : Expressions) → closing.is_variable_formal g es ≡ true → IsNoProcedure (formal_means s g ty)
+formal_no_procedure s shape.Simple (Some ty) es v = plain_no_procedure (held_by s ty) (held_plain s ty)
+formal_no_procedure s shape.Simple None es v = tt
+formal_no_procedure s shape.Array (Some ty) es v = tt
+formal_no_procedure s shape.Array None es v = tt
+formal_no_procedure s shape.Procedure ty es v = absurd (cc)
+
+no_procedure_left : (Known : Type 0) (es : Expressions) (Indices : Type 0) (r : Option SimType) (h : Holds) → LeftHeld Known es Indices (Some (Procedure r)) h → ⊥
+no_procedure_left Known NoMore Indices r h a = a
+no_procedure_left Known (Then e es) Indices r h a = a
 
 module _ (s : Source) (ok : Typed s) (o : AllArrays) (m : Instances) (store : StoreFine s o m) (i t : ℕ) (todo : List DeclNo) (from : Place) (at : Stands s m i from) where
   reach : Reaches s m i from
@@ -97,20 +117,58 @@ module _ (s : Source) (ok : Typed s) (o : AllArrays) (m : Instances) (store : St
       cell_seen d (ArrayOf k) (λ j. ValueAt (ElementOf line (Cell j (Declared d.0)) ts)) (Some (Value h)) e a.1 (λ j c. (h, AddressOf k, a.0, refl, (k, refl, array_given j (Declared d.0) k (ArrayOf k) refl c, go a.2)))
 
   -- a parameter by name that is used
-  named_seen : (d : DeclNo) (ty : SimType) (wanted : Use) (x : Kinds) → declared_holds s (block_of s d) d ≡ Some (ByName (kind_of_type ty)) → Gets s (kind_of_type ty) wanted x → Sees s from d → Fine (closing.name_term s m i d NoMore wanted) (Some x)
-  named_seen d ty wanted x e gets sees = cell_seen d (ByName (kind_of_type ty)) (λ j. NamedOf j (Declared d.0) wanted) (Some x) e sees (λ j c. (kind_of_type ty, x, gets, refl, at_cell c))
+  named_seen : (d : DeclNo) (ty : SimType) (wanted : Use) (x : Kinds) → declared_holds s (block_of s d) d ≡ Some (ByName (Simply (kind_of_type ty))) → Gets s (Simply (kind_of_type ty)) wanted x → Sees s from d → Fine (closing.name_term s m i d NoMore wanted) (Some x)
+  named_seen d ty wanted x e gets sees = cell_seen d (ByName (Simply (kind_of_type ty))) (λ j. NamedOf j (Declared d.0) wanted) (Some x) e sees (λ j c. (Simply (kind_of_type ty), x, gets, refl, at_cell c))
 
-  value_used : (d : DeclNo) (ty : SimType) (line : ℕ) (es : Expressions) (h : Holds) → declared_holds s (block_of s d) d ≡ Some (ByName (kind_of_type ty)) → type_of_formal (entry_of s.tables d) ≡ Some ty → VariableNames s (Sees s from d) es (held_by s ty) h → Fine (closing.name_term s m i d es (ForValue (class_of_formal s d) line)) (Some (Value h))
-  value_used d ty line NoMore h e is a = named_seen d ty (ForValue (class_of_formal s d) line) (Value h) e (subst (λ z. Gets s (kind_of_type ty) (ForValue (qualification s z) line) (Value h)) (sym is) (value_gets s ty line h a.0)) a.1
+  value_used : (d : DeclNo) (ty : SimType) (line : ℕ) (es : Expressions) (h : Holds) → declared_holds s (block_of s d) d ≡ Some (ByName (Simply (kind_of_type ty))) → type_of_formal (entry_of s.tables d) ≡ Some ty → VariableNames s (Sees s from d) es (held_by s ty) h → Fine (closing.name_term s m i d es (ForValue (class_of_formal s d) line)) (Some (Value h))
+  value_used d ty line NoMore h e is a = named_seen d ty (ForValue (class_of_formal s d) line) (Value h) e (subst (λ z. Gets s (Simply (kind_of_type ty)) (ForValue (qualification s z) line) (Value h)) (sym is) (value_gets s ty line h a.0)) a.1
   value_used d ty line (Then x es) h e is a = absurd a
 
-  formal_fine : (d : DeclNo) (f : Mode) (g : FormalKind) (ty : Option SimType) (line : ℕ) (es : Expressions) (ts : Terms) (Indices : Type 0) (h : Holds) → declared_holds s (block_of s d) d ≡ formal_holds s f g ty → type_of_formal (entry_of s.tables d) ≡ ty → (Indices → IntegersFine s m i t todo ts) → HeldNames s (Sees s from d) es Indices (formal_names s f g ty) h → Fine (formal_term s m i line d f g es ts) (Some (Value h))
-  formal_fine d mode.ByName shape.Simple (Some ty) line es ts Indices h e is go a = value_used d ty line es h e is (names_variable s (Sees s from d) es Indices (held_by s ty) h (held_plain s ty) a)
-  formal_fine d mode.ByValue shape.Simple (Some ty) line es ts Indices h e is go a = variable_fine d es (held_by s ty) h e (names_variable s (Sees s from d) es Indices (held_by s ty) h (held_plain s ty) a)
-  formal_fine d mode.ByReference shape.Simple (Some ty) line es ts Indices h e is go a = variable_fine d es (held_by s ty) h e (names_variable s (Sees s from d) es Indices (held_by s ty) h (held_plain s ty) a)
-  formal_fine d mode.ByValue shape.Array (Some ty) line es ts Indices h e is go a = array_fine d line es ts Indices (held_by s ty) h e go a
-  formal_fine d mode.ByReference shape.Array (Some ty) line es ts Indices h e is go a = array_fine d line es ts Indices (held_by s ty) h e go a
-  formal_fine d _ _ _ line es ts Indices h e is go a = absurd a
+  -- an array by name, which is a use of its own
+  named_array : (d : DeclNo) (line : ℕ) (k : Holds) (j : ℕ) → CellTarget s m i j (Declared d.0) (ByName (ArrayOf k)) → Fine (NamedOf j (Declared d.0) (ForValue None line)) (Some (Value (ArrayOf k)))
+  named_array d line k j c = (ArrayOf k, Value (ArrayOf k), refl, refl, at_cell c)
+
+  array_used : (d : DeclNo) (line : ℕ) (es : Expressions) (ts : Terms) (Indices : Type 0) (k h : Holds) → declared_holds s (block_of s d) d ≡ Some (ByName (ArrayOf k)) → (Indices → IntegersFine s m i t todo ts) → ArrayNames s (Sees s from d) es Indices k h → Fine (closing.named_array s m i line d es ts) (Some (Value h))
+  array_used d line NoMore ts Indices k h e go a = cell_seen d (ByName (ArrayOf k)) (λ j. NamedOf j (Declared d.0) (ForValue None line)) (Some (Value h)) e a.1 (λ j c. subst (λ z. Fine (NamedOf j (Declared d.0) (ForValue None line)) (Some (Value z))) a.0 (named_array d line k j c))
+  array_used d line (Then x es) ts Indices k h e go a =
+      cell_seen d (ByName (ArrayOf k)) (λ j. ValueAt (ElementOf line (NamedOf j (Declared d.0) (ForValue None line)) ts)) (Some (Value h)) e a.1 (λ j c. (h, AddressOf k, a.0, refl, (k, refl, named_array d line k j c, go a.2)))
+
+  -- a formal procedure as a value
+  abbrev procedure_cell : Mode → Option SimType → Holds
+  procedure_cell mode.ByValue ty = Procedure ty
+  procedure_cell mode.ByReference ty = Procedure ty
+  procedure_cell mode.ByName ty = ByName (Procedure ty)
+
+  procedure_holds : (f : Mode) (ty : Option SimType) → formal_holds s f shape.Procedure ty ≡ Some (procedure_cell f ty)
+  procedure_holds mode.ByValue ty = refl
+  procedure_holds mode.ByReference ty = refl
+  procedure_holds mode.ByName ty = refl
+
+  formal_value_fine : (d : DeclNo) (line : ℕ) (ty r : Option SimType) → ResultFits s (given_by s ty) (given_by s r) → (f : Mode) (j : ℕ) → CellTarget s m i j (Declared d.0) (procedure_cell f ty) → Fine (closing.formal_value line d f j) (Some (Value (Procedure r)))
+  formal_value_fine d line ty r fits mode.ByValue j c = cell_given j (Declared d.0) (Procedure ty) (Procedure r) fits c
+  formal_value_fine d line ty r fits mode.ByReference j c = cell_given j (Declared d.0) (Procedure ty) (Procedure r) fits c
+  formal_value_fine d line ty r fits mode.ByName j c = (Procedure ty, Value (Procedure r), (Procedure r, fits, refl), refl, at_cell c)
+
+  called_fine : (d : DeclNo) (f : Mode) (ty : Option SimType) (line : ℕ) (es : Expressions) (h : Option Holds) → declared_holds s (block_of s d) d ≡ formal_holds s f shape.Procedure ty → CheckedGives s (Sees s from d) ty (ParametersAre s from es) h → Fine (in_instance (home_of s m i d) (λ j. CheckedOf (closing.formal_value line d f j) (has_type ty) i es line)) (held_kinds h)
+  called_fine d f ty line es h e a =
+      cell_seen d (procedure_cell f ty) (λ j. CheckedOf (closing.formal_value line d f j) (has_type ty) i es line) (held_kinds h) (e ∙ procedure_holds f ty) a.1
+      (λ j c. (ty, h, a.0, refl, refl, refl, formal_value_fine d line ty ty (itself_fits s ok ty) f j c, from, at, a.2))
+
+  formal_called : (d : DeclNo) (f : Mode) (ty : Option SimType) (line : ℕ) (es : Expressions) (ts : Terms) (h : Option Holds) → declared_holds s (block_of s d) d ≡ formal_holds s f shape.Procedure ty → CheckedGives s (Sees s from d) ty (ParametersAre s from es) h → Fine (formal_term s m i line d f shape.Procedure (has_type ty) es ts) (held_kinds h)
+  formal_called d mode.ByValue ty line es ts h e a = called_fine d mode.ByValue ty line es h e a
+  formal_called d mode.ByReference ty line es ts h e a = called_fine d mode.ByReference ty line es h e a
+  formal_called d mode.ByName ty line es ts h e a = called_fine d mode.ByName ty line es h e a
+
+  formal_fine : (d : DeclNo) (f : Mode) (g : FormalKind) (ty : Option SimType) (line : ℕ) (es : Expressions) (ts : Terms) (Indices Checked : Type 0) (h : Holds) → declared_holds s (block_of s d) d ≡ formal_holds s f g ty → type_of_formal (entry_of s.tables d) ≡ ty → (Indices → IntegersFine s m i t todo ts) → (Checked → ParametersAre s from es) → HeldNames s (Sees s from d) es Indices Checked (formal_means s g ty) h → Fine (formal_term s m i line d f g (has_type ty) es ts) (Some (Value h))
+  formal_fine d mode.ByName shape.Simple (Some ty) line es ts Indices Checked h e is go checked a = value_used d ty line es h e is (names_variable s (Sees s from d) es Indices Checked (held_by s ty) h (held_plain s ty) a)
+  formal_fine d mode.ByValue shape.Simple (Some ty) line es ts Indices Checked h e is go checked a = variable_fine d es (held_by s ty) h e (names_variable s (Sees s from d) es Indices Checked (held_by s ty) h (held_plain s ty) a)
+  formal_fine d mode.ByReference shape.Simple (Some ty) line es ts Indices Checked h e is go checked a = variable_fine d es (held_by s ty) h e (names_variable s (Sees s from d) es Indices Checked (held_by s ty) h (held_plain s ty) a)
+  formal_fine d mode.ByValue shape.Array (Some ty) line es ts Indices Checked h e is go checked a = array_fine d line es ts Indices (held_by s ty) h e go a
+  formal_fine d mode.ByReference shape.Array (Some ty) line es ts Indices Checked h e is go checked a = array_fine d line es ts Indices (held_by s ty) h e go a
+  formal_fine d mode.ByName shape.Array (Some ty) line es ts Indices Checked h e is go checked a = array_used d line es ts Indices (held_by s ty) h e go a
+  formal_fine d f shape.Procedure ty line es ts Indices Checked h e is go checked a = formal_called d f ty line es ts (Some h) e (a.0, a.1, checked a.2)
+  formal_fine d f shape.Simple None line es ts Indices Checked h e is go checked a = absurd a
+  formal_fine d f shape.Array None line es ts Indices Checked h e is go checked a = absurd a
 
   constant_fine : (d : DeclNo) (es : Expressions) (h : Holds) → ConstantNames s (Sees s from d) d es h → Fine (constant_term (constant_of s d) es) (Some (Value h))
   constant_fine d NoMore h a = subst (λ z. Fine (constant_term z NoMore) (Some (Value h))) (sym a.1) (h, refl, subst (λ z. PlainFine s m z a.0) a.2 (value_fine s m (constant_of s d) a.0 (constant_no_reference s d) a.1))
@@ -152,14 +210,37 @@ module _ (s : Source) (ok : Typed s) (o : AllArrays) (m : Instances) (store : St
   virtual_fixed : (d : DeclNo) (result : Option SimType) (own : Option DeclNo) → entry_of s.tables d ≡ Some (entry.Virtual result own) → IsFixed (entry_of s.tables d) → ⊥
   virtual_fixed d result own e a = subst IsFixed e a
 
-  -- a virtual of the object around
-  virtual_fine : (d : DeclNo) (result : Option SimType) (own : Option DeclNo) (line n : ℕ) (h : Option Holds) → entry_of s.tables d ≡ Some (entry.Virtual result own) → VirtualGives s (Sees s from d) result h → Fine (in_instance (home_of s m i d) (λ j. VirtualOf (Given (Object j)) d.0 n line)) (held_kinds h)
-  virtual_fine d result own line n h e a =
-      let x = reach d a.1 in
+  -- what matches a virtual of the object around, and its call
+  match_fine : (d : DeclNo) (result wanted : Option SimType) (own : Option DeclNo) (line : ℕ) → entry_of s.tables d ≡ Some (entry.Virtual result own) → ResultFits s (given_by s result) (given_by s wanted) → (x : Reached s m i d) → Fine (MatchOf (Given (Object x.instance)) d.0 line) (Some (Value (Procedure wanted)))
+  match_fine d result wanted own line e fits x =
       let class = ok.virtuals d result own e in
       let u = block_of s d in
-      found_in (home_of s m i d) x.instance (λ j. VirtualOf (Given (Object j)) d.0 n line) (held_kinds h) x.found
-      (u, h, virtual_in s ok d u result own h e (class_itself s ok u class) a.0, refl, (Refers u, refl, object_at u x.instance (class_has s ok u class) (whole_of s m i d x (virtual_fixed d result own e))))
+      (u, wanted, virtual_in s ok d u result wanted own e (class_itself s ok u class) fits, refl, (Refers u, refl, object_at u x.instance (class_has s ok u class) (whole_of s m i d x (virtual_fixed d result own e))))
+
+  virtual_fine : (d : DeclNo) (result : Option SimType) (own : Option DeclNo) (line : ℕ) (es : Expressions) (h : Option Holds) → entry_of s.tables d ≡ Some (entry.Virtual result own) → CheckedGives s (Sees s from d) result (ParametersAre s from es) h → Fine (in_instance (home_of s m i d) (λ j. CheckedOf (MatchOf (Given (Object j)) d.0 line) (has_type result) i es line)) (held_kinds h)
+  virtual_fine d result own line es h e a =
+      let x = reach d a.1 in
+      found_in (home_of s m i d) x.instance (λ j. CheckedOf (MatchOf (Given (Object j)) d.0 line) (has_type result) i es line) (held_kinds h) x.found
+      (result, h, a.0, refl, refl, refl, match_fine d result result own line e (itself_fits s ok result) x, from, at, a.2)
+
+  -- ---- procedures that stand alone
+
+  declared_alone : (line : ℕ) (d : DeclNo) (e : Option Entry) (wanted : Option SimType) → entry_of s.tables d ≡ e → ProcedureDeclared s (Sees s from d) e wanted → Fine (closing.declared_procedure s m i line d e) (Some (Value (Procedure wanted)))
+  declared_alone line d (Some (entry.Procedure result k)) wanted e a =
+      let x = reach d a.1 in
+      found_in (home_of s m i d) x.instance (λ j. ProcedureOf j k) (Some (Value (Procedure wanted))) x.found
+      (block_of s d, x.near, whole_of s m i d x (not_fixed d result k e), procedure_in s ok d result k e, (wanted, subst (λ z. ResultFits s z (given_by s wanted)) (sym (holds_result s ok d result k e)) a.0, refl))
+  declared_alone line d (Some (entry.Virtual result own)) wanted e a =
+      let x = reach d a.1 in
+      found_in (home_of s m i d) x.instance (λ j. MatchOf (Given (Object j)) d.0 line) (Some (Value (Procedure wanted))) x.found (match_fine d result wanted own line e a.0 x)
+  declared_alone line d (Some (entry.Formal f)) wanted e a = by_kind f.mode f.kind f.ty (ap (entry_holds s (has_levels (text s (block_of s d)))) e) a
+    where
+      by_kind : (f : Mode) (g : FormalKind) (ty : Option SimType) → declared_holds s (block_of s d) d ≡ formal_holds s f g ty → FormalStands s (Sees s from d) g ty wanted → Fine (closing.formal_procedure s m i line d f g) (Some (Value (Procedure wanted)))
+      by_kind f shape.Procedure ty h a = cell_seen d (procedure_cell f ty) (λ j. closing.formal_value line d f j) (Some (Value (Procedure wanted))) (h ∙ procedure_holds f ty) a.1 (λ j c. formal_value_fine d line ty wanted a.0 f j c)
+      by_kind f shape.Simple ty h a = absurd a
+      by_kind f shape.Array ty h a = absurd a
+  declared_alone line d None wanted e a = absurd a
+  declared_alone line d (Some _) wanted e a = absurd a
 
   -- a name of texts behind its text
   of_text_fine : (line : ℕ) (ts : Terms) (Operands : List Kind → Type 0) → ((ks : List Kind) → Operands ks → OperandsFine s m i t todo ts (value_kinds ks)) → (n : Standard) (first : Term) (x : Kinds) (h : Option Holds) → Fine first (Some x) → OperandIs kind.Text x → OfText n Operands h → Fine (StandardOf n (Further first ts) line) (held_kinds h)
@@ -191,9 +272,9 @@ module _ (s : Source) (ok : Typed s) (o : AllArrays) (m : Instances) (store : St
   connected_around (In t) k d a = a.around
   connected_around (InBound t) k d a = record { next = a.around; stands_in = a.stands_in; around = (a.seen).around }
 
-  connected_by : (from : Place) (k : ℕ) (d : DeclNo) → SeesConnected s from k d → (u : ℕ) × (is_connection (text s k) ≡ true) × (base s.tables k ≡ Some u) × (has_level s.tables u (block_of s d) ≡ true)
-  connected_by (In t) k d a = (a.class, a.is, a.connects, a.level)
-  connected_by (InBound t) k d a = let b = a.seen in (b.class, b.is, b.connects, b.level)
+  connected_by : (from : Place) (k : ℕ) (d : DeclNo) → SeesConnected s from k d → (u : ℕ) × (is_connection (text s k) ≡ true) × (base s.tables k ≡ Some u) × (is_class (text s u) ≡ true) × (has_level s.tables u (block_of s d) ≡ true)
+  connected_by (In t) k d a = (a.class, a.is, a.connects, a.is_class, a.level)
+  connected_by (InBound t) k d a = let b = a.seen in (b.class, b.is, b.connects, b.is_class, b.level)
 
   connected_levels : (from : Place) (k : ℕ) (d : DeclNo) → SeesConnected s from k d → has_levels (text s (block_of s d)) ≡ true
   connected_levels (In t) k d a = level_has_levels s ok (class_has s ok a.class a.is_class) (level_is s a.class (block_of s d) a.level)
@@ -208,14 +289,14 @@ module _ (s : Source) (ok : Typed s) (o : AllArrays) (m : Instances) (store : St
       by_name (Some named) is =
           let x = named_entry s d named (entry_of s.tables d) (SeesConnected s from k d) ys Indices h is a in
           let b = connected_by from k d x.known in
-          absurd (not_named s ok d b.0 b.3 (kind_of_type x.type) (x.holds true) (connected_levels from k d x.known))
+          absurd (not_named s ok d b.0 b.4 (Simply (kind_of_type x.type)) (x.holds true) (connected_levels from k d x.known))
 
   -- the object through which an attribute is seen
-  object_seen : (k : ℕ) (d : DeclNo) → SeesConnected s from k d → (c : ℕ) × (has_level s.tables c (block_of s d) ≡ true) × Fine (connected_object s m i k) (Some (Value (Refers c)))
+  object_seen : (k : ℕ) (d : DeclNo) → SeesConnected s from k d → (c : ℕ) × (is_class (text s c) ≡ true) × (has_level s.tables c (block_of s d) ≡ true) × Fine (connected_object s m i k) (Some (Value (Refers c)))
   object_seen k d a =
       let b = connected_by from k d a in
-      let itself : has_level s.tables b.0 b.0 ≡ true = level_self s b.0 (block_of s d) b.3 in
-      (b.0, b.3, connected_fine k (Refers b.0) b.1 (connected_around from k d a) (subst (λ z. Fits s (reference_to z) (Refers b.0)) (sym b.2) itself))
+      let itself : has_level s.tables b.0 b.0 ≡ true = level_self s b.0 (block_of s d) b.4 in
+      (b.0, b.3, b.4, connected_fine k (Refers b.0) b.1 (connected_around from k d a) (subst (λ z. Fits s (reference_to z) (Refers b.0)) (sym b.2) itself))
 
   -- the simulation block around, by the level that has the procedure
   block_known : (token : ℕ) (d : DeclNo) → SimulationKnown s from token d → (j : ℕ) × (block_found s m i (found_at s token) ≡ Some j) × BlockIn s m i j (block_of s d)
@@ -248,18 +329,24 @@ module _ (s : Source) (ok : Typed s) (o : AllArrays) (m : Instances) (store : St
 
   -- ---- identifiers
 
-  module _ (line : ℕ) (es : Expressions) (ts : Terms) (acts : List Formal → Terms) (Indices : Type 0) (Operands : List Kind → Type 0) (Actuals : List Formal → Type 0) (ints : Indices → IntegersFine s m i t todo ts) (ops : (ks : List Kind) → Operands ks → OperandsFine s m i t todo ts (value_kinds ks)) (go : (fs : List Formal) → Actuals fs → TermsFine s m i t todo (acts fs) (formal_kinds s fs)) where
+  module _ (line : ℕ) (es : Expressions) (ts : Terms) (acts : List Formal → Terms) (Indices Checked : Type 0) (Operands : List Kind → Type 0) (Actuals : List Formal → Type 0) (ints : Indices → IntegersFine s m i t todo ts) (checked : Checked → ParametersAre s from es) (ops : (ks : List Kind) → Operands ks → OperandsFine s m i t todo ts (value_kinds ks)) (go : (fs : List Formal) → Actuals fs → TermsFine s m i t todo (acts fs) (formal_kinds s fs)) where
     held_in : (d : DeclNo) (e : Entry) (h : Holds) → entry_of s.tables d ≡ Some e → ((c : Bool) → entry_holds s c (Some e) ≡ Some h) → declared_holds s (block_of s d) d ≡ Some h
     held_in d e h is f = ap (entry_holds s (has_levels (text s (block_of s d)))) is ∙ f (has_levels (text s (block_of s d)))
 
-    declared_fine : (d : DeclNo) (e : Option Entry) (h : Option Holds) → entry_of s.tables d ≡ e → is_standard_attribute e ≡ false → DeclaredGives s (Sees s from d) d es Indices Actuals e h → Fine (declared_term s m i line d e es ts acts) (held_kinds h)
+    formal_none : (d : DeclNo) (f : Mode) (g : FormalKind) (ty : Option SimType) → declared_holds s (block_of s d) d ≡ formal_holds s f g ty → FormalCalled s (Sees s from d) g ty Checked → Fine (formal_term s m i line d f g (has_type ty) es ts) None
+    formal_none d f shape.Procedure ty e a = formal_called d f ty line es ts None e (a.0, a.1, checked a.2)
+    formal_none d f shape.Simple ty e a = absurd a
+    formal_none d f shape.Array ty e a = absurd a
+
+    declared_fine : (d : DeclNo) (e : Option Entry) (h : Option Holds) → entry_of s.tables d ≡ e → is_standard_attribute e ≡ false → DeclaredGives s (Sees s from d) d es Indices Checked Actuals e h → Fine (declared_term s m i line d e es ts acts) (held_kinds h)
     declared_fine d (Some (entry.Procedure result k)) h e free a = call_fine d result k line Actuals acts h e go a
     declared_fine d (Some (entry.Attribute n parameter result)) h e free a = absurd (cc)
-    declared_fine d (Some (entry.Virtual result own)) h e free a = virtual_fine d result own line (count_of es) h e a
+    declared_fine d (Some (entry.Virtual result own)) h e free a = virtual_fine d result own line es h e (a.0, a.1, checked a.2)
     declared_fine d (Some (entry.Constant ty)) (Some h) e free a = constant_fine d es h a
-    declared_fine d (Some (entry.Variable ty)) (Some h) e free a = variable_fine d es (held_by s ty) h (held_in d (entry.Variable ty) (held_by s ty) e (λ c. refl)) (names_variable s (Sees s from d) es Indices (held_by s ty) h (held_plain s ty) a)
+    declared_fine d (Some (entry.Variable ty)) (Some h) e free a = variable_fine d es (held_by s ty) h (held_in d (entry.Variable ty) (held_by s ty) e (λ c. refl)) (names_variable s (Sees s from d) es Indices Checked (held_by s ty) h (held_plain s ty) a)
     declared_fine d (Some (entry.Array ty n)) (Some h) e free a = array_fine d line es ts Indices (held_by s ty) h (held_in d (entry.Array ty n) (ArrayOf (held_by s ty)) e (λ c. refl)) ints a
-    declared_fine d (Some (entry.Formal f)) (Some h) e free a = formal_fine d f.mode f.kind f.ty line es ts Indices h (ap (entry_holds s (has_levels (text s (block_of s d)))) e) (ap type_of_formal e) ints a
+    declared_fine d (Some (entry.Formal f)) (Some h) e free a = formal_fine d f.mode f.kind f.ty line es ts Indices Checked h (ap (entry_holds s (has_levels (text s (block_of s d)))) e) (ap type_of_formal e) ints checked a
+    declared_fine d (Some (entry.Formal f)) None e free a = formal_none d f.mode f.kind f.ty (ap (entry_holds s (has_levels (text s (block_of s d)))) e) a
     declared_fine d None h e free a = absurd a
     declared_fine d (Some _) None e free a = absurd a
     declared_fine d (Some _) (Some h) e free a = absurd a
@@ -269,21 +356,21 @@ module _ (s : Source) (ok : Typed s) (o : AllArrays) (m : Instances) (store : St
     standard_fine (Some n) image h is a = name_fine line ts Operands ops (is_image n) (on_image n) n image h is a
 
     -- an attribute of an object that a tree gives
-    attribute_of : (object : Term) (c : ℕ) (Known : Type 0) (d : DeclNo) (h : Option Holds) → has_level s.tables c (block_of s d) ≡ true → Fine object (Some (Value (Refers c))) → DeclaredGives s Known d es Indices Actuals (entry_of s.tables d) h → Fine (attribute s line object es ts (λ d. acts (closing.formals_at s d)) d) (held_kinds h)
-    attribute_of object c Known d h level fine a =
-        entry_fine s ok d c level m i t todo line object fine Known es ts (acts (closing.formals_at s d)) Indices Actuals (entry_of s.tables d) h refl ints
+    attribute_of : (object : Term) (c : ℕ) (Known : Type 0) (d : DeclNo) (h : Option Holds) → is_class (text s c) ≡ true → has_level s.tables c (block_of s d) ≡ true → Fine object (Some (Value (Refers c))) → DeclaredGives s Known d es Indices Checked Actuals (entry_of s.tables d) h → Fine (attribute s i line object es ts (λ d. acts (closing.formals_at s d)) d) (held_kinds h)
+    attribute_of object c Known d h class level fine a =
+        entry_fine s ok d c level m i t todo line object fine class Known es ts (acts (closing.formals_at s d)) Indices Checked Actuals (entry_of s.tables d) h refl ints (λ y. (from, at, checked y))
         (λ result k e actuals. subst (λ fs. TermsFine s m i t todo (acts fs) (formal_kinds s (formals_of s k))) (sym (formals_same s d result k e)) (go (formals_of s k) actuals))
         (λ n parameter result e actuals. subst (λ fs. TermsFine s m i t todo (acts fs) (formal_kinds s (attribute_formals parameter))) (sym (ap (closing.formals_declared s d) e)) (go (attribute_formals parameter) actuals)) a
 
     -- the tree of an identifier: one of the object or of the simulation block around
     abbrev around_term : (token : ℕ) → DeclNo → Term
-    around_term token d = attribute s line (this_term s m i (found_at s token)) es ts (λ d. acts (closing.formals_at s d)) d
+    around_term token d = attribute s i line (this_term s m i (found_at s token)) es ts (λ d. acts (closing.formals_at s d)) d
 
     abbrev own_tree : (token : ℕ) → DeclNo → Option Entry → Term
     own_tree token d e = own_term s e (block_found s m i (found_at s token)) (acts (closing.formals_at s d)) line (around_term token d)
 
     abbrev identifier_term : (token : ℕ) → Option ℕ → Option DeclNo → Option Denotation → Term
-    identifier_term token c own x = if_any c (λ k. if_any (declared_attribute x) (attribute s line (connected_object s m i k) es ts (λ d. acts (closing.formals_at s d))) Unbuilt) (if_any own (λ d. own_tree token d (entry_of s.tables d)) (named_term s m i line x es ts acts))
+    identifier_term token c own x = if_any c (λ k. if_any (declared_attribute x) (attribute s i line (connected_object s m i k) es ts (λ d. acts (closing.formals_at s d))) Unbuilt) (if_any own (λ d. own_tree token d (entry_of s.tables d)) (named_term s m i line x es ts acts))
 
     free_entry : (d : DeclNo) → attribute_denoted s (Some (denotation.Declared d)) ≡ None → is_standard_attribute (entry_of s.tables d) ≡ false
     free_entry d e = by_flag (is_standard_attribute (entry_of s.tables d)) refl e
@@ -293,21 +380,21 @@ module _ (s : Source) (ok : Typed s) (o : AllArrays) (m : Instances) (store : St
         by_flag true is f = absurd (cc)
 
     -- no procedure of SIMSET that is seen without a dot
-    named_fine : (token : ℕ) (x : Option Denotation) (h : Option Holds) → attribute_denoted s x ≡ None → NamedGives s from None x es Indices Operands Actuals h → Fine (identifier_term token None None x) (held_kinds h)
+    named_fine : (token : ℕ) (x : Option Denotation) (h : Option Holds) → attribute_denoted s x ≡ None → NamedGives s from None x es Indices Checked Operands Actuals h → Fine (identifier_term token None None x) (held_kinds h)
     named_fine token (Some (denotation.Declared d)) h free a = declared_fine d (entry_of s.tables d) h refl (free_entry d free) a
     named_fine token (Some (denotation.Standard n)) h free a = standard_fine (procedure_named n) sysout h tt a
     named_fine token None h free a = absurd a
 
-    connected_name_fine : (token k : ℕ) (own : Option DeclNo) (x : Option Denotation) (h : Option Holds) → NamedGives s from (Some k) x es Indices Operands Actuals h → Fine (identifier_term token (Some k) own x) (held_kinds h)
-    connected_name_fine token k own (Some (denotation.Declared d)) h a = let b = object_seen k d (known_of s (SeesConnected s from k d) d es Indices Actuals (entry_of s.tables d) h a) in attribute_of (connected_object s m i k) b.0 (SeesConnected s from k d) d h b.1 b.2 a
+    connected_name_fine : (token k : ℕ) (own : Option DeclNo) (x : Option Denotation) (h : Option Holds) → NamedGives s from (Some k) x es Indices Checked Operands Actuals h → Fine (identifier_term token (Some k) own x) (held_kinds h)
+    connected_name_fine token k own (Some (denotation.Declared d)) h a = let b = object_seen k d (known_of s (SeesConnected s from k d) d es Indices Checked Actuals (entry_of s.tables d) h a) in attribute_of (connected_object s m i k) b.0 (SeesConnected s from k d) d h b.1 b.2 b.3 a
     connected_name_fine token k own None h a = absurd a
     connected_name_fine token k own (Some (denotation.Standard n)) h a = absurd a
 
     -- a procedure of SIMSET of the object around, or an attribute of a process
-    around_fine : (token : ℕ) (d : DeclNo) (h : Option Holds) → DeclaredGives s (OwnKnown s from token d) d es Indices Actuals (entry_of s.tables d) h → Fine (around_term token d) (held_kinds h)
+    around_fine : (token : ℕ) (d : DeclNo) (h : Option Holds) → DeclaredGives s (OwnKnown s from token d) d es Indices Checked Actuals (entry_of s.tables d) h → Fine (around_term token d) (held_kinds h)
     around_fine token d h a =
-        let known = known_of s (OwnKnown s from token d) d es Indices Actuals (entry_of s.tables d) h a in
-        attribute_of (this_term s m i (found_at s token)) known.0 (OwnKnown s from token d) d h known.2 (this_found (found_at s token) (Refers known.0) known.3) a
+        let known = known_of s (OwnKnown s from token d) d es Indices Checked Actuals (entry_of s.tables d) h a in
+        attribute_of (this_term s m i (found_at s token)) known.0 (OwnKnown s from token d) d h known.1 known.2 (this_found (found_at s token) (Refers known.0) known.3) a
 
     -- a procedure of the simulation block around
     simulation_fine : (token : ℕ) (d : DeclNo) (n : Standard) (parameter result : Option SimType) (h : Option Holds) → entry_of s.tables d ≡ Some (entry.Attribute n parameter result) → is_simulation_name n ≡ true → SimulationGives s (SimulationKnown s from token d) parameter result Actuals h → Fine (simulation_term s true n (block_found s m i (found_at s token)) (acts (closing.formals_at s d)) line (around_term token d)) (held_kinds h)
@@ -322,16 +409,16 @@ module _ (s : Source) (ok : Typed s) (o : AllArrays) (m : Instances) (store : St
           subst (λ fs. TermsFine s m i t todo (acts fs) (formal_kinds s (attribute_formals parameter))) (sym (ap (closing.formals_declared s d) e)) (go (attribute_formals parameter) a.2),
         )
 
-    own_fine : (token : ℕ) (d : DeclNo) (h : Option Holds) (e : Option Entry) → entry_of s.tables d ≡ e → is_standard_attribute e ≡ true → OwnGives s from token d Actuals e h (DeclaredGives s (OwnKnown s from token d) d es Indices Actuals (entry_of s.tables d) h) → Fine (own_tree token d e) (held_kinds h)
+    own_fine : (token : ℕ) (d : DeclNo) (h : Option Holds) (e : Option Entry) → entry_of s.tables d ≡ e → is_standard_attribute e ≡ true → OwnGives s from token d Actuals e h (DeclaredGives s (OwnKnown s from token d) d es Indices Checked Actuals (entry_of s.tables d) h) → Fine (own_tree token d e) (held_kinds h)
     own_fine token d h (Some (entry.Attribute n parameter result)) e is a = by_name (is_simulation_name n) refl a
       where
-        by_name : (b : Bool) → is_simulation_name n ≡ b → OwnNameGives b (SimulationGives s (SimulationKnown s from token d) parameter result Actuals h) (DeclaredGives s (OwnKnown s from token d) d es Indices Actuals (entry_of s.tables d) h) → Fine (simulation_term s b n (block_found s m i (found_at s token)) (acts (closing.formals_at s d)) line (around_term token d)) (held_kinds h)
+        by_name : (b : Bool) → is_simulation_name n ≡ b → OwnNameGives b (SimulationGives s (SimulationKnown s from token d) parameter result Actuals h) (DeclaredGives s (OwnKnown s from token d) d es Indices Checked Actuals (entry_of s.tables d) h) → Fine (simulation_term s b n (block_found s m i (found_at s token)) (acts (closing.formals_at s d)) line (around_term token d)) (held_kinds h)
         by_name true named a = simulation_fine token d n parameter result h e named a
         by_name false named a = around_fine token d h a
     own_fine token d h None e is a = absurd (cc)
     own_fine token d h (Some _) e is a = absurd (cc)
 
-    identifier_fine : (token : ℕ) (c : Option ℕ) (own : Option DeclNo) (h : Option Holds) → own_attribute s token ≡ own → IdentifierGives s from token c own es Indices Operands Actuals h → Fine (identifier_term token c own (denoted s token)) (held_kinds h)
+    identifier_fine : (token : ℕ) (c : Option ℕ) (own : Option DeclNo) (h : Option Holds) → own_attribute s token ≡ own → IdentifierGives s from token c own es Indices Checked Operands Actuals h → Fine (identifier_term token c own (denoted s token)) (held_kinds h)
     identifier_fine token None None h e a = named_fine token (denoted s token) h (not_own s token e) a
     identifier_fine token (Some k) own h e a = connected_name_fine token k own (denoted s token) h a
     identifier_fine token None (Some d) h e a = own_fine token d h (entry_of s.tables d) refl (own_is_attribute s token d e) a
@@ -348,14 +435,22 @@ module _ (s : Source) (ok : Typed s) (o : AllArrays) (m : Instances) (store : St
     element_lies d NoMore k h e a = absurd a
     element_lies d (Then y ys) k h e a = cell_seen d (ArrayOf k) (λ j. ElementOf line (Cell j (Declared d.0)) ts) (Some (AddressOf h)) e a.1 (λ j c. (k, ap (λ z. Some (AddressOf z)) a.0, array_given j (Declared d.0) k (ArrayOf k) refl c, ints a.2))
 
-    -- what is no parameter by name
-    formal_lies : (d : DeclNo) (f : Mode) (g : FormalKind) (ty : Option SimType) (ys : Expressions) (h : Holds) → declared_holds s (block_of s d) d ≡ formal_holds s f g ty → named_formal f g d ≡ None → LeftHeld (Sees s from d) ys Indices (formal_names s f g ty) h → Fine (formal_place s m i line d f g ys ts) (Some (AddressOf h))
+    array_lies : (d : DeclNo) (ys : Expressions) (k h : Holds) → declared_holds s (block_of s d) d ≡ Some (ByName (ArrayOf k)) → LeftHeld (Sees s from d) ys Indices (Some (ArrayOf k)) h → Fine (closing.named_array_place s m i line d ys ts) (Some (AddressOf h))
+    array_lies d NoMore k h e a = absurd a
+    array_lies d (Then y ys) k h e a = cell_seen d (ByName (ArrayOf k)) (λ j. ElementOf line (NamedOf j (Declared d.0) (ForValue None line)) ts) (Some (AddressOf h)) e a.1 (λ j c. (k, ap (λ z. Some (AddressOf z)) a.0, named_array d line k j c, ints a.2))
+
+    -- what is no simple parameter by name
+    formal_lies : (d : DeclNo) (f : Mode) (g : FormalKind) (ty : Option SimType) (ys : Expressions) (h : Holds) → declared_holds s (block_of s d) d ≡ formal_holds s f g ty → named_formal f g d ≡ None → LeftHeld (Sees s from d) ys Indices (formal_means s g ty) h → Fine (formal_place s m i line d f g ys ts) (Some (AddressOf h))
     formal_lies d mode.ByName shape.Simple ty ys h e other a = absurd (cc)
     formal_lies d mode.ByValue shape.Simple (Some ty) ys h e other a = variable_lies d ys (held_by s ty) h (held_plain s ty) e a
     formal_lies d mode.ByReference shape.Simple (Some ty) ys h e other a = variable_lies d ys (held_by s ty) h (held_plain s ty) e a
     formal_lies d mode.ByValue shape.Array (Some ty) ys h e other a = element_lies d ys (held_by s ty) h e a
     formal_lies d mode.ByReference shape.Array (Some ty) ys h e other a = element_lies d ys (held_by s ty) h e a
-    formal_lies d _ _ _ ys h e other a = absurd (nothing_left (Sees s from d) ys Indices h a)
+    formal_lies d mode.ByName shape.Array (Some ty) ys h e other a = array_lies d ys (held_by s ty) h e a
+    formal_lies d f shape.Procedure ty ys h e other a = absurd (no_procedure_left (Sees s from d) ys Indices ty h a)
+    formal_lies d mode.ByValue shape.Simple None ys h e other a = absurd (nothing_left (Sees s from d) ys Indices h a)
+    formal_lies d mode.ByReference shape.Simple None ys h e other a = absurd (nothing_left (Sees s from d) ys Indices h a)
+    formal_lies d f shape.Array None ys h e other a = absurd (nothing_left (Sees s from d) ys Indices h a)
 
     declared_lies : (d : DeclNo) (e : Option Entry) (h : Holds) → entry_of s.tables d ≡ e → formal_by_name d e ≡ None → LeftHeld (Sees s from d) es Indices (entry_names s e) h → Fine (declared_place s m i line d e es ts) (Some (AddressOf h))
     declared_lies d (Some (entry.Variable ty)) h e other a = variable_lies d es (held_by s ty) h (held_plain s ty) (held_in d (entry.Variable ty) (held_by s ty) e (λ c. refl)) a
@@ -372,7 +467,7 @@ module _ (s : Source) (ok : Typed s) (o : AllArrays) (m : Instances) (store : St
     lies_at None d h other a = declared_lies d (entry_of s.tables d) h refl other a
     lies_at (Some k) d h other a =
         let b = object_seen k d (left_known s (SeesConnected s from k d) d es Indices (entry_names s (entry_of s.tables d)) h a) in
-        entry_lies s ok d b.0 b.1 m i t todo line (connected_object s m i k) b.2 (SeesConnected s from k d) es ts Indices (entry_of s.tables d) h refl ints a
+        entry_lies s ok d b.0 b.2 m i t todo line (connected_object s m i k) b.3 (SeesConnected s from k d) es ts Indices (entry_of s.tables d) h refl ints a
 
     -- and where one by name alone does, or what it is for
     pub named_lies : (value_too : Bool) (d named : DeclNo) (at : ℕ) (h : Holds) → formal_by_name d (entry_of s.tables d) ≡ Some named → (x : NamedEntry s d named (entry_of s.tables d) (Sees s from d) es h) → Fine (closing.name_term s m i d NoMore (ForPlace value_too at)) (Some (Whichever value_too (kind_of_type x.type)))
@@ -394,10 +489,10 @@ module _ (s : Source) (ok : Typed s) (o : AllArrays) (m : Instances) (store : St
     named_place_lies d named h is x =
         subst (λ z. Fine z (Some (Whichever true (kind_of_type x.type)))) (sym (place_named d named (entry_of s.tables d) is ∙ ap (λ z. closing.name_term s m i d z (ForPlace true line)) x.alone)) (named_lies true d named line h is x)
 
-    variable_left : (Known : Type 0) (d : DeclNo) (e : Option Entry) → is_variable_entry e es ≡ true → DeclaredGives s Known d es Indices Actuals e (Some (Simply kind.Text)) → LeftHeld Known es Indices (entry_names s e) (Simply kind.Text)
-    variable_left Known d (Some (entry.Variable ty)) v a = text_left s Known d es Indices (Some (held_by s ty)) a
-    variable_left Known d (Some (entry.Array ty n)) v a = text_left s Known d es Indices (Some (ArrayOf (held_by s ty))) a
-    variable_left Known d (Some (entry.Formal f)) v a = text_left s Known d es Indices (formal_names s f.mode f.kind f.ty) a
+    variable_left : (Known : Type 0) (d : DeclNo) (e : Option Entry) → is_variable_entry e es ≡ true → DeclaredGives s Known d es Indices Checked Actuals e (Some (Simply kind.Text)) → LeftHeld Known es Indices (entry_names s e) (Simply kind.Text)
+    variable_left Known d (Some (entry.Variable ty)) v a = text_left s Known d es Indices Checked (Some (held_by s ty)) (plain_no_procedure (held_by s ty) (held_plain s ty)) a
+    variable_left Known d (Some (entry.Array ty n)) v a = text_left s Known d es Indices Checked (Some (ArrayOf (held_by s ty))) tt a
+    variable_left Known d (Some (entry.Formal f)) v a = text_left s Known d es Indices Checked (formal_means s f.kind f.ty) (formal_no_procedure s f.kind f.ty es v) a
     variable_left Known d None v a = absurd (cc)
     variable_left Known d (Some _) v a = absurd (cc)
 
@@ -408,7 +503,7 @@ module _ (s : Source) (ok : Typed s) (o : AllArrays) (m : Instances) (store : St
         let x = named_entry s d named (entry_of s.tables d) (Sees s from d) es Indices (Simply kind.Text) is a in
         (Whichever true (kind_of_type x.type), named_place_lies d named (Simply kind.Text) is x, (refl, held_of_kind s x.type kind.Text x.held))
 
-    named_text_lies : (c : Option ℕ) (x : Option Denotation) → is_variable_denoted s x es ≡ true → NamedGives s from c x es Indices Operands Actuals (Some (Simply kind.Text)) → (y : Kinds) × Fine (identifier_place c x) (Some y) × OperandIs kind.Text y
+    named_text_lies : (c : Option ℕ) (x : Option Denotation) → is_variable_denoted s x es ≡ true → NamedGives s from c x es Indices Checked Operands Actuals (Some (Simply kind.Text)) → (y : Kinds) × Fine (identifier_place c x) (Some y) × OperandIs kind.Text y
     named_text_lies None (Some (denotation.Declared d)) v a = seen_text_lies d (formal_by_name d (entry_of s.tables d)) refl (variable_left (Sees s from d) d (entry_of s.tables d) v a)
     named_text_lies (Some k) (Some (denotation.Declared d)) v a =
         let held = variable_left (SeesConnected s from k d) d (entry_of s.tables d) v a in
@@ -426,7 +521,7 @@ module _ (s : Source) (ok : Typed s) (o : AllArrays) (m : Instances) (store : St
     own_no_variable (Some (entry.Formal g)) f v = cc
     own_no_variable (Some _) f v = cc
 
-    text_lies : (token : ℕ) (c : Option ℕ) (own : Option DeclNo) → own_attribute s token ≡ own → is_variable_denoted s (denoted s token) es ≡ true → IdentifierGives s from token c own es Indices Operands Actuals (Some (Simply kind.Text)) → (y : Kinds) × Fine (identifier_place c (denoted s token)) (Some y) × OperandIs kind.Text y
+    text_lies : (token : ℕ) (c : Option ℕ) (own : Option DeclNo) → own_attribute s token ≡ own → is_variable_denoted s (denoted s token) es ≡ true → IdentifierGives s from token c own es Indices Checked Operands Actuals (Some (Simply kind.Text)) → (y : Kinds) × Fine (identifier_place c (denoted s token)) (Some y) × OperandIs kind.Text y
     text_lies token None None e v a = named_text_lies None (denoted s token) v a
     text_lies token (Some k) own e v a = named_text_lies (Some k) (denoted s token) v a
     text_lies token None (Some d) e v a = absurd (own_no_variable (entry_of s.tables d) (own_is_attribute s token d e) (ap (λ z. is_variable_denoted s z es) (sym (own_denoted s token d e)) ∙ v))
@@ -439,6 +534,7 @@ module _ (s : Source) (ok : Typed s) (o : AllArrays) (m : Instances) (store : St
   no_object (Simply k) e = (e, tt)
   no_object (Refers c) e = tt
   no_object (ArrayOf k) e = absurd e
+  no_object (Procedure r) e = absurd e
   no_object (ByName k) e = absurd e
 
   literal_fine : (token : ℕ) (x : Literal) (h : Holds) → LiteralIs s token x h → Fine (literal_term s token x) (Some (Value h))
@@ -475,20 +571,20 @@ module _ (s : Source) (ok : Typed s) (o : AllArrays) (m : Instances) (store : St
   stream_no_value found.Sysout Operands h a = absurd a
   stream_no_value _ Operands h a = absurd a
 
-  named_no_stream : (c : Option ℕ) (x : Option Denotation) (es : Expressions) (Indices : Type 0) (Operands : List Kind → Type 0) (Actuals : List Formal → Type 0) (h : Option Holds) → NamedGives s from c x es Indices Operands Actuals h → stream_denoted x ≡ None
-  named_no_stream None (Some (denotation.Standard n)) es Indices Operands Actuals h a = stream_no_value n Operands h a
-  named_no_stream (Some k) (Some (denotation.Standard n)) es Indices Operands Actuals h a = absurd a
-  named_no_stream c (Some (denotation.Declared d)) es Indices Operands Actuals h a = refl
-  named_no_stream c None es Indices Operands Actuals h a = refl
+  named_no_stream : (c : Option ℕ) (x : Option Denotation) (es : Expressions) (Indices Checked : Type 0) (Operands : List Kind → Type 0) (Actuals : List Formal → Type 0) (h : Option Holds) → NamedGives s from c x es Indices Checked Operands Actuals h → stream_denoted x ≡ None
+  named_no_stream None (Some (denotation.Standard n)) es Indices Checked Operands Actuals h a = stream_no_value n Operands h a
+  named_no_stream (Some k) (Some (denotation.Standard n)) es Indices Checked Operands Actuals h a = absurd a
+  named_no_stream c (Some (denotation.Declared d)) es Indices Checked Operands Actuals h a = refl
+  named_no_stream c None es Indices Checked Operands Actuals h a = refl
 
-  identifier_no_stream : (token : ℕ) (c : Option ℕ) (own : Option DeclNo) (es : Expressions) (Indices : Type 0) (Operands : List Kind → Type 0) (Actuals : List Formal → Type 0) (h : Option Holds) → own_attribute s token ≡ own → IdentifierGives s from token c own es Indices Operands Actuals h → stream_denoted (denoted s token) ≡ None
-  identifier_no_stream token None None es Indices Operands Actuals h e a = named_no_stream None (denoted s token) es Indices Operands Actuals h a
-  identifier_no_stream token (Some k) own es Indices Operands Actuals h e a = named_no_stream (Some k) (denoted s token) es Indices Operands Actuals h a
-  identifier_no_stream token None (Some d) es Indices Operands Actuals h e a = ap stream_denoted (own_denoted s token d e)
+  identifier_no_stream : (token : ℕ) (c : Option ℕ) (own : Option DeclNo) (es : Expressions) (Indices Checked : Type 0) (Operands : List Kind → Type 0) (Actuals : List Formal → Type 0) (h : Option Holds) → own_attribute s token ≡ own → IdentifierGives s from token c own es Indices Checked Operands Actuals h → stream_denoted (denoted s token) ≡ None
+  identifier_no_stream token None None es Indices Checked Operands Actuals h e a = named_no_stream None (denoted s token) es Indices Checked Operands Actuals h a
+  identifier_no_stream token (Some k) own es Indices Checked Operands Actuals h e a = named_no_stream (Some k) (denoted s token) es Indices Checked Operands Actuals h a
+  identifier_no_stream token None (Some d) es Indices Checked Operands Actuals h e a = ap stream_denoted (own_denoted s token d e)
 
   pub value_no_stream : (a : Expression) (h : Holds) → ExprIs s from a h → stream_of s a ≡ None
   unfolding stream_of
-  value_no_stream (syntax.Named name es) h x = identifier_no_stream name.token.0 (connection_at s name.token.0) (own_attribute s name.token.0) es (AreIntegers s from es) (λ ks. AreOf s from es ks) (λ fs. ActualsFit s from es fs) (Some h) refl x
+  value_no_stream (syntax.Named name es) h x = identifier_no_stream name.token.0 (connection_at s name.token.0) (own_attribute s name.token.0) es (AreIntegers s from es) (ParametersAre s from es) (λ ks. AreOf s from es ks) (λ fs. ActualsFit s from es fs) (Some h) refl x
   value_no_stream _ h x = refl
 
   image_place_fine : (stream : Option ℕ) (other : Term) (d : Option Denotation) → StreamIs stream → is_image_behind stream d ≡ true → (y : Kinds) × Fine (image_place stream other) (Some y) × OperandIs kind.Text y
@@ -510,15 +606,15 @@ module _ (s : Source) (ok : Typed s) (o : AllArrays) (m : Instances) (store : St
   -- behind a dot: a name of texts, or an attribute of an object
   abbrev dotted_term : (line : ℕ) → Expression → Expressions → Option Denotation → Term
   dotted_term line a es x =
-      if_any (declared_attribute x) (attribute s line (close s m i a) es (close_all s m i es) (λ d. close_actuals s m i line es (closing.formals_at s d)))
+      if_any (declared_attribute x) (attribute s i line (close s m i a) es (close_all s m i es) (λ d. close_actuals s m i line es (closing.formals_at s d)))
       (dot_term x (stream_of s a) (is_variable s a || is_attribute s a) line (close_place s m i a) (close s m i a) (close_all s m i es))
 
   dot_denoted : (line : ℕ) (a : Expression) (es : Expressions) (h : Option Holds) → ((h : Holds) → ExprIs s from a h → Fine (close s m i a) (Some (Value h))) → ((is_variable s a || is_attribute s a) ≡ true → ExprIs s from a (Simply kind.Text) → (y : Kinds) × Fine (close_place s m i a) (Some y) × OperandIs kind.Text y) → (AreIntegers s from es → IntegersFine s m i t todo (close_all s m i es)) → ((ks : List Kind) → AreOf s from es ks → OperandsFine s m i t todo (close_all s m i es) (value_kinds ks))
-      → ((fs : List Formal) → ActualsFit s from es fs → TermsFine s m i t todo (close_actuals s m i line es fs) (formal_kinds s fs)) → (x : Option Denotation) → DotGives s x (stream_of s a) (ExprIs s from a (Simply kind.Text)) (λ c. ExprIs s from a (Refers c)) es (AreIntegers s from es) (λ ks. AreOf s from es ks) (λ fs. ActualsFit s from es fs) h → Fine (dotted_term line a es x) (held_kinds h)
+      → ((fs : List Formal) → ActualsFit s from es fs → TermsFine s m i t todo (close_actuals s m i line es fs) (formal_kinds s fs)) → (x : Option Denotation) → DotGives s x (stream_of s a) (ExprIs s from a (Simply kind.Text)) (λ c. ExprIs s from a (Refers c)) es (AreIntegers s from es) (ParametersAre s from es) (λ ks. AreOf s from es ks) (λ fs. ActualsFit s from es fs) h → Fine (dotted_term line a es x) (held_kinds h)
   dot_denoted line a es h value place ints ops acts None x = absurd x
   dot_denoted line a es h value place ints ops acts (Some (denotation.Declared d)) x =
-      let known = known_of s (ObjectHas s (λ c. ExprIs s from a (Refers c)) d) d es (AreIntegers s from es) (λ fs. ActualsFit s from es fs) (entry_of s.tables d) h x in
-      attribute_of line es (close_all s m i es) (λ fs. close_actuals s m i line es fs) (AreIntegers s from es) (λ ks. AreOf s from es ks) (λ fs. ActualsFit s from es fs) ints ops acts (close s m i a) known.0 (ObjectHas s (λ c. ExprIs s from a (Refers c)) d) d h known.2 (value (Refers known.0) known.3) x
+      let known = known_of s (ObjectHas s (λ c. ExprIs s from a (Refers c)) d) d es (AreIntegers s from es) (ParametersAre s from es) (λ fs. ActualsFit s from es fs) (entry_of s.tables d) h x in
+      attribute_of line es (close_all s m i es) (λ fs. close_actuals s m i line es fs) (AreIntegers s from es) (ParametersAre s from es) (λ ks. AreOf s from es ks) (λ fs. ActualsFit s from es fs) ints (λ y. y) ops acts (close s m i a) known.0 (ObjectHas s (λ c. ExprIs s from a (Refers c)) d) d h known.1 known.2 (value (Refers known.0) known.3) x
   dot_denoted line a es h value place ints ops acts (Some (denotation.Standard n)) x = behind_fine line a es h (ExprIs s from a (Simply kind.Text)) (λ ks. AreOf s from es ks) (λ y. value (Simply kind.Text) y) place ops (stream_of s a) (procedure_named n) (stream_is a) x
 
   variable_named : (name : Identifier) (es : Expressions) → (is_variable s (syntax.Named name es) || is_attribute s (syntax.Named name es)) ≡ true → is_variable_denoted s (denoted s name.token.0) es ≡ true
@@ -527,12 +623,12 @@ module _ (s : Source) (ok : Typed s) (o : AllArrays) (m : Instances) (store : St
 
   -- where a text behind a dot lies: an image, or an attribute
   dot_lies : (line : ℕ) (a : Expression) (es : Expressions) (x : Option Denotation) → ((c : ℕ) → ExprIs s from a (Refers c) → Fine (close s m i a) (Some (Value (Refers c)))) → (AreIntegers s from es → IntegersFine s m i t todo (close_all s m i es)) → ((ks : List Kind) → AreOf s from es ks → OperandsFine s m i t todo (close_all s m i es) (value_kinds ks)) → ((fs : List Formal) → ActualsFit s from es fs → TermsFine s m i t todo (close_actuals s m i line es fs) (formal_kinds s fs)) → (is_image_behind (stream_of s a) x || is_attribute_denoted s x es) ≡ true
-      → DotGives s x (stream_of s a) (ExprIs s from a (Simply kind.Text)) (λ c. ExprIs s from a (Refers c)) es (AreIntegers s from es) (λ ks. AreOf s from es ks) (λ fs. ActualsFit s from es fs) (Some (Simply kind.Text)) → (y : Kinds) × Fine (image_place (stream_of s a) (if_any (declared_attribute x) (place_of_attribute s line (close s m i a) es (close_all s m i es)) Unbuilt)) (Some y) × OperandIs kind.Text y
+      → DotGives s x (stream_of s a) (ExprIs s from a (Simply kind.Text)) (λ c. ExprIs s from a (Refers c)) es (AreIntegers s from es) (ParametersAre s from es) (λ ks. AreOf s from es ks) (λ fs. ActualsFit s from es fs) (Some (Simply kind.Text)) → (y : Kinds) × Fine (image_place (stream_of s a) (if_any (declared_attribute x) (place_of_attribute s line (close s m i a) es (close_all s m i es)) Unbuilt)) (Some y) × OperandIs kind.Text y
   dot_lies line a es None value ints ops acts v x = absurd x
   dot_lies line a es (Some (denotation.Standard n)) value ints ops acts v x = image_place_fine (stream_of s a) Unbuilt (Some (denotation.Standard n)) (stream_is a) (or_first (is_image_behind (stream_of s a) (Some (denotation.Standard n))) false refl v)
   dot_lies line a es (Some (denotation.Declared d)) value ints ops acts v x =
-      let known = known_of s (ObjectHas s (λ c. ExprIs s from a (Refers c)) d) d es (AreIntegers s from es) (λ fs. ActualsFit s from es fs) (entry_of s.tables d) (Some (Simply kind.Text)) x in
-      let held = variable_left line es (close_all s m i es) (λ fs. close_actuals s m i line es fs) (AreIntegers s from es) (λ ks. AreOf s from es ks) (λ fs. ActualsFit s from es fs) ints ops acts (ObjectHas s (λ c. ExprIs s from a (Refers c)) d) d (entry_of s.tables d) (attribute_entry s (stream_of s a) d es v) x in (
+      let known = known_of s (ObjectHas s (λ c. ExprIs s from a (Refers c)) d) d es (AreIntegers s from es) (ParametersAre s from es) (λ fs. ActualsFit s from es fs) (entry_of s.tables d) (Some (Simply kind.Text)) x in
+      let held = variable_left line es (close_all s m i es) (λ fs. close_actuals s m i line es fs) (AreIntegers s from es) (ParametersAre s from es) (λ ks. AreOf s from es ks) (λ fs. ActualsFit s from es fs) ints (λ y. y) ops acts (ObjectHas s (λ c. ExprIs s from a (Refers c)) d) d (entry_of s.tables d) (attribute_entry s (stream_of s a) d es v) x in (
         AddressOf (Simply kind.Text),
         subst (λ z. Fine (image_place z (place_of_attribute s line (close s m i a) es (close_all s m i es) d)) (Some (AddressOf (Simply kind.Text)))) (sym (value_no_stream a (Refers known.0) known.3))
             (entry_lies s ok d known.0 known.2 m i t todo line (close s m i a) (value known.0 known.3) (ObjectHas s (λ c. ExprIs s from a (Refers c)) d) es (close_all s m i es) (AreIntegers s from es) (entry_of s.tables d) (Simply kind.Text) refl ints held),
@@ -567,25 +663,42 @@ module _ (s : Source) (ok : Typed s) (o : AllArrays) (m : Instances) (store : St
 
   -- `new`
   new_fine : (token line other : ℕ) (es : Expressions) (h : Holds) → ((fs : List Formal) → ActualsFit s from es fs → TermsFine s m i t todo (with_arrays_kept fs (close_actuals s m i line es fs)) (class_kinds s fs)) → NewIs s from token (λ fs. ActualsFit s from es fs) h
-      → Fine (generation (home_of_class s m i (denoted s token)) (class_made s (class_at s token)) (with_arrays_kept (class_parameters s (class_at s token)) (close_actuals s m i line es (class_parameters s (class_at s token)))) other) (Some (Value h))
+      → Fine (generation s token (home_of_class s m i (denoted s token)) (class_at s token) (with_arrays_kept (class_parameters s (class_at s token)) (close_actuals s m i line es (class_parameters s (class_at s token)))) other) (Some (Value h))
   new_fine token line other es h acts a =
       let n = a.0 in
-      let x = reach n.declaration n.seen in
-      let w = ok.classes n.declaration n.class n.declares in
-      let home : home_of_class s m i (denoted s token) ≡ Some x.instance = ap (home_of_class s m i) n.denotes ∙ x.found in
+      let home : home_of_class s m i (denoted s token) ≡ Some New.instance = ap (home_of_class s m i) n.denotes ∙ New.found in
       let class : class_at s token ≡ Some n.class = class_named s token n.declaration n.class n.denotes n.declares w.is in
-      subst (λ z. Fine (generation z (class_made s (class_at s token)) (with_arrays_kept (class_parameters s (class_at s token)) (close_actuals s m i line es (class_parameters s (class_at s token)))) other) (Some (Value h))) (sym home)
-      (subst (λ z. Fine (generation (Some x.instance) (class_made s z) (with_arrays_kept (class_parameters s z) (close_actuals s m i line es (class_parameters s z))) other) (Some (Value h))) (sym class)
-      (subst (λ z. Fine (generation (Some x.instance) (class_unless z n.class) (with_arrays_kept (class_parameters s (Some n.class)) (close_actuals s m i line es (class_parameters s (Some n.class)))) other) (Some (Value h))) (sym n.made) (record {
-        around = block_of s n.declaration;
-        near = x.near;
-        whole = whole_of s m i n.declaration x (class_fixed n.declaration n.class n.declares);
-        class = record { stands_in = w.around; is = w.is; single = n.single; made = n.made };
-        holds = h;
-        fits = a.1;
+      subst (λ z. Fine (generation s token z (class_at s token) (with_arrays_kept (class_parameters s (class_at s token)) (close_actuals s m i line es (class_parameters s (class_at s token)))) other) (Some (Value h))) (sym home)
+      (subst (λ z. Fine (generation s token (Some New.instance) z (with_arrays_kept (class_parameters s z) (close_actuals s m i line es (class_parameters s z))) other) (Some (Value h))) (sym class)
+      (by_process (is_process_itself s n.class) refl))
+    where
+      New : Reached s m i (a.0).declaration
+      New = reach (a.0).declaration (a.0).seen
+
+      w : ClassThere s (a.0).declaration (a.0).class
+      w = ok.classes (a.0).declaration (a.0).class (a.0).declares
+
+      solid : is_connection (text s (a.0).class) ≡ false
+      solid = class_solid (text s (a.0).class) w.is
+
+      Parts : Terms
+      Parts = with_arrays_kept (class_parameters s (Some (a.0).class)) (close_actuals s m i line es (class_parameters s (Some (a.0).class)))
+
+      made : (x : Kinds) → Makes s (a.0).class x → Fine (NewOf New.instance (a.0).class Parts other) (Some x)
+      made x is = record {
+        around = block_of s (a.0).declaration;
+        near = New.near;
+        whole = whole_of s m i (a.0).declaration New (class_fixed (a.0).declaration (a.0).class (a.0).declares);
+        class = record { stands_in = w.around; is = w.is; single = (a.0).single; process = (a.0).process };
+        kinds = x;
+        made = is;
         gives = refl;
-        actuals = acts (class_parameters s (Some n.class)) n.actuals;
-      })))
+        actuals = acts (class_parameters s (Some (a.0).class)) (a.0).actuals;
+      }
+
+      by_process : (b : Bool) → is_process_itself s (a.0).class ≡ b → Fine (origin_if b (a.0).class token other (NewOf New.instance (a.0).class Parts other)) (Some (Value h))
+      by_process false is = made (Value h) a.1
+      by_process true is = (h, record { process = itself_process s ok (a.0).class solid is; fits = a.1 }, refl, made (NewObject (a.0).class) (class_itself s ok (a.0).class w.is, w.is))
 
   -- ---- calls
 
@@ -594,17 +707,57 @@ module _ (s : Source) (ok : Typed s) (o : AllArrays) (m : Instances) (store : St
 
   abbrev named_other : Identifier → Expressions → Term
   named_other name es =
-      if_any (connection_at s name.token.0) (λ k. if_any (declared_attribute (denoted s name.token.0)) (attribute s (line_at s name.token.0) (connected_object s m i k) es (close_all s m i es) (λ d. close_actuals s m i (line_at s name.token.0) es (closing.formals_at s d))) Unbuilt)
-      (if_any (own_attribute s name.token.0) (λ d. own_term s (entry_of s.tables d) (block_found s m i (found_at s name.token.0)) (close_actuals s m i (line_at s name.token.0) es (closing.formals_at s d)) (line_at s name.token.0) (attribute s (line_at s name.token.0) (this_term s m i (found_at s name.token.0)) es (close_all s m i es) (λ d. close_actuals s m i (line_at s name.token.0) es (closing.formals_at s d)) d))
+      if_any (connection_at s name.token.0) (λ k. if_any (declared_attribute (denoted s name.token.0)) (attribute s i (line_at s name.token.0) (connected_object s m i k) es (close_all s m i es) (λ d. close_actuals s m i (line_at s name.token.0) es (closing.formals_at s d))) Unbuilt)
+      (if_any (own_attribute s name.token.0) (λ d. own_term s (entry_of s.tables d) (block_found s m i (found_at s name.token.0)) (close_actuals s m i (line_at s name.token.0) es (closing.formals_at s d)) (line_at s name.token.0) (attribute s i (line_at s name.token.0) (this_term s m i (found_at s name.token.0)) es (close_all s m i es) (λ d. close_actuals s m i (line_at s name.token.0) es (closing.formals_at s d)) d))
       (named_term s m i (line_at s name.token.0) (denoted s name.token.0) es (close_all s m i es) (λ fs. close_actuals s m i (line_at s name.token.0) es fs)))
 
-  named_keeps : (name : Identifier) (es : Expressions) (h : Option Holds) → IdentifierGives s from name.token.0 (connection_at s name.token.0) (own_attribute s name.token.0) es (AreIntegers s from es) (λ ks. AreOf s from es ks) (λ fs. ActualsFit s from es fs) h → transfer_at s name.token.0 ≡ None
-  named_keeps name es h x = identifier_transfers_not s from (connection_at s name.token.0) name.token.0 es (AreIntegers s from es) (λ ks. AreOf s from es ks) (λ fs. ActualsFit s from es fs) h x
+  named_keeps : (name : Identifier) (es : Expressions) (h : Option Holds) → IdentifierGives s from name.token.0 (connection_at s name.token.0) (own_attribute s name.token.0) es (AreIntegers s from es) (ParametersAre s from es) (λ ks. AreOf s from es ks) (λ fs. ActualsFit s from es fs) h → transfer_at s name.token.0 ≡ None
+  named_keeps name es h x = identifier_transfers_not s from (connection_at s name.token.0) name.token.0 es (AreIntegers s from es) (ParametersAre s from es) (λ ks. AreOf s from es ks) (λ fs. ActualsFit s from es fs) h x
 
-  dot_keeps : (a : Expression) (name : Identifier) (es : Expressions) (h : Option Holds) → DotGives s (denoted s name.token.0) (stream_of s a) (ExprIs s from a (Simply kind.Text)) (λ c. ExprIs s from a (Refers c)) es (AreIntegers s from es) (λ ks. AreOf s from es ks) (λ fs. ActualsFit s from es fs) h → transfer_at s name.token.0 ≡ None
-  dot_keeps a name es h x = dot_transfers_not s name.token.0 (stream_of s a) (ExprIs s from a (Simply kind.Text)) (λ c. ExprIs s from a (Refers c)) es (AreIntegers s from es) (λ ks. AreOf s from es ks) (λ fs. ActualsFit s from es fs) h x
+  dot_keeps : (a : Expression) (name : Identifier) (es : Expressions) (h : Option Holds) → DotGives s (denoted s name.token.0) (stream_of s a) (ExprIs s from a (Simply kind.Text)) (λ c. ExprIs s from a (Refers c)) es (AreIntegers s from es) (ParametersAre s from es) (λ ks. AreOf s from es ks) (λ fs. ActualsFit s from es fs) h → transfer_at s name.token.0 ≡ None
+  dot_keeps a name es h x = dot_transfers_not s name.token.0 (stream_of s a) (ExprIs s from a (Simply kind.Text)) (λ c. ExprIs s from a (Refers c)) es (AreIntegers s from es) (ParametersAre s from es) (λ ks. AreOf s from es ks) (λ fs. ActualsFit s from es fs) h x
+
+  -- a procedure that stands alone behind a dot, or is seen through a connection
+  attribute_alone : (line : ℕ) (object : Term) (d : DeclNo) (c : ℕ) (Known : Type 0) (wanted : Option SimType) → is_class (text s c) ≡ true → has_level s.tables c (block_of s d) ≡ true → Fine object (Some (Value (Refers c))) → ProcedureDeclared s Known (entry_of s.tables d) wanted → Fine (attribute_procedure s line object d) (Some (Value (Procedure wanted)))
+  attribute_alone line object d c Known wanted class level fine a = entry_alone s ok d c level m i t todo line object fine class Known (entry_of s.tables d) wanted refl a
+
+  procedure_known : (Known : Type 0) (e : Option Entry) (wanted : Option SimType) → ProcedureDeclared s Known e wanted → Known
+  procedure_known Known (Some (entry.Procedure result k)) wanted a = a.1
+  procedure_known Known (Some (entry.Virtual result own)) wanted a = a.1
+  procedure_known Known (Some (entry.Formal f)) wanted a = by_kind f.kind a
+    where
+      by_kind : (g : FormalKind) → FormalStands s Known g f.ty wanted → Known
+      by_kind shape.Procedure a = a.1
+      by_kind shape.Simple a = absurd a
+      by_kind shape.Array a = absurd a
+  procedure_known Known None wanted a = absurd a
+  procedure_known Known (Some _) wanted a = absurd a
+
+  named_alone : (line : ℕ) (c : Option ℕ) (x : Option Denotation) (wanted : Option SimType) → ProcedureNamed s from c x wanted → Fine (if_any c (λ k. if_any (declared_attribute x) (attribute_procedure s line (connected_object s m i k)) Unbuilt) (closing.procedure_denoted s m i line x)) (Some (Value (Procedure wanted)))
+  named_alone line None (Some (denotation.Declared d)) wanted a = declared_alone line d (entry_of s.tables d) wanted refl a
+  named_alone line (Some k) (Some (denotation.Declared d)) wanted a =
+      let b = object_seen k d (procedure_known (SeesConnected s from k d) (entry_of s.tables d) wanted a) in
+      attribute_alone line (connected_object s m i k) d b.0 (SeesConnected s from k d) wanted b.1 b.2 b.3 a
+  named_alone line None None wanted a = absurd a
+  named_alone line (Some k) None wanted a = absurd a
+  named_alone line None (Some (denotation.Standard n)) wanted a = absurd a
+  named_alone line (Some k) (Some (denotation.Standard n)) wanted a = absurd a
+
+  dot_alone : (line : ℕ) (a : Expression) (x : Option Denotation) (wanted : Option SimType) → ((h : Holds) → ExprIs s from a h → Fine (close s m i a) (Some (Value h))) → ProcedureDot s x (λ c. ExprIs s from a (Refers c)) wanted → Fine (if_any (declared_attribute x) (attribute_procedure s line (close s m i a)) Unbuilt) (Some (Value (Procedure wanted)))
+  dot_alone line a (Some (denotation.Declared d)) wanted value y =
+      let known = procedure_known (ObjectHas s (λ c. ExprIs s from a (Refers c)) d) (entry_of s.tables d) wanted y in
+      attribute_alone line (close s m i a) d known.0 (ObjectHas s (λ c. ExprIs s from a (Refers c)) d) wanted known.1 known.2 (value (Refers known.0) known.3) y
+  dot_alone line a None wanted value y = absurd y
+  dot_alone line a (Some (denotation.Standard n)) wanted value y = absurd y
 
   mutual
+    pub alone_fine : (e : Expression) (wanted : Option SimType) → ProcedureIs s from e wanted → Fine (close_procedure s m i e) (Some (Value (Procedure wanted)))
+    alone_fine (syntax.Named name NoMore) wanted x = named_alone (line_at s name.token.0) (connection_at s name.token.0) (denoted s name.token.0) wanted x
+    alone_fine (syntax.Dot token a name NoMore) wanted x = dot_alone (line_at s name.token.0) a (denoted s name.token.0) wanted (λ h y. expr_fine a h y) x
+    alone_fine (syntax.Named name (Then e es)) wanted x = absurd x
+    alone_fine (syntax.Dot token a name (Then e es)) wanted x = absurd x
+    alone_fine _ wanted x = absurd x
+
     pub expr_fine : (e : Expression) (h : Holds) → ExprIs s from e h → Fine (close s m i e) (Some (Value h))
     expr_fine (syntax.If token c a b) h x = (Value h, refl, expr_fine c (Simply kind.Boolean) x.0, expr_fine a h x.1, expr_fine b h x.2)
     expr_fine (syntax.Binary op token a b) h x =
@@ -619,7 +772,7 @@ module _ (s : Source) (ok : Typed s) (o : AllArrays) (m : Instances) (store : St
         (dot_denoted (line_at s name.token.0) a es (Some h) (λ h y. expr_fine a h y) (λ v y. place_fine a v y) (λ y. integers_fine es y) (λ ks y. of_fine es ks y) (λ fs y. actuals_fine (line_at s name.token.0) es fs y) (denoted s name.token.0) x)
     expr_fine (syntax.Named name es) h x =
         other_call (transfer_at s name.token.0) (named_transfer name es) (named_other name es) (Some (Value h)) (named_keeps name es (Some h) x)
-        (identifier_fine (line_at s name.token.0) es (close_all s m i es) (λ fs. close_actuals s m i (line_at s name.token.0) es fs) (AreIntegers s from es) (λ ks. AreOf s from es ks) (λ fs. ActualsFit s from es fs) (λ a. integers_fine es a) (λ ks a. of_fine es ks a) (λ fs a. actuals_fine (line_at s name.token.0) es fs a) name.token.0 (connection_at s name.token.0) (own_attribute s name.token.0) (Some h) refl x)
+        (identifier_fine (line_at s name.token.0) es (close_all s m i es) (λ fs. close_actuals s m i (line_at s name.token.0) es fs) (AreIntegers s from es) (ParametersAre s from es) (λ ks. AreOf s from es ks) (λ fs. ActualsFit s from es fs) (λ a. integers_fine es a) (λ a. a) (λ ks a. of_fine es ks a) (λ fs a. actuals_fine (line_at s name.token.0) es fs a) name.token.0 (connection_at s name.token.0) (own_attribute s name.token.0) (Some h) refl x)
     expr_fine (syntax.This token class) h x = this_found (found_at s token) h x
     expr_fine (syntax.New token class es) h x = new_fine class.token.0 (line_at s class.token.0) (line_at s token) es h (λ fs a. class_fine (line_at s class.token.0) es fs a) x
     expr_fine (syntax.Parentheses token a) h x = expr_fine a h x
@@ -631,7 +784,7 @@ module _ (s : Source) (ok : Typed s) (o : AllArrays) (m : Instances) (store : St
     -- where a text variable before a dot lies
     place_fine : (e : Expression) → (is_variable s e || is_attribute s e) ≡ true → ExprIs s from e (Simply kind.Text) → (y : Kinds) × Fine (close_place s m i e) (Some y) × OperandIs kind.Text y
     place_fine (syntax.Named name es) v x =
-        text_lies (line_at s name.token.0) es (close_all s m i es) (λ fs. close_actuals s m i (line_at s name.token.0) es fs) (AreIntegers s from es) (λ ks. AreOf s from es ks) (λ fs. ActualsFit s from es fs) (λ y. integers_fine es y) (λ ks a. of_fine es ks a) (λ fs a. actuals_fine (line_at s name.token.0) es fs a) name.token.0 (connection_at s name.token.0) (own_attribute s name.token.0) refl (variable_named name es v) x
+        text_lies (line_at s name.token.0) es (close_all s m i es) (λ fs. close_actuals s m i (line_at s name.token.0) es fs) (AreIntegers s from es) (ParametersAre s from es) (λ ks. AreOf s from es ks) (λ fs. ActualsFit s from es fs) (λ y. integers_fine es y) (λ a. a) (λ ks a. of_fine es ks a) (λ fs a. actuals_fine (line_at s name.token.0) es fs a) name.token.0 (connection_at s name.token.0) (own_attribute s name.token.0) refl (variable_named name es v) x
     place_fine (syntax.Dot token a name es) v x = dot_lies (line_at s name.token.0) a es (denoted s name.token.0) (λ c y. expr_fine a (Refers c) y) (λ y. integers_fine es y) (λ ks y. of_fine es ks y) (λ fs y. actuals_fine (line_at s name.token.0) es fs y) (dot_variable token a name es v) x
     place_fine (syntax.If token c a b) v x = absurd (not_variable (syntax.If token c a b) tt v)
     place_fine (syntax.Binary op token a b) v x = absurd (not_variable (syntax.Binary op token a b) tt v)
@@ -655,7 +808,7 @@ module _ (s : Source) (ok : Typed s) (o : AllArrays) (m : Instances) (store : St
     actuals_fine line NoMore (f ∷ fs) x = absurd x
     actuals_fine line (Then e es) [] x = absurd x
     actuals_fine line (Then e es) (f ∷ fs) x =
-        let a = actual_fine s ok (ExprIs s from e) (ActualIs s from e) (λ z h. Fine z (Some h)) line (close s m i e) (ActualOf i e) (λ h y. expr_fine e h y) (λ k y. (k, from, refl, refl, at, y)) (λ y. copy_fine line (close s m i e) y) (λ k y. (k, refl, y)) (λ k y. (k, refl, y)) (λ z k level y. ((Refers k, level, refl), y)) f.mode f.kind f.ty x.0 in
+        let a = actual_fine s ok (ExprIs s from e) (λ k. NamedIs s from e k) (ProcedureIs s from e) (λ z h. Fine z (Some h)) line (close s m i e) (close_procedure s m i e) (λ p. ActualOf i p e) (λ h y. expr_fine e h y) (λ q y. alone_fine e q y) (λ k y. (Simply k, from, refl, refl, at, y)) (λ h y. (ArrayOf h, from, refl, refl, at, y)) (λ q y. (Procedure q, from, refl, refl, at, y)) (λ y. copy_fine line (close s m i e) y) (λ k y. (k, refl, y)) (λ k y. (k, refl, y)) (λ z k level y. ((Refers k, level, refl), y)) f.mode f.kind f.ty x.0 in
         (a.0, formal_kinds s fs, ap (λ z. z ∷ formal_kinds s fs) a.1, a.2, actuals_fine line es fs x.1)
 
     pub class_fine : (line : ℕ) (es : Expressions) (fs : List Formal) → ActualsFit s from es fs → TermsFine s m i t todo (with_arrays_kept fs (close_actuals s m i line es fs)) (class_kinds s fs)
@@ -663,15 +816,15 @@ module _ (s : Source) (ok : Typed s) (o : AllArrays) (m : Instances) (store : St
     class_fine line NoMore (f ∷ fs) x = absurd x
     class_fine line (Then e es) [] x = absurd x
     class_fine line (Then e es) (f ∷ fs) x =
-        let a = class_actual s ok (ExprIs s from e) (ActualIs s from e) (λ z h. Fine z (Some h)) line (close s m i e) (ActualOf i e) (λ h y. expr_fine e h y) (λ k y. (k, from, refl, refl, at, y)) (λ y. copy_fine line (close s m i e) y) (λ k y. (k, refl, y)) (λ k y. (k, refl, y)) (λ z k level y. ((Refers k, level, refl), y)) f.mode f.kind f.ty x.0 in
+        let a = class_actual s ok (ExprIs s from e) (λ k. NamedIs s from e k) (ProcedureIs s from e) (λ z h. Fine z (Some h)) line (close s m i e) (close_procedure s m i e) (λ p. ActualOf i p e) (λ h y. expr_fine e h y) (λ q y. alone_fine e q y) (λ k y. (Simply k, from, refl, refl, at, y)) (λ h y. (ArrayOf h, from, refl, refl, at, y)) (λ q y. (Procedure q, from, refl, refl, at, y)) (λ y. copy_fine line (close s m i e) y) (λ k y. (k, refl, y)) (λ k y. (k, refl, y)) (λ z k level y. ((Refers k, level, refl), y)) f.mode f.kind f.ty x.0 in
         (a.0, class_kinds s fs, ap (λ z. z ∷ class_kinds s fs) a.1, a.2, class_fine line es fs x.1)
 
   -- a call that stands as a statement
-  pub given_fine : (name : Identifier) (es : Expressions) (h : Option Holds) → IdentifierGives s from name.token.0 (connection_at s name.token.0) (own_attribute s name.token.0) es (AreIntegers s from es) (λ ks. AreOf s from es ks) (λ fs. ActualsFit s from es fs) h → Fine (close s m i (syntax.Named name es)) (held_kinds h)
+  pub given_fine : (name : Identifier) (es : Expressions) (h : Option Holds) → IdentifierGives s from name.token.0 (connection_at s name.token.0) (own_attribute s name.token.0) es (AreIntegers s from es) (ParametersAre s from es) (λ ks. AreOf s from es ks) (λ fs. ActualsFit s from es fs) h → Fine (close s m i (syntax.Named name es)) (held_kinds h)
   given_fine name es h x = other_call (transfer_at s name.token.0) (named_transfer name es) (named_other name es) (held_kinds h) (named_keeps name es h x)
-      (identifier_fine (line_at s name.token.0) es (close_all s m i es) (λ fs. close_actuals s m i (line_at s name.token.0) es fs) (AreIntegers s from es) (λ ks. AreOf s from es ks) (λ fs. ActualsFit s from es fs) (λ a. integers_fine es a) (λ ks a. of_fine es ks a) (λ fs a. actuals_fine (line_at s name.token.0) es fs a) name.token.0 (connection_at s name.token.0) (own_attribute s name.token.0) h refl x)
+      (identifier_fine (line_at s name.token.0) es (close_all s m i es) (λ fs. close_actuals s m i (line_at s name.token.0) es fs) (AreIntegers s from es) (ParametersAre s from es) (λ ks. AreOf s from es ks) (λ fs. ActualsFit s from es fs) (λ a. integers_fine es a) (λ a. a) (λ ks a. of_fine es ks a) (λ fs a. actuals_fine (line_at s name.token.0) es fs a) name.token.0 (connection_at s name.token.0) (own_attribute s name.token.0) h refl x)
 
-  pub dot_fine : (token : ℕ) (a : Expression) (name : Identifier) (es : Expressions) (h : Option Holds) → DotGives s (denoted s name.token.0) (stream_of s a) (ExprIs s from a (Simply kind.Text)) (λ c. ExprIs s from a (Refers c)) es (AreIntegers s from es) (λ ks. AreOf s from es ks) (λ fs. ActualsFit s from es fs) h → Fine (close s m i (syntax.Dot token a name es)) (held_kinds h)
+  pub dot_fine : (token : ℕ) (a : Expression) (name : Identifier) (es : Expressions) (h : Option Holds) → DotGives s (denoted s name.token.0) (stream_of s a) (ExprIs s from a (Simply kind.Text)) (λ c. ExprIs s from a (Refers c)) es (AreIntegers s from es) (ParametersAre s from es) (λ ks. AreOf s from es ks) (λ fs. ActualsFit s from es fs) h → Fine (close s m i (syntax.Dot token a name es)) (held_kinds h)
   dot_fine token a name es h x =
       other_call (transfer_at s name.token.0) (λ c. detach_term (line_at s name.token.0) (close s m i a)) (dotted_term (line_at s name.token.0) a es (denoted s name.token.0)) (held_kinds h) (dot_keeps a name es h x)
       (dot_denoted (line_at s name.token.0) a es h (λ h y. expr_fine a h y) (λ v y. place_fine a v y) (λ y. integers_fine es y) (λ ks y. of_fine es ks y) (λ fs y. actuals_fine (line_at s name.token.0) es fs y) (denoted s name.token.0) x)

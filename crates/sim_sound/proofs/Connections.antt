@@ -15,7 +15,7 @@ use Rattle.sim_meaning.specs.Attributes.{cell_of_connection, is_connection}
 use Rattle.sim_meaning.specs.Connections.{arm_tried, arms_tried, connected, object_connected}
 use Rattle.sim_meaning.specs.Levels.{class_at, stands_in}
 use Rattle.sim_meaning.specs.Meaning.{do_op}
-use Rattle.sim_meaning.specs.Pending.{Activation, ConnectOp, Connection, Declared, Do, Exec, Execs, Held, Instances, Item, Key, Of, PastOp, Result, Val, WhenOp, cell_made, held, held_put, made_in, plain, same_key}
+use Rattle.sim_meaning.specs.Pending.{Activation, ConnectOp, Connection, Declared, Do, Exec, Execs, Held, Instances, Item, Key, Of, PastOp, Result, Val, WhenOp, cell_made, held, held_put, made_in, plain, same_key, Origin}
 use Rattle.sim_meaning.specs.Steps.{go}
 use Rattle.sim_sound.specs.Held.{Holds, Simply, connection_holds, key_holds, reference_to}
 use Rattle.sim_sound.specs.Statements.{ArmsAre, ConnectionIs, StatementIs, StatementsAre}
@@ -40,6 +40,13 @@ same_keys : (a b : Key) → same_key a b ≡ true → a ≡ b
 same_keys (Declared d) (Declared e) h = ap Declared (numbers_equal d e h)
 same_keys Result Result h = refl
 same_keys (Connection d) (Connection e) h = ap Connection (numbers_equal d e h)
+same_keys Origin Origin h = refl
+same_keys (Declared d) Origin h = absurd (cc)
+same_keys Result Origin h = absurd (cc)
+same_keys (Connection d) Origin h = absurd (cc)
+same_keys Origin (Declared e) h = absurd (cc)
+same_keys Origin Result h = absurd (cc)
+same_keys Origin (Connection e) h = absurd (cc)
 same_keys (Declared d) Result h = absurd (cc)
 same_keys (Declared d) (Connection e) h = absurd (cc)
 same_keys Result (Declared d) h = absurd (cc)

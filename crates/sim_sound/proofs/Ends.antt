@@ -12,14 +12,14 @@ use Rattle.sim_scope.specs.Levels.{has_level}
 use Rattle.sim_scope.specs.Source.{Source}
 use Rattle.sim_tree.specs.declared.stmt.TypeName.{TypeName}
 use Rattle.sim_tree.specs.Syntax.{Heading, Statement}
-use Rattle.sim_code.specs.Instances.{ended_as, ends_in, going_below, is_given_at_end, main_goes_on, object_ended, system_head}
+use Rattle.sim_code.specs.Instances.{ended_as, ends_in, going_below, is_given_at_end, main_goes_on, object_ended, system_head, Instance, live}
 use Rattle.sim_code.specs.Outcome.{World}
-use Rattle.sim_meaning.specs.Levels.{has_levels}
+use Rattle.sim_meaning.specs.Levels.{has_levels, is_class}
 use Rattle.sim_meaning.specs.Meaning.{do_item, has_result, instances_left, leaving, with_any, world_left}
-use Rattle.sim_meaning.specs.Pending.{Activation, EndObject, EndProcedure, Instances, Item, Of, Result, Val, cell, owner}
+use Rattle.sim_meaning.specs.Pending.{Activation, EndObject, EndProcedure, Instances, Item, Of, Result, Val, cell, owner, Held}
 use Rattle.sim_meaning.specs.Texts.{ProcedureText, is_class_free, text}
 use Rattle.sim_values.specs.Plain.{Object}
-use Rattle.sim_sound.specs.Held.{ArrayOf, ByName, Fits, FitsIn, Holds, Refers, Simply, given_by, held_by, result_holds, result_type}
+use Rattle.sim_sound.specs.Held.{ArrayOf, ByName, Fits, FitsIn, Holds, Refers, Simply, given_by, held_by, result_holds, result_type, Procedure}
 use Rattle.sim_sound.specs.Typed.{ResultWritten, Typed}
 use Rattle.sim_sound.proofs.Cells.{fine_at, given_no_array, own_cell}
 use Rattle.sim_sound.proofs.Chains.{AboveHead, above_head, apart_on, own_top, stands_on_top}
@@ -35,14 +35,15 @@ use Rattle.sim_sound.proofs.Moves.{left_by, placed_as}
 use Rattle.sim_sound.proofs.Prefixes.{same_is}
 use Rattle.sim_sound.proofs.Reach.{has_itself, key_of_result}
 use Rattle.sim_sound.proofs.Running.{Begun, ChainFine, Headed, IsRelease, NoObjectStands, ObjectStands, Operates, StoreFine, idle, is_resumed, parts, resumes, runs}
-use Rattle.sim_sound.proofs.Sound.{GivesResult, given, held_kinds}
-use Rattle.sim_sound.proofs.Values.{AllArrays, Generated, HandsFine, IsPlain, Kinds, Made, Marks, ObjectOf, Suspended, Takes, ValFine, Value, Waits, at_seat, see}
+use Rattle.sim_sound.proofs.Sound.{GivesResult, given, Makes}
+use Rattle.sim_sound.proofs.Values.{AllArrays, Generated, HandsFine, IsPlain, Kinds, Made, Marks, ObjectOf, Suspended, Takes, ValFine, Value, Waits, at_seat, see, held_kinds, Passes, Seat, NewObject, DeepFine}
 use Rattle.sim_sound.proofs.Standings.{AllFine, kinds_same, later_changed, main_on, object_over}
 
 -- what waits below a resumed object
 pub suspended : (i t : ℕ) (v : Waits) → IsRelease true i t v → v ≡ Suspended
 suspended i t Suspended r = refl
 suspended i t (Takes k) r = absurd r
+suspended i t (Passes number formal) r = absurd r
 suspended i t (Generated j u) r = absurd r
 
 -- two standings are set in either order
@@ -58,16 +59,30 @@ pub goes_below : (s : Source) (o : World) (g : Marks) → length g.sights ≡ le
 goes_below s o g long [] n f h = absurd f.fine
 goes_below s o g long (a ∷ rest) n f h = (g, long, runs f.store f.placed h f.fine)
 
+-- a new object, as what it is in hand as
+new_hand : (s : Source) → Typed s → (o : AllArrays) (m : Instances) → StoreFine s o m → (q : Seat) (i j u : ℕ) (vs : List Val) (y : Instance (List Held)) → live m j ≡ Some y → y.text ≡ u → ObjectOf s m j u → (x : Kinds) → Makes s u x → DeepFine s (at_seat o q) m i vs x (Of (Object j))
+new_hand s ok o m store q i j u vs y lives exact p (Value h) made = plain_val s (at_seat o q) m i h (Object j) (plain_fits s ok o m store (Refers u) h (Object j) made p)
+new_hand s ok o m store q i j u vs y lives exact p (NewObject c) made =
+    let same : p.now ≡ y = same_some (live m j) p.now y p.lives lives in
+    let is : (p.now).text ≡ u = ap (λ z. z.text) same ∙ exact in
+    record {
+      object = record { now = p.now; lives = p.lives; object = p.object; levels = ap (λ z. has_level s.tables z c) is ∙ made.0; stays = p.stays; words = p.words; has_text = p.has_text; made = p.made };
+      proper = ap (λ z. is_class (text s z)) is ∙ made.1;
+    }
+new_hand s ok o m store q i j u vs y lives exact p _ made = absurd made
+
 -- the reference to an object that was generated, or the object that was called, comes to be in hand as any other
-pub released : (s : Source) → Typed s → (o : AllArrays) (m : Instances) → StoreFine s o m → (chain : List Activation) (v : Waits) (i t : ℕ) → IsRelease false i t v → ObjectOf s m i t → ChainFine s o m chain v → ChainFine s o m chain (Takes None)
-released s ok o m store [] v i t release object c = absurd c
-released s ok o m store (a ∷ rest) (Takes None) i t release object c = c
-released s ok o m store (a ∷ rest) (Takes (Some k)) i t release object c = absurd release
-released s ok o m store (a ∷ rest) Suspended i t release object c = absurd release
-released s ok o m store (a ∷ rest) (Generated j u) i t release object c =
+pub released : (s : Source) → Typed s → (o : AllArrays) (m : Instances) → StoreFine s o m → (chain : List Activation) (v : Waits) (i t : ℕ) → IsRelease false i t v → ObjectOf s m i t → (y : Instance (List Held)) → live m i ≡ Some y → y.text ≡ t → ChainFine s o m chain v → ChainFine s o m chain (Takes None)
+released s ok o m store [] v i t release object y lives own c = absurd c
+released s ok o m store (a ∷ rest) (Takes None) i t release object y lives own c = c
+released s ok o m store (a ∷ rest) (Takes (Some k)) i t release object y lives own c = absurd release
+released s ok o m store (a ∷ rest) (Passes number formal) i t release object y lives own c = absurd release
+released s ok o m store (a ∷ rest) Suspended i t release object y lives own c = absurd release
+released s ok o m store (a ∷ rest) (Generated j u) i t release object y lives own c =
     let x = c.expects in
+    let here : live m j ≡ Some y = ap (live m) release.0 ∙ lives in
+    let exact : y.text ≡ u = own ∙ sym release.1 in
     let fine : ObjectOf s m j u = subst (λ z. ObjectOf s m j z) (sym release.1) (subst (λ z. ObjectOf s m z t) (sym release.0) object) in
-    let value : ValFine s (at_seat o c.seat) m a.instance x.0 (Of (Object j)) = plain_val s (at_seat o c.seat) m a.instance x.0 (Object j) (plain_fits s ok o m store (Refers u) x.0 (Object j) x.1 fine) in
     record {
       of_text = c.of_text;
       todo = c.todo;
@@ -79,8 +94,8 @@ released s ok o m store (a ∷ rest) (Generated j u) i t release object c =
       works = c.works;
       vals = a.values;
       shown = refl;
-      kinds = Value x.0 ∷ c.kinds;
-      hands = subst (HandsFine s (at_seat o c.seat) m a.instance (Value x.0 ∷ c.kinds)) (sym c.shown) (value, c.hands);
+      kinds = x.0 ∷ c.kinds;
+      hands = subst (HandsFine s (at_seat o c.seat) m a.instance (x.0 ∷ c.kinds)) (sym c.shown) (new_hand s ok o m store c.seat a.instance j u c.vals y here exact fine x.0 x.1, c.hands);
       expected = c.expected;
       expects = x.2;
       goes = c.goes;
@@ -99,6 +114,7 @@ module _ (s : Source) (ok : Typed s) (l : Limits) (o : World) (g : Marks) (long 
   plain_later_val o' m' Apart e v' j (Simply k) _ is a = absurd a
   plain_later_val o' m' Apart e v' j (Refers c) _ is a = absurd a
   plain_later_val o' m' Apart e v' j (ArrayOf h) v is a = absurd is
+  plain_later_val o' m' Apart e v' j (Procedure h) v is a = absurd is
   plain_later_val o' m' Apart e v' j (ByName h) v is a = absurd is
 
   pub leaves : (rest : List Activation) → Operates g.beneath g.seat m i rest → (g.seat).evaluations ≡ 0 → NoObjectStands m i → (waits : Option Kinds) (v : Option Val) → Leaves waits v → ChainFine s (see g o) m rest (Takes waits) → Goes (IsFine s) (leaving s rest v i o m)
@@ -149,6 +165,7 @@ module _ (s : Source) (ok : Typed s) (l : Limits) (o : World) (g : Marks) (long 
   result_plain (Simply k) e = tt
   result_plain (Refers c) e = tt
   result_plain (ArrayOf k) e = absurd (given_no_array s (result_type s t) k e)
+  result_plain (Procedure r) e = given_plain (result_type s t) (Procedure r) e
   result_plain (ByName k) e = given_plain (result_type s t) (ByName k) e
 
   some_result : (result : Option TypeName) (r : Option Holds) → ResultWritten result r → (type : TypeName) → result ≡ Some type → (h : Holds) × (r ≡ Some h)
@@ -250,7 +267,7 @@ module _ (s : Source) (ok : Typed s) (l : Limits) (o : World) (g : Marks) (long 
       attached_ends : (t' w' : ℕ) → Goes (IsFine s) (ended_as owner (ran o t' w') m i rest (Some AttachedObject))
       attached_ends t' w' =
           goes_below s (ran o t' w') g long rest Then
-          (record { store = over.store; placed = over.placed; fine = released s ok (see g o) Then over.store rest v i t release (object_later s (see g o) m (see g o) Then All ended_later i t (object_here made free has)) over.fine }) headed
+          (record { store = over.store; placed = over.placed; fine = released s ok (see g o) Then over.store rest v i t release (object_later s (see g o) m (see g o) Then All ended_later i t (object_here made free has)) (b.here).now (b.here).lives own over.fine }) headed
 
     module _ (is : slice_get m.standings i ≡ Some ResumedObject) (release : IsRelease true i t v) where
       on_head : AboveHead m i rest

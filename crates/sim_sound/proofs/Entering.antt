@@ -18,7 +18,7 @@ use Rattle.sim_code.specs.Instances as instances
 use Rattle.sim_code.specs.Outcome.{Run, Simulation, World}
 use Rattle.sim_meaning.specs.Attributes.{is_connection}
 use Rattle.sim_meaning.specs.Entries.{arrays_by_value, filled_behind, first_cells, formals_of, in_instance, instances_kept, is_held, new_instance, numbers_of, passes, words_of_cells}
-use Rattle.sim_meaning.specs.Levels.{has_levels}
+use Rattle.sim_meaning.specs.Levels.{has_levels, is_class}
 use Rattle.sim_meaning.specs.Meaning.{block_work, called, has_result, procedure_entered, sub_block_entered}
 use Rattle.sim_meaning.specs.Pending.{Actual, Activation, Address, ArrayValue, Configuration, Declared, Do, EndBlock, EndProcedure, Exec, Execs, Held, Instances, Item, Key, Link, Of, ProcedureValue, Val, instance_in}
 use Rattle.sim_meaning.specs.Texts.{BlockText, ClassText, ConnectionText, PrefixedText, ProcedureText, StandardText, Text, is_class_free, text}
@@ -44,7 +44,7 @@ use Rattle.sim_sound.proofs.Running.{Begun, ChainFine, Fine, Headed, Operates, P
 use Rattle.sim_sound.proofs.Simulated.{SimulationsFine}
 use Rattle.sim_sound.proofs.Simulating.{simulations_more}
 use Rattle.sim_sound.proofs.Sound.{CallOpFine, GivesResult, formal_kinds, given, holds_of}
-use Rattle.sim_sound.proofs.Values.{AllArrays, CellsFine, Enclosed, HandFine, HandsFine, InstanceFine, KeyAmong, Kinds, Knows, LinkTo, Made, Marks, Near, Present, Seat, Sight, Stays, Takes, Waits, Whole, at_itself, at_seat, key_of, keys_in, near_below, near_staying, own_text, see, within}
+use Rattle.sim_sound.proofs.Values.{AllArrays, CellsFine, Enclosed, HandFine, HandsFine, InstanceFine, KeyAmong, Kinds, Knows, LinkTo, Made, Marks, Near, Present, Seat, Sight, Stays, Takes, Waits, Whole, at_itself, at_seat, key_of, keys_in, near_below, near_staying, own_text, see, within, HasOrigin}
 use Rattle.sim_sound.proofs.Heads.{headed_as}
 
 -- ---- a new instance
@@ -52,6 +52,16 @@ use Rattle.sim_sound.proofs.Heads.{headed_as}
 -- how it stands
 pub stands_new : (m : Instances) (y : Instance (List Held)) (z : Standing Activation) → length m.standings ≡ length m.instances → slice_get (entered m y z).standings (length m.instances) ≡ Some z
 stands_new m y z many = ap (slice_get (m.standings ++ z ∷ [])) (sym many) ∙ append_at m.standings z
+
+-- what has no levels is no class
+no_class : (x : Option Text) → has_levels x ≡ false → is_class x ≡ true → ⊥
+no_class None f c = absurd (cc)
+no_class (Some (ClassText prefix h ds ss)) f c = absurd (cc)
+no_class (Some (StandardText which)) f c = absurd (cc)
+no_class (Some (PrefixedText class es ds ss)) f c = absurd (cc)
+no_class (Some (BlockText begin ds ss)) f c = absurd (cc)
+no_class (Some (ProcedureText result h a)) f c = absurd (cc)
+no_class (Some ConnectionText) f c = absurd (cc)
 
 -- An instance of a text with these cells is entered, on top of the instance u, if of any. `now` are the instances then, with these linkages and simulations.
 module _ (s : Source) (ok : Typed s) (v : AllArrays) (m : Instances) (k : ℕ) (e : Option ℕ) (cells : List Held) (z : Standing Activation) (x : Text) (is : text s k ≡ Some x) (solid : is_connection (text s k) ≡ false) (u : Option ℕ) (linkages : Memberships) (blocks : List Simulation) where
@@ -88,12 +98,12 @@ module _ (s : Source) (ok : Typed s) (v : AllArrays) (m : Instances) (k : ℕ) (
   present_new : (todo : List DeclNo) → Made s k todo cells → Present s now (length m.instances) k todo
   present_new todo made = record { now = made_new; lives = new_lives; stands = own_text same_level; words = x; has_text = is; made = made }
 
-  instance_new : ((u : ℕ) → LevelOf s k u → (key : Key) → KeyAmong key (keys_in s u (text s u)) → KeyAmong key (map key_of cells)) → CellsFine s seen_now now (length m.instances) k cells → Enclosed s seen_now now (length m.instances) k e → InstanceFine s seen_now now (length m.instances) made_new
-  instance_new keys fine out = record { level = refl; solid = solid; keys = keys; holds = λ u at key a. key_level s ok solid at key a; cells = fine; ends = passing_is; out = out }
+  instance_new : ((u : ℕ) → LevelOf s k u → (key : Key) → KeyAmong key (keys_in s u (text s u)) → KeyAmong key (map key_of cells)) → HasOrigin s k cells → CellsFine s seen_now now (length m.instances) k cells → Enclosed s seen_now now (length m.instances) k e → InstanceFine s seen_now now (length m.instances) made_new
+  instance_new keys origins fine out = record { level = refl; solid = solid; keys = keys; holds = λ u at key a. key_level s ok solid at key a; cells = fine; ends = passing_is; origins = origins; out = out }
 
-  pub begun_new : StoreFine s v m → Begins z → ((u : ℕ) → LevelOf s k u → (key : Key) → KeyAmong key (keys_in s u (text s u)) → KeyAmong key (map key_of cells)) → CellsFine s seen_now now (length m.instances) k cells → Enclosed s seen_now now (length m.instances) k e → (todo : List DeclNo) → Made s k todo cells → MembersFine s linkages now → SimulationsFine s blocks now → Begun s seen_now now (length m.instances) k todo
+  pub begun_new : StoreFine s v m → Begins z → ((u : ℕ) → LevelOf s k u → (key : Key) → KeyAmong key (keys_in s u (text s u)) → KeyAmong key (map key_of cells)) → HasOrigin s k cells → CellsFine s seen_now now (length m.instances) k cells → Enclosed s seen_now now (length m.instances) k e → (todo : List DeclNo) → Made s k todo cells → MembersFine s linkages now → SimulationsFine s blocks now → Begun s seen_now now (length m.instances) k todo
   unfolding present_new
-  begun_new store begins keys fine out todo made members simulations = record { store = store_entered s v m made_new z u linkages blocks store (instance_new keys fine out) begins members simulations; here = present_new todo made; own = refl; works = record { near = near_below at_itself; through = near_below at_itself; lower = near_below at_itself } }
+  begun_new store begins keys origins fine out todo made members simulations = record { store = store_entered s v m made_new z u linkages blocks store (instance_new keys origins fine out) begins members simulations; here = present_new todo made; own = refl; works = record { near = near_below at_itself; through = near_below at_itself; lower = near_below at_itself } }
 
   -- one instance more, of this text
   pub more_new : OneMore s m now k e
@@ -182,7 +192,7 @@ module _ (s : Source) (ok : Typed s) (v : AllArrays) (m : Instances) (k : ℕ) (
 
   pub block_begun : StoreFine s v m → Enclosed s seen_after after (length m.instances) k e → Begun s seen_after after (length m.instances) k (arrays_of_block s ds)
   block_begun store out =
-      begun_new s ok v m k e cells (NoObject None) (BlockText begin ds ss) is (block_solid s k begin ds ss is) u v.members v.simulations store tt (keys_alone s ok k (map key_of cells) (block_solid s k begin ds ss is) has_none (λ key a. subst (λ z. KeyAmong key (keys_in s k z)) is a)) cells_fine out (arrays_of_block s ds) block_made (members_more s v.members m after k e (more_new s ok v m k e cells (NoObject None) (BlockText begin ds ss) is (block_solid s k begin ds ss is) u v.members v.simulations) (plain_no_linkage s ok k (block_solid s k begin ds ss is) has_none) (plain_no_simulation s ok k (block_solid s k begin ds ss is) has_none) store.members)
+      begun_new s ok v m k e cells (NoObject None) (BlockText begin ds ss) is (block_solid s k begin ds ss is) u v.members v.simulations store tt (keys_alone s ok k (map key_of cells) (block_solid s k begin ds ss is) has_none (λ key a. subst (λ z. KeyAmong key (keys_in s k z)) is a)) (λ class. absurd (let z : ◌≡◌ {A = Bool} true false = sym class ∙ ap is_class is in cc)) cells_fine out (arrays_of_block s ds) block_made (members_more s v.members m after k e (more_new s ok v m k e cells (NoObject None) (BlockText begin ds ss) is (block_solid s k begin ds ss is) u v.members v.simulations) (plain_no_linkage s ok k (block_solid s k begin ds ss is) has_none) (plain_no_simulation s ok k (block_solid s k begin ds ss is) has_none) store.members)
       (simulations_more s v.simulations m after k e (more_new s ok v m k e cells (NoObject None) (BlockText begin ds ss) is (block_solid s k begin ds ss is) u v.members v.simulations) store.simulations (plain_no_simulation s ok k (block_solid s k begin ds ss is) has_none) (plain_no_process s ok k (block_solid s k begin ds ss is) has_none))
 
   pub block_works : StoreFine s v m → Enclosed s seen_after after (length m.instances) k e → (Below : Waits → Type 0) (Outermost : Type 0) (end : Item) → WorkFine s seen_after after Below Outermost (length m.instances) k (end ∷ []) [] [] → WorkFine s seen_after after Below Outermost (length m.instances) k (block_work s after (length m.instances) ds ss end) (arrays_of_block s ds) []
@@ -238,7 +248,7 @@ module _ (s : Source) (ok : Typed s) (l : Limits) (o : World) (marks : Marks) (l
   link_is u (Address z) f a go = absurd a
   link_is u (ArrayValue z) f a go = absurd a
   link_is u (ProcedureValue z y) f a go = absurd a
-  link_is u (Actual z y) f a go = absurd a
+  link_is u (Actual z pr y) f a go = absurd a
 
   pub lives_is : (j : ℕ) (x : Instance (List Held)) → live m j ≡ Some x → is_live m j ≡ true
   lives_is j x e = ap instances.is_live_in e
@@ -258,7 +268,7 @@ module _ (s : Source) (ok : Typed s) (l : Limits) (o : World) (marks : Marks) (l
     pub below_handed : (v : Waits) → ChainFine s (see marks o) m rest v → ChainFine s (see (marks_of marks g') p) m rest v
     below_handed v c = fine_later s (see marks o) m (see (marks_of marks g') p) m All e (Elsewhere marks.seat) (λ q j d k ok. copies q j d k) (λ j k. (refl, refl)) rest (all_apart None rest) (others_on marks.beneath marks.seat m i rest top) v c
 
-  module _ (k line : ℕ) (result : Option TypeName) (h : Heading) (a : Statement) (vs vs' : List Val) (d j u : ℕ) (todo : List DeclNo) (left : List Kinds) (g : Option Kinds) (is : text s k ≡ Some (ProcedureText result h a)) (stands : encloser s.tables k ≡ Some u) (knows : Knows m i j) (whole : Whole s m j u) (acts : ActualsAre s (see marks o) m i d (formal_kinds s (formals_of s k)) vs) (less : length vs' < d) (gives : GivesResult s k g) (b : Begun s (see marks o) m i t todo) (hands : HandsFine s (see marks o) m i left vs') (work : Work s o marks long m i t rest top w todo (given g left)) (lasts : is_class_free s k ≡ false → list_any is_held (formals_of s k) ≡ true → Stays m i) where
+  module _ (k line : ℕ) (result : Option TypeName) (h : Heading) (a : Statement) (vs vs' : List Val) (d j u : ℕ) (todo : List DeclNo) (left : List Kinds) (g : Option Kinds) (is : text s k ≡ Some (ProcedureText result h a)) (stands : encloser s.tables k ≡ Some u) (near : Near (see marks o) m i j) (whole : Whole s m j u) (acts : ActualsAre s (see marks o) m i d (formal_kinds s (formals_of s k)) vs) (less : length vs' < d) (gives : GivesResult s k g) (b : Begun s (see marks o) m i t todo) (hands : HandsFine s (see marks o) m i left vs') (work : Work s o marks long m i t rest top w todo (given g left)) (lasts : is_class_free s k ≡ false → list_any is_held (formals_of s k) ≡ true → Stays m i) where
     abbrev X : Text
     X = ProcedureText result h a
 
@@ -353,8 +363,8 @@ module _ (s : Source) (ok : Typed s) (l : Limits) (o : World) (marks : Marks) (l
 
     begun : Begun s V' M N k []
     begun =
-        begun_new s ok V m k (Some j) Cells Nobody X is solid (Some First) V.members V.simulations store tt (keys_alone s ok k (map key_of Cells) solid plain keys) fine
-        (inside_new s ok V m k (Some j) Cells Nobody X is solid (Some First) V.members V.simulations j u First refl stands (live_less m j whole.now whole.lives) refl (near_then V m First i j (near_same (see marks o) V m First i refl (b.works).near) (knows_near s V m store i j knows)) store whole) [] made
+        begun_new s ok V m k (Some j) Cells Nobody X is solid (Some First) V.members V.simulations store tt (keys_alone s ok k (map key_of Cells) solid plain keys) (λ class. absurd (no_class (text s k) plain class)) fine
+        (inside_new s ok V m k (Some j) Cells Nobody X is solid (Some First) V.members V.simulations j u First refl stands (live_less m j whole.now whole.lives) refl (near_then V m First i j (near_same (see marks o) V m First i refl (b.works).near) (near_same (see marks o) V m i j refl near)) store whole) [] made
         (members_more s V.members m M k (Some j) (more_new s ok V m k (Some j) Cells Nobody X is solid (Some First) V.members V.simulations) (plain_no_linkage s ok k solid plain) (plain_no_simulation s ok k solid plain) store.members)
         (simulations_more s V.simulations m M k (Some j) (more_new s ok V m k (Some j) Cells Nobody X is solid (Some First) V.members V.simulations) store.simulations (plain_no_simulation s ok k solid plain) (plain_no_process s ok k solid plain))
 
@@ -391,11 +401,11 @@ module _ (s : Source) (ok : Typed s) (l : Limits) (o : World) (marks : Marks) (l
 
 module _ (s : Source) (ok : Typed s) (l : Limits) (o : World) (marks : Marks) (long : length marks.sights ≡ length o.arrays) (m : Instances) (i t : ℕ) (rest : List Activation) (top : Operates marks.beneath marks.seat m i rest) (w : List Item) (vals : List Val) where
   -- the instances that the procedure needs are kept first
-  procedure_goes : (k line : ℕ) (result : Option TypeName) (h : Heading) (a : Statement) (vs vs' : List Val) (d j u : ℕ) (todo : List DeclNo) (left : List Kinds) (g : Option Kinds) → text s k ≡ Some (ProcedureText result h a) → encloser s.tables k ≡ Some u → Knows m i j → Whole s m j u → ActualsAre s (see marks o) m i d (formal_kinds s (formals_of s k)) vs → length vs' < d → GivesResult s k g → Begun s (see marks o) m i t todo → HandsFine s (see marks o) m i left vs' → Work s o marks long m i t rest top w todo (given g left)
+  pub procedure_goes : (k line : ℕ) (result : Option TypeName) (h : Heading) (a : Statement) (vs vs' : List Val) (d j u : ℕ) (todo : List DeclNo) (left : List Kinds) (g : Option Kinds) → text s k ≡ Some (ProcedureText result h a) → encloser s.tables k ≡ Some u → Near (see marks o) m i j → Whole s m j u → ActualsAre s (see marks o) m i d (formal_kinds s (formals_of s k)) vs → length vs' < d → GivesResult s k g → Begun s (see marks o) m i t todo → HandsFine s (see marks o) m i left vs' → Work s o marks long m i t rest top w todo (given g left)
       → Goes (IsFine s) (procedure_entered s l o m i w vs' rest k line vs j (Some (ProcedureText result h a)))
-  procedure_goes k line result h a vs vs' d j u todo left g is stands knows whole acts less gives b hands work =
+  procedure_goes k line result h a vs vs' d j u todo left g is stands near whole acts less gives b hands work =
       subst (λ z. Goes (IsFine s) (having (filled_behind result vs first) o (λ c. entering l line (words_of_cells first) o (λ q. in_instance s (handed_over z (arrays_by_value (formals_of s k) vs) q) n k (Some j) c (λ now. Do (Exec a) ∷ EndProcedure (has_result result) ∷ []) (Below vs'))))) (y.same).count
-      (enters_procedure s ok l o marks long n i t rest (operates_on marks.beneath marks.seat m n i rest y.same top) w vals k line result h a vs vs' d j u todo left g is stands (knows_later s v m v n All y.later i j tt knows) (present_later s v m v n All y.later j u [] tt whole)
+      (enters_procedure s ok l o marks long n i t rest (operates_on marks.beneath marks.seat m n i rest y.same top) w vals k line result h a vs vs' d j u todo left g is stands ((y.later).nears i j tt near) (present_later s v m v n All y.later j u [] tt whole)
       (actuals_later s v m v n y.later i (λ z e x c deep f. f) (formal_kinds s (formals_of s k)) vs d acts) less gives
       (record { store = y.store; here = present_later s v m v n All y.later i t todo tt b.here; own = own_later s v m v n All y.later i t todo tt b.here ∙ b.own; works = works })
       (hands_later s v m v n All y.later i tt left vs' (λ e x c deep f. f) hands)
@@ -436,7 +446,7 @@ module _ (s : Source) (ok : Typed s) (l : Limits) (o : World) (marks : Marks) (l
       link_is s ok l o marks long m i t rest top w vals c.around v (λ j. when (is_live m j) o (procedure_entered s l o m i w vs rest k line r.values j (text s k))) here (λ j near whole.
       whens (IsFine s) (is_live m j) o (procedure_entered s l o m i w vs rest k line r.values j (text s k)) (lives_is s ok l o marks long m i t rest top w vals j whole.now whole.lives)
       (subst (λ z. Goes (IsFine s) (procedure_entered s l o m i w vs rest k line r.values j z)) (sym q.is)
-      (procedure_goes k line q.result q.heading q.body r.values vs (length r.rest) j c.around todo c.left c.gives q.is q.stands_in near whole r.fine (below_top r.rest v vs same) c.result b more (subst (λ z. Work s o marks long m i t rest top w todo z) c.out work))))))))
+      (procedure_goes k line q.result q.heading q.body r.values vs (length r.rest) j c.around todo c.left c.gives q.is q.stands_in (knows_near s (see marks o) m b.store i j near) whole r.fine (below_top r.rest v vs same) c.result b more (subst (λ z. Work s o marks long m i t rest top w todo z) c.out work))))))))
     where
       next : List Val → List Val → Run Configuration
       next values vals = popping vals o (λ v vals. having (instance_in v) o (λ j. when (is_live m j) o (procedure_entered s l o m i w vals rest k line values j (text s k))))

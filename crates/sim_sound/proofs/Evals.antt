@@ -7,22 +7,27 @@ use Rattle.sim_scope.specs.Source.{Source, block_of}
 use Rattle.sim_values.specs.declared.kind.Kind.TheVariants as kind
 use Rattle.sim_code.specs.Instances.{CellPlace, ImagePlace}
 use Rattle.sim_code.specs.Outcome.{World}
-use Rattle.std.specs.Prelude.{◌+◌, if◌then◌else◌}
+use Rattle.std.specs.Prelude.{◌+◌, if◌then◌else◌, ◌==◌, Bool}
 use Rattle.sim_meaning.specs.Attributes.{attribute_formals}
 use Rattle.sim_meaning.specs.Entries.{formals_of}
 use Rattle.sim_meaning.specs.Closing.{class_parameters}
-use Rattle.sim_meaning.specs.Pending.{Actual, ActualOf, NamedOf, NamedOp, EndBlock, EndEvaluation, EndLevel, EndObject, EndPrefixed, EndProcedure, EndProgram, evaluates, is_evaluation, owner, SetOf, SetOp, ProcessOf, ProcessOp, SimulationOf, SimulationOp, Activation, Address, AttributeOf, AttributeOp, CallOf, CallOp, Cell, cell, Configuration, CopyOf, CopyOp, Do, Either, ElementOf, ElementOp, Eval, FetchOp, FitsOf, FitsOp, Further, Given, IfOp, ImageOf, Instances, Item, Joined, JoinOp, KeepOp, KeptOf, Link, MemberOf, MemberOp, NewOf, NewOp, NoTerm, NotNoneOf, NotNoneOp, ObjectOp, Of, One, OneOp, PlaceOf, PrefixedOp, QualifiedElementOf, QualifiedElementOp, QualifiedPlaceOf, QuaOf, QuaOp, RemoteCallOf, StandardOf, StandardOp, Term, Terms, TransferOf, TransferOp, Two, TwoOp, Unbuilt, Val, ValueAt, VirtualOf, VirtualOp, CheckOp, CallValueOp}
-use Rattle.sim_meaning.specs.Steps.{count, each, eval, go}
-use Rattle.sim_sound.specs.Held.{ByName, ArrayOf, Refers, Simply}
+use Rattle.sim_meaning.specs.Pending.{Actual, ActualOf, NamedOf, NamedOp, EndBlock, EndEvaluation, EndLevel, EndObject, EndPrefixed, EndProcedure, EndProgram, evaluates, is_evaluation, owner, SetOf, SetOp, ProcessOf, ProcessOp, SimulationOf, SimulationOp, Activation, Address, AttributeOf, AttributeOp, CallOf, CallOp, Cell, cell, Configuration, CopyOf, CopyOp, Do, Either, ElementOf, ElementOp, Eval, FetchOp, FitsOf, FitsOp, Further, Given, IfOp, ImageOf, Instances, Item, Joined, JoinOp, KeepOp, KeptOf, Link, MemberOf, MemberOp, NewOf, NewOp, NoTerm, NotNoneOf, NotNoneOp, ObjectOp, Of, One, OneOp, PlaceOf, PrefixedOp, QualifiedElementOf, QualifiedElementOp, QualifiedPlaceOf, QuaOf, QuaOp, RemoteCallOf, StandardOf, StandardOp, Term, Terms, TransferOf, TransferOp, Two, TwoOp, Unbuilt, Val, ValueAt, VirtualOp, CheckOp, CallValueOp, CheckedOf, MatchOf, OriginOf, OriginOp, ProcedureOf, RemoteProcedureOf, ProcedureOp}
+use Rattle.sim_meaning.specs.Steps.{count, each, eval, go, count_of, parameters}
+use Rattle.sim_sound.specs.Held.{ByName, ArrayOf, Refers, Simply, Procedure, Place}
 use Rattle.sim_sound.specs.Typed.{Typed}
 use Rattle.sim_sound.proofs.Cells.{target_lies, cell_found}
-use Rattle.sim_sound.proofs.Lifts.{Goes, had}
+use Rattle.sim_sound.proofs.Lifts.{Goes, had, whens}
 use Rattle.sim_sound.proofs.Fitting.{plain_val, val_fits}
 use Rattle.sim_sound.proofs.Moves.{placed_as}
 use Rattle.sim_sound.proofs.Running.{Begun, ChainFine, Fine, Operates, WorkFine, footing, idle, idle_work, runs, seat_on}
-use Rattle.sim_sound.proofs.Sound.{PrefixedAt, set_operands, GivesResult, IntegersFine, OperandsFine, Site, TermFine, TermsFine, class_kinds, component_kind, formal_kinds, given, integers, onto, pushed, simple}
-use Rattle.sim_sound.proofs.Values.{Near, Stands, at_itself, near_below, AllArrays, ObjectIn, AddressOf, Copied, HandsFine, ImageAddress, Kinds, Lasting, LinkTo, Marks, ProcedureIn, ReferenceAddress, Value, Waits, see, MatchFor}
+use Rattle.sim_sound.proofs.Sound.{PrefixedAt, set_operands, GivesResult, IntegersFine, OperandsFine, Site, TermFine, TermsFine, class_kinds, component_kind, formal_kinds, given, integers, onto, pushed, simple, parameter_of, for_formals}
+use Rattle.sim_sound.proofs.Values.{Near, Stands, at_itself, near_below, AllArrays, ObjectIn, AddressOf, Copied, HandsFine, ImageAddress, Kinds, Lasting, LinkTo, Marks, ProcedureIn, ReferenceAddress, Value, Waits, see, Checked, NewObject}
 use Rattle.sim_sound.proofs.Heads.{headed_as}
+use Rattle.sim_sound.specs.Expressions.{ParametersAre}
+use Rattle.sim_sound.proofs.Lists.{equal_numbers}
+use Rattle.sim_tree.specs.Syntax.{Expression, Expressions, NoMore, Then}
+use Rattle.sim_scope.specs.declared.types.SimType.{SimType}
+use Rattle.sim_code.specs.Events.{when}
 
 -- the last item of pending work is that of its seat
 pub idle_evaluates : (n : ℕ) → 0 < n → evaluates (idle_work n) ≡ true
@@ -164,6 +169,18 @@ module _ (s : Source) (o : World) (g : Marks) (long : length g.sights ≡ length
         work,
       )
 
+  -- the actual parameters of a procedure that conforms to them, from the one of a number
+  parameters_work : (es : Expressions) (q : Option SimType) (ks : List Kinds) (line : ℕ) (todo : List DeclNo) (w : List Item) (from : Place) → Stands s m i from → (n : ℕ) (more : Expressions) → ((k : ℕ) (e : Expression) → parameter_of k more ≡ Some e → parameter_of (n + k) es ≡ Some e) → ParametersAre s from more → Work w todo (for_formals (n + count_of more) (Checked es q ∷ ks)) → Work (parameters n line more w) todo (for_formals n (Checked es q ∷ ks))
+  parameters_work es q ks line todo w from at n NoMore all typed work = let same : n + 0 ≡ n = omega arith in subst (λ z. Work w todo (for_formals z (Checked es q ∷ ks))) same work
+  parameters_work es q ks line todo w from at n (Then e more) all typed work =
+      let same : n + suc (count_of more) ≡ suc n + count_of more = omega arith in
+      let here : n + 0 ≡ n = omega arith in (
+        todo,
+        for_formals (suc n) (Checked es q ∷ ks),
+        (record { actuals = es; result = q; left = ks; is = ap (λ z. parameter_of z es) (sym here) ∙ all 0 e refl; from = from; stands = at; typed = (typed.0, typed.1); «in» = refl; out = refl }, refl),
+        parameters_work es q ks line todo w from at (suc n) more (λ k x is. let further : suc n + k ≡ n + suc k = omega arith in ap (λ z. parameter_of z es) further ∙ all (suc k) x is) typed.2 (subst (λ z. Work w todo (for_formals z (Checked es q ∷ ks))) same work),
+      )
+
   pub eval_goes : Typed s → (x : Term) (r : Option Kinds) (w : List Item) (vals : List Val) (todo : List DeclNo) (ks : List Kinds) → Begun s (see g o) m i t todo → Hands ks vals → TermFine s m i t todo x r → Work w todo (given r ks) → Goes (IsFine s) (eval o m i w vals rest x)
   eval_goes ok (Given p) r w vals todo ks b h a work =
       goes_on w (Of p ∷ vals) todo (Value a.0 ∷ ks) b (plain_val s (see g o) m i a.0 p a.2, h) (subst (λ z. Work w todo (given z ks)) (sym a.1) work)
@@ -249,7 +266,7 @@ module _ (s : Source) (o : World) (g : Marks) (long : length g.sights ≡ length
       goes_on (each ts (Do (NewOp k (count ts) line) ∷ w)) (Link e ∷ vals) todo (LinkTo a.around ∷ ks) b ((a.near, a.whole), h)
       (each_fine ts (class_kinds s (class_parameters s (Some k))) (Do (NewOp k (count ts) line) ∷ w) todo (LinkTo a.around ∷ ks) a.actuals (
         todo,
-        Value a.holds ∷ ks,
+        a.kinds ∷ ks,
         (
           record {
             around = a.around;
@@ -257,8 +274,8 @@ module _ (s : Source) (o : World) (g : Marks) (long : length g.sights ≡ length
             left = ks;
             «in» = refl;
             count = many ts (class_kinds s (class_parameters s (Some k))) todo a.actuals ∙ class_many (class_parameters s (Some k));
-            holds = a.holds;
-            fits = a.fits;
+            kinds = a.kinds;
+            made = a.made;
             out = refl;
           },
           refl,
@@ -352,21 +369,55 @@ module _ (s : Source) (o : World) (g : Marks) (long : length g.sights ≡ length
       goes_on (each ts (Do (SimulationOp name line) ∷ w)) (Link e ∷ vals) todo (LinkTo (block_of s y.declaration) ∷ ks) b ((c.near, c.whole), h)
       (each_fine ts (formal_kinds s (attribute_formals y.parameter)) (Do (SimulationOp name line) ∷ w) todo (LinkTo (block_of s y.declaration) ∷ ks) a.5
       (todo, given r ks, (y, a.1, ks, a.2, c.simulates, refl, ap (λ z. given z ks) (sym a.3), refl), work))
-  eval_goes ok (VirtualOf x v n line) r w vals todo ks b h a work =
-      goes_on (Do (Eval x) ∷ Do (VirtualOp v line) ∷ Do (CheckOp n line) ∷ Do (CallValueOp line) ∷ w) vals todo ks b h (
+  eval_goes ok (OriginOf k token line x) r w vals todo ks b h a work =
+      goes_on (Do (Eval x) ∷ Do (OriginOp k token line) ∷ w) vals todo ks b h (
+        todo,
+        NewObject k ∷ ks,
+        (Some (NewObject k), a.3, refl, refl),
+        (todo, given r ks, (a.0, ks, a.1, refl, ap (λ z. given z ks) (sym a.2), refl), work),
+      )
+  -- procedures as values, and their calls
+  eval_goes ok (ProcedureOf e k) r w vals todo ks b h a work =
+      let q = a.4 in
+      goes_on (Do (ProcedureOp k) ∷ w) (Link e ∷ vals) todo (LinkTo a.0 ∷ ks) b ((a.1, a.2), h)
+      (todo, given r ks, (a.0, Value (Procedure q.0), ks, a.3, (q.0, q.1, refl), refl, ap (λ z. given z ks) (sym q.2), refl), work)
+  eval_goes ok (RemoteProcedureOf x k line) r w vals todo ks b h a work =
+      let q = a.5 in
+      goes_on (Do (Eval x) ∷ Do (ObjectOp k line) ∷ Do (ProcedureOp k) ∷ w) vals todo ks b h (
+        todo,
+        Value (Refers a.0) ∷ ks,
+        (Some (Value (Refers a.0)), a.6, refl, refl),
+        (
+          todo,
+          LinkTo a.1 ∷ ks,
+          (a.0, a.1, ks, a.2, a.3, (a.4).stands_in, refl, refl, refl),
+          (todo, given r ks, (a.1, Value (Procedure q.0), ks, a.4, (q.0, q.1, refl), refl, ap (λ z. given z ks) (sym q.2), refl), work),
+        ),
+      )
+  eval_goes ok (MatchOf x v line) r w vals todo ks b h a work =
+      goes_on (Do (Eval x) ∷ Do (VirtualOp v line) ∷ w) vals todo ks b h (
         todo,
         Value (Refers a.0) ∷ ks,
         (Some (Value (Refers a.0)), a.4, refl, refl),
+        (todo, given r ks, (a.0, a.1, ks, a.2, refl, ap (λ z. given z ks) (sym a.3), refl), work),
+      )
+  eval_goes ok (CheckedOf x leaves home es line) r w vals todo ks b h a work =
+      whens (IsFine s) (home == i) o (go o m i (Do (Eval x) ∷ Do (CheckOp es line) ∷ parameters 0 line es (Do (CallValueOp (count_of es) leaves line) ∷ w)) vals rest) (equal_numbers home i a.5)
+      (goes_on (Do (Eval x) ∷ Do (CheckOp es line) ∷ parameters 0 line es (Do (CallValueOp (count_of es) leaves line) ∷ w)) vals todo ks b h (
+        todo,
+        Value (Procedure a.0) ∷ ks,
+        (Some (Value (Procedure a.0)), a.6, refl, refl),
         (
           todo,
-          MatchFor a.1 ∷ ks,
-          (a.0, a.1, ks, a.2, refl, refl, refl),
-          (todo, MatchFor a.1 ∷ ks, (a.1, ks, refl, refl, refl), (todo, given r ks, (a.1, ks, refl, ap (λ z. given z ks) (sym a.3), refl), work)),
+          Checked es a.0 ∷ ks,
+          (a.0, ks, a.7, a.8, a.9, refl, refl, refl),
+          parameters_work es a.0 ks line todo (Do (CallValueOp (count_of es) leaves line) ∷ w) a.7 a.8 0 es (λ k e is. let same : 0 + k ≡ k = omega arith in ap (λ z. parameter_of z es) same ∙ is) a.9
+              (todo, given r ks, (es, a.0, a.1, ks, a.2, a.4, refl, (let same : 0 + count_of es ≡ count_of es = omega arith in ap (λ z. for_formals z (Checked es a.0 ∷ ks)) same), ap (λ z. given z ks) (sym a.3), refl), work),
         ),
-      )
+      ))
   -- parameters by name
-  eval_goes ok (ActualOf home e) r w vals todo ks b h a work =
-      goes_on w (Actual home e ∷ vals) todo (Value (ByName a.0) ∷ ks) b (record { near = subst (λ z. Near (see g o) m i z) (sym a.2) (near_below at_itself); from = a.1; stands = subst (λ z. Stands s m z a.1) (sym a.2) a.4; typed = a.5 }, h)
+  eval_goes ok (ActualOf home p e) r w vals todo ks b h a work =
+      goes_on w (Actual home p e ∷ vals) todo (Value (ByName a.0) ∷ ks) b (record { near = subst (λ z. Near (see g o) m i z) (sym a.2) (near_below at_itself); from = a.1; stands = subst (λ z. Stands s m z a.1) (sym a.2) a.4; typed = a.5 }, h)
       (subst (λ z. Work w todo (given z ks)) (sym a.3) work)
   eval_goes ok (NamedOf e key wanted) r w vals todo ks b h a work =
       goes_on (Do (NamedOp e key wanted) ∷ w) vals todo ks b h (todo, a.1 ∷ ks, (a.0, a.1, a.2, a.4, refl, refl), subst (λ z. Work w todo (given z ks)) (sym a.3) work)

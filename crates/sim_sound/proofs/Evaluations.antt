@@ -12,11 +12,11 @@ use Rattle.sim_code.specs.Instances as instances
 use Rattle.sim_code.specs.Outcome.{Run, World}
 use Rattle.sim_meaning.specs.Closing.{by_name, is_placed, typed_token}
 use Rattle.sim_meaning.specs.Levels.{qualification}
-use Rattle.sim_meaning.specs.Meaning.{do_op}
-use Rattle.sim_meaning.specs.Pending.{Activation, Actual, Address, ArrayValue, CloseOp, Configuration, Do, EndEvaluation, Instances, Item, Key, Link, NamedOp, Of, ProcedureValue, Use, Val, actual_in, cell, owner}
+use Rattle.sim_meaning.specs.Meaning.{do_op, formal_in_hand}
+use Rattle.sim_meaning.specs.Pending.{Activation, Actual, Address, ArrayValue, CloseOp, Configuration, Do, EndEvaluation, Instances, Item, Key, Link, NamedOp, Of, ProcedureValue, Use, Val, actual_in, cell, owner, ForParameter, ForPlace, ForValue, Passing}
 use Rattle.sim_meaning.specs.Steps.{go}
-use Rattle.sim_sound.specs.Held.{ByName, Place}
-use Rattle.sim_sound.specs.Expressions.{ActualIs, ActualPassed, ExprIs, PlaceIs}
+use Rattle.sim_sound.specs.Held.{ByName, Place, ArrayOf, Holds, Procedure, Refers, Simply}
+use Rattle.sim_sound.specs.Expressions.{ActualIs, ActualPassed, ExprIs, PlaceIs, NamedIs}
 use Rattle.sim_sound.specs.Typed.{Typed}
 use Rattle.sim_sound.proofs.Cells.{cell_found}
 use Rattle.sim_sound.proofs.Chains.{evaluation_lower}
@@ -26,22 +26,48 @@ use Rattle.sim_sound.proofs.Heads.{headed_as, headed_with, headed_without}
 use Rattle.sim_sound.proofs.Lifts.{Goes, had, ran, ticked, whens}
 use Rattle.sim_sound.proofs.Moves.{near_then, placed_as, placed_with, placed_without}
 use Rattle.sim_sound.proofs.Prefixes.{same_level}
-use Rattle.sim_sound.proofs.Running.{Begun, ChainFine, Operates, footing, idle, runs, seat_on}
-use Rattle.sim_sound.proofs.Sound.{Gets, Gives, OpFine, actual_gives, actual_gives_by, place_gives}
-use Rattle.sim_sound.proofs.Values.{ActualFine, DeepFine, HandsFine, Kinds, Marks, Near, Present, Seat, Stands, Takes, ValFine, at_seat, in_bound, in_text, own_text, see}
+use Rattle.sim_sound.proofs.Running.{Begun, ChainFine, Operates, footing, idle, runs, seat_on, Serves}
+use Rattle.sim_sound.proofs.Sound.{Gets, Gives, OpFine, actual_gives, actual_gives_by, place_gives, GivesKind}
+use Rattle.sim_sound.proofs.Values.{ActualFine, DeepFine, HandsFine, Kinds, Marks, Near, Present, Seat, Stands, Takes, ValFine, at_seat, in_bound, in_text, own_text, see, ForFormal, Passes, Waits}
+use Rattle.sim_scope.specs.declared.types.Formal.{Formal}
 
--- what a closed actual gives is of its kind
-pub actual_given : (s : Source) (from : Place) (e : Expression) (k : Kind) → ActualIs s from e k → Gives k (actual_gives s e k)
-actual_given s from e k a = by_flag (is_placed s e) a
+-- what a closed actual gives is of what it means
+value_given_so : (s : Source) (from : Place) (e : Expression) (k : Kind) → NamedIs s from e k → GivesKind k (actual_gives s false e (Simply k))
+value_given_so s from e k a = by_flag (is_placed s e) a
   where
-    by_class : (class : Option ℕ) (formal : Option DeclNo) → ActualPassed true class (ExprIs s from e) (PlaceIs s from e) k → Gives k (place_gives k class formal)
+    by_class : (class : Option ℕ) (formal : Option DeclNo) → ActualPassed true class (ExprIs s from e) (PlaceIs s from e) k → GivesKind k (place_gives k class formal)
     by_class class (Some d) a = refl
     by_class None None a = (refl, a.0)
     by_class (Some c) None a = a.0
 
-    by_flag : (b : Bool) → ActualPassed b (qualification s (type_at s (typed_token e))) (ExprIs s from e) (PlaceIs s from e) k → Gives k (actual_gives_by b s e k)
+    by_flag : (b : Bool) → ActualPassed b (qualification s (type_at s (typed_token e))) (ExprIs s from e) (PlaceIs s from e) k → GivesKind k (actual_gives_by b s e k)
     by_flag true a = by_class (qualification s (type_at s (typed_token e))) (by_name s e) a
     by_flag false a = refl
+
+pub actual_given : (s : Source) (from : Place) (p : Bool) (e : Expression) (h : Holds) → ActualIs s from p e h → Gives h (actual_gives s p e h)
+actual_given s from false e (Simply k) a = value_given_so s from e k a
+actual_given s from false e (ArrayOf h) a = refl
+actual_given s from true e (Procedure r) a = refl
+actual_given s from true e (Simply k) a = absurd a
+actual_given s from true e (Refers c) a = absurd a
+actual_given s from true e (ArrayOf h) a = absurd a
+actual_given s from true e (ByName h) a = absurd a
+actual_given s from false e (Refers c) a = absurd a
+actual_given s from false e (Procedure r) a = absurd a
+actual_given s from false e (ByName h) a = absurd a
+
+-- no use asks for what is passed for a formal parameter
+no_passing : (s : Source) (h : Holds) (number line : ℕ) (x : Kinds) → Gets s h (ForParameter number line) x → ⊥
+no_passing s (Simply k) number line x a = a
+no_passing s (Refers c) number line x a = a
+no_passing s (ArrayOf h) number line x a = a
+no_passing s (Procedure r) number line x a = a
+no_passing s (ByName h) number line x a = a
+
+use_serves : (s : Source) (Below : Waits → Type 0) (h : Holds) (wanted : Use) (y x : Kinds) → Gives h y → Gets s h wanted x → Below (Takes (Some x)) → Serves s Below wanted y
+use_serves s Below h (ForValue class line) y x gives gets below = (h, gives, x, gets, below)
+use_serves s Below h (ForPlace value_too line) y x gives gets below = (h, gives, x, gets, below)
+use_serves s Below h (ForParameter number line) y x gives gets below = absurd (no_passing s h number line x gets)
 
 -- an instance for which an expression stands, with its own text
 pub record Home (s : Source) (m : Instances) (home : ℕ) : Type 0 where
@@ -57,12 +83,12 @@ home_of_stands s m home _ (in_bound {todo = todo} p own at ready solid) = record
 module _ (s : Source) (ok : Typed s) (l : Limits) (o : World) (g : Marks) (long : length g.sights ≡ length o.arrays) (m : Instances) (i t : ℕ) (rest : List Activation) (top : Operates g.beneath g.seat m i rest) (w : List Item) (vals : List Val) (todo : List DeclNo) (ks : List Kinds) (b : Begun s (see g o) m i t todo) (h : HandsFine s (see g o) m i ks vals) where
   -- ---- it begins
 
-  module _ (k : Kind) (wanted : Use) (x : Kinds) (gets : Gets s k wanted x) (work : Work s o g long m i t rest top w todo (x ∷ ks)) (home : ℕ) (e : Expression) (f : ActualFine s (see g o) m i k home e) where
+  module _ (xs : List Kinds) (work : Work s o g long m i t rest top w todo xs) (means : Holds) (wanted : Use) (home : ℕ) (p : Bool) (e : Expression) (f : ActualFine s (see g o) m i means home p e) where
     abbrev Asks : Activation
     Asks = record { instance = i; work = w; values = vals }
 
     abbrev Evaluates : Activation
-    Evaluates = record { instance = home; work = Do (CloseOp e) ∷ EndEvaluation wanted ∷ []; values = [] }
+    Evaluates = record { instance = home; work = Do (CloseOp p e) ∷ EndEvaluation wanted ∷ []; values = [] }
 
     abbrev its : Home s m home
     its = home_of_stands s m home f.from f.stands
@@ -71,52 +97,66 @@ module _ (s : Source) (ok : Typed s) (l : Limits) (o : World) (g : Marks) (long 
     seat = record { owner = (g.seat).owner; evaluations = suc (g.seat).evaluations; lower = i }
 
     asks_seated : seat_on (owner Asks) (footing None rest) ≡ Some g.seat
-    asks_seated = ap (λ u. seat_on u (footing None rest)) (work_owner s o g long m i t rest top w vals todo (x ∷ ks) work) ∙ top.seated
+    asks_seated = ap (λ u. seat_on u (footing None rest)) (work_owner s o g long m i t rest top w vals todo xs work) ∙ top.seated
 
-    evaluation_fine : ChainFine s (see g o) m (Evaluates ∷ Asks ∷ rest) (Takes None)
-    evaluation_fine = record {
-      of_text = (its).of_text;
-      todo = (its).todo;
-      here = (its).here;
-      own = (its).own;
-      stands_on = λ j is. absurd (cc);
-      seat = seat;
-      seated = ap (λ y. Rattle.sim_sound.proofs.Running.evaluation_seat y (Some i)) asks_seated;
-      works = record { near = near_then (see g o) m (g.seat).owner i home (b.works).near f.near; through = (b.works).near; lower = f.near };
-      vals = [];
-      shown = refl;
-      kinds = [];
-      hands = tt;
-      expected = [];
-      expects = refl;
-      goes = (
-        (its).todo,
-        actual_gives s e k ∷ [],
-        (k, f.from, f.stands, f.typed, refl, refl),
-        (refl, omega arith, k, actual_gives s e k, actual_given s f.from e k f.typed, refl, x, gets, waits_on s ok l o g long m i t rest top w vals vals todo ks (Some x) b h work),
-      );
-    }
+    module _ (serves : Serves s (λ v. ChainFine s (see g o) m (Asks ∷ rest) v) wanted (actual_gives s p e means)) where
+      evaluation_fine : ChainFine s (see g o) m (Evaluates ∷ Asks ∷ rest) (Takes None)
+      evaluation_fine = record {
+        of_text = (its).of_text;
+        todo = (its).todo;
+        here = (its).here;
+        own = (its).own;
+        stands_on = λ j is. absurd (cc);
+        seat = seat;
+        seated = ap (λ y. Rattle.sim_sound.proofs.Running.evaluation_seat y (Some i)) asks_seated;
+        works = record { near = near_then (see g o) m (g.seat).owner i home (b.works).near f.near; through = (b.works).near; lower = f.near };
+        vals = [];
+        shown = refl;
+        kinds = [];
+        hands = tt;
+        expected = [];
+        expects = refl;
+        goes = (
+          (its).todo,
+          actual_gives s p e means ∷ [],
+          (means, f.from, f.stands, f.typed, refl, refl),
+          (refl, omega arith, actual_gives s p e means, refl, serves),
+        );
+      }
 
-    begins : (t' w' : ℕ) → IsFine s (ran o t' w') (record { chain = Evaluates ∷ Asks ∷ rest; memory = m })
-    begins t' w' =
-        (g, long, runs b.store (placed_with m Evaluates (Asks ∷ rest) refl (chain_placed s ok l o g long m i t rest top w vals todo (x ∷ ks) work vals)) (headed_with m Evaluates (Asks ∷ rest) (chain_headed s ok l o g long m i t rest top w vals todo (x ∷ ks) work vals)) evaluation_fine)
+      pub begins : (t' w' : ℕ) → IsFine s (ran o t' w') (record { chain = Evaluates ∷ Asks ∷ rest; memory = m })
+      begins t' w' =
+          (g, long, runs b.store (placed_with m Evaluates (Asks ∷ rest) refl (chain_placed s ok l o g long m i t rest top w vals todo xs work vals)) (headed_with m Evaluates (Asks ∷ rest) (chain_headed s ok l o g long m i t rest top w vals todo xs work vals)) evaluation_fine)
+
+      -- the same of the world as it is
+      pub begins_here : IsFine s o (record { chain = Evaluates ∷ Asks ∷ rest; memory = m })
+      begins_here =
+          (g, long, runs b.store (placed_with m Evaluates (Asks ∷ rest) refl (chain_placed s ok l o g long m i t rest top w vals todo xs work vals)) (headed_with m Evaluates (Asks ∷ rest) (chain_headed s ok l o g long m i t rest top w vals todo xs work vals)) evaluation_fine)
 
     lives : is_live m home ≡ true
     lives = ap instances.is_live_in (its.here).lives
+
+  -- an activation that waits for what is passed for a formal parameter of the procedure in its hand
+  pub waits_passes : (number : ℕ) (formal : Formal) → formal_in_hand s number vals ≡ Some formal → (work : Work s o g long m i t rest top w todo (ForFormal number ∷ ks)) → ChainFine s (see g o) m (record { instance = i; work = w; values = vals } ∷ rest) (Passes number formal)
+  waits_passes number formal is work =
+      let own = work_owner s o g long m i t rest top w vals todo (ForFormal number ∷ ks) work in
+      record { of_text = t; todo = todo; here = b.here; own = b.own; stands_on = λ j at. top.stands_on j (sym own ∙ at); seat = g.seat; seated = ap (λ u. seat_on u (footing None rest)) own ∙ top.seated; works = b.works; vals = vals; shown = (refl, is); kinds = ks; hands = h; expected = ForFormal number ∷ ks; expects = refl; goes = work }
 
   pub named_op : (e : ℕ) (key : Key) (wanted : Use) (todo' : List DeclNo) (behind : List Kinds) → OpFine s (see g o) m i t (NamedOp e key wanted) todo todo' ks behind → Work s o g long m i t rest top w todo' behind → Goes (IsFine s) (do_op s l o m i w vals rest (NamedOp e key wanted))
   named_op e key wanted todo' behind a work =
       let v = cell_found s ok (see g o) m i t todo e key (ByName a.0) b a.3 in
       had (IsFine s) (cell m e key) v.0 o _ v.1 (by_value v.0 v.2)
     where
-      next : ℕ × Expression → World → Run Configuration
-      next q p = when (is_live m q.0) p (go p m q.0 (Do (CloseOp q.1) ∷ EndEvaluation wanted ∷ []) [] (record { instance = i; work = w; values = vals } ∷ rest))
+      next : Passing → World → Run Configuration
+      next q p = go p m q.home (Do (CloseOp q.as_procedure q.expression) ∷ EndEvaluation wanted ∷ []) [] (record { instance = i; work = w; values = vals } ∷ rest)
 
-      by_value : (v : Val) → ValFine s (see g o) m i (ByName a.0) v → Goes (IsFine s) (having (actual_in v) o (λ q. ticking l o (next q)))
-      by_value (Actual home x) f =
+      by_value : (v : Val) → ValFine s (see g o) m i (ByName a.0) v → Goes (IsFine s) (having (actual_in v) o (λ q. when (is_live m q.home) o (ticking l o (next q))))
+      by_value (Actual home pr x) f =
           let w' = subst (λ z. Work s o g long m i t rest top w z (a.1 ∷ ks)) a.5 (subst (Work s o g long m i t rest top w todo') a.4 work) in
-          had (IsFine s) (Some (home, x)) (home, x) o (λ q. ticking l o (next q)) refl
-          (ticked (IsFine s) l o (next (home, x)) (λ t' n. whens (IsFine s) (is_live m home) (ran o t' n) (go (ran o t' n) m home (Do (CloseOp x) ∷ EndEvaluation wanted ∷ []) [] (record { instance = i; work = w; values = vals } ∷ rest)) (lives a.0 wanted a.1 a.2 w' home x f) (begins a.0 wanted a.1 a.2 w' home x f t' n)))
+          let q : Passing = record { home = home; as_procedure = pr; expression = x } in
+          had (IsFine s) (Some q) q o (λ q. when (is_live m q.home) o (ticking l o (next q))) refl
+          (whens (IsFine s) (is_live m home) o (ticking l o (next q)) (lives (a.1 ∷ ks) w' a.0 wanted home pr x f)
+          (ticked (IsFine s) l o (next q) (λ t' n. begins (a.1 ∷ ks) w' a.0 wanted home pr x f (use_serves s (λ v. ChainFine s (see g o) m (record { instance = i; work = w; values = vals } ∷ rest) v) a.0 wanted (actual_gives s pr x a.0) a.1 (actual_given s f.from pr x a.0 f.typed) a.2 (waits_on s ok l o g long m i t rest top w vals vals todo ks (Some a.1) b h w')) t' n)))
       by_value (Of z) f = absurd f
       by_value (Link z) f = absurd f
       by_value (Address z) f = absurd f
@@ -125,8 +165,8 @@ module _ (s : Source) (ok : Typed s) (l : Limits) (o : World) (g : Marks) (long 
 
 -- ---- it ends
 
-module _ (s : Source) (o : World) (g : Marks) (long : length g.sights ≡ length o.arrays) (m : Instances) (i t : ℕ) (a : Activation) (rest : List Activation) (top : Operates g.beneath g.seat m i (a ∷ rest)) (some : 0 < (g.seat).evaluations) (todo : List DeclNo) (b : Begun s (see g o) m i t todo) (x : Kinds) (c : ChainFine s (see g o) m (a ∷ rest) (Takes (Some x))) where
-  no_owner : owner (idle g.seat i) ≡ None
+module _ (s : Source) (o : World) (g : Marks) (long : length g.sights ≡ length o.arrays) (m : Instances) (i t : ℕ) (a : Activation) (rest : List Activation) (top : Operates g.beneath g.seat m i (a ∷ rest)) (some : 0 < (g.seat).evaluations) (todo : List DeclNo) (b : Begun s (see g o) m i t todo) where
+  pub no_owner : owner (idle g.seat i) ≡ None
   no_owner = ap (λ z. if z then None else Some i) (idle_evaluates (g.seat).evaluations some)
 
   -- the instance for which it worked is there for as long as that of the activation below
@@ -137,8 +177,8 @@ module _ (s : Source) (o : World) (g : Marks) (long : length g.sights ≡ length
   Goes_on v = record { instance = a.instance; work = a.work; values = v ∷ a.values }
 
   -- that gets a value, or where something lies, and goes on
-  pub goes_on_with : (v : Val) → ((d : ℕ) → DeepFine s (at_seat (see g o) c.seat) m a.instance d x v) → IsFine s o (record { chain = Goes_on v ∷ rest; memory = m })
-  goes_on_with v fine = (
+  pub goes_on_with : (x : Kinds) (c : ChainFine s (see g o) m (a ∷ rest) (Takes (Some x))) (v : Val) → ((d : List Val) → DeepFine s (at_seat (see g o) c.seat) m a.instance d x v) → IsFine s o (record { chain = Goes_on v ∷ rest; memory = m })
+  goes_on_with x c v fine = (
     g,
     long,
     runs b.store (placed_as m a (Goes_on v) rest refl (placed_without m (idle g.seat i) (a ∷ rest) no_owner top.placed)) (headed_as m a (Goes_on v) rest refl (headed_without m (idle g.seat i) (a ∷ rest) no_owner top.headed)) (record {
@@ -153,7 +193,7 @@ module _ (s : Source) (o : World) (g : Marks) (long : length g.sights ≡ length
       vals = v ∷ c.vals;
       shown = ap (λ z. v ∷ z) c.shown;
       kinds = x ∷ c.kinds;
-      hands = (fine (length c.vals), c.hands);
+      hands = (fine c.vals, c.hands);
       expected = c.expected;
       expects = c.expects;
       goes = c.goes;

@@ -21,12 +21,12 @@ use Rattle.sim_meaning.specs.Entries.{numbers_of}
 use Rattle.sim_meaning.specs.Examples.{factorial_20, for_list, sub_block, value_array}
 use Rattle.sim_meaning.specs.Levels.{qualification}
 use Rattle.sim_meaning.specs.TextExamples.{parts}
-use Rattle.sim_meaning.specs.Texts.{StandardText, Text}
+use Rattle.sim_meaning.specs.Texts.{StandardText, Text, kind_of_type}
 use Rattle.sim_scope.specs.Levels.{has_level, is_simulation_block, some_level_of}
 use Rattle.sim_scope.specs.Source.{found_at}
 use Rattle.sim_meaning.specs.Attributes.{connection_at, transfer_at, own_attribute}
 use Rattle.sim_meaning.specs.Closing.{by_name, is_attribute, result_meant}
-use Rattle.sim_sound.specs.Held.{ByName, formal_holds, held_by, reference_to, Among, ArrayOf, Holds, Simply, entry_holds, first, from_around, further, itself, later}
+use Rattle.sim_sound.specs.Held.{ByName, formal_holds, held_by, reference_to, Among, ArrayOf, Holds, Simply, entry_holds, first, from_around, further, itself, later, Procedure}
 use Rattle.sim_sound.specs.Typed.{ProcedureThere, TextTyped, Typed, as_block}
 use Rattle.std.specs.Fmt.{digits}
 use Rattle.sim_code.specs.Arrays.{element_place, making_array, copying_array, keeping_array, finding_element, giving_back, handed_over}
@@ -104,56 +104,73 @@ integer_apart e = cc
 pub text_apart : kind.Text ≡ kind.Reference → ⊥
 text_apart e = cc
 
--- no parameter by name
-abbrev NotNamed : Mode → Type 0
-NotNamed mode.ByName = ⊥
-NotNamed _ = Unit {0}
+-- no parameter by name, and none that is a procedure
+abbrev NotNamed : Mode → FormalKind → Type 0
+NotNamed mode.ByName g = ⊥
+NotNamed mode.ByValue shape.Procedure = ⊥
+NotNamed mode.ByReference shape.Procedure = ⊥
+NotNamed _ _ = Unit {0}
 
 abbrev NoName : Option Entry → Type 0
-NoName (Some (entry.Formal f)) = NotNamed f.mode
+NoName (Some (entry.Formal f)) = NotNamed f.mode f.kind
 NoName _ = Unit {0}
 
 abbrev pub NoneNamed : Source → List DeclNo → Type 0
 NoneNamed s [] = Unit {0}
 NoneNamed s (d ∷ ds) = NoName (entry_of s.tables d) × NoneNamed s ds
 
-reference_no_name : (c : Option ℕ) (k : Kind) → Some (reference_to c) ≡ Some (ByName k) → ⊥
-reference_no_name None k e = cc
-reference_no_name (Some c) k e = cc
+-- what is held then is a value or an array
+abbrev OtherHeld : Holds → Type 0
+OtherHeld (ByName k) = ⊥
+OtherHeld (Procedure r) = ⊥
+OtherHeld _ = Unit {0}
 
-held_no_name : (s : Source) (ty : SimType) (k : Kind) → Some (held_by s ty) ≡ Some (ByName k) → ⊥
-held_no_name s (sim_type.Ref d) k e = reference_no_name (qualification s (Some (sim_type.Ref d))) k e
-held_no_name s sim_type.Integer k e = cc
-held_no_name s sim_type.Boolean k e = cc
-held_no_name s sim_type.Character k e = cc
-held_no_name s sim_type.Text k e = cc
-held_no_name s sim_type.NoneType k e = cc
+reference_other : (c : Option ℕ) → OtherHeld (reference_to c)
+reference_other None = tt
+reference_other (Some c) = tt
 
-formal_no_name : (s : Source) (f : Mode) (g : FormalKind) (ty : Option SimType) (k : Kind) → NotNamed f → formal_holds s f g ty ≡ Some (ByName k) → ⊥
-formal_no_name s mode.ByName g ty k a e = a
-formal_no_name s mode.ByValue shape.Simple (Some ty) k a e = held_no_name s ty k e
-formal_no_name s mode.ByReference shape.Simple (Some ty) k a e = held_no_name s ty k e
-formal_no_name s mode.ByValue shape.Array (Some ty) k a e = cc
-formal_no_name s mode.ByReference shape.Array (Some ty) k a e = cc
-formal_no_name s mode.ByValue shape.Simple None k a e = cc
-formal_no_name s mode.ByReference shape.Simple None k a e = cc
-formal_no_name s mode.ByValue shape.Array None k a e = cc
-formal_no_name s mode.ByReference shape.Array None k a e = cc
-formal_no_name s mode.ByValue shape.Procedure ty k a e = cc
-formal_no_name s mode.ByReference shape.Procedure ty k a e = cc
+held_other : (s : Source) (ty : SimType) → OtherHeld (held_by s ty)
+held_other s (sim_type.Ref d) = reference_other (qualification s (Some (sim_type.Ref d)))
+held_other s sim_type.Integer = tt
+held_other s sim_type.Boolean = tt
+held_other s sim_type.Character = tt
+held_other s sim_type.Text = tt
+held_other s sim_type.NoneType = tt
 
-entry_no_name : (s : Source) (x : Option Entry) (k : Kind) → NoName x → entry_holds s true x ≡ Some (ByName k) → ⊥
-entry_no_name s (Some (entry.Variable ty)) k a e = held_no_name s ty k e
-entry_no_name s (Some (entry.Constant ty)) k a e = cc
-entry_no_name s (Some (entry.Array ty n)) k a e = cc
-entry_no_name s (Some (entry.Formal f)) k a e = formal_no_name s f.mode f.kind f.ty k a e
-entry_no_name s None k a e = cc
-entry_no_name s (Some _) k a e = cc
+same_other : (h k : Holds) → OtherHeld h → Some h ≡ Some k → OtherHeld k
+same_other h k a e = let same : h ≡ k = cc in subst OtherHeld same a
 
-pub none_named : (s : Source) (d : DeclNo) (k : Kind) (ds : List DeclNo) → NoneNamed s ds → Among d ds → entry_holds s true (entry_of s.tables d) ≡ Some (ByName k) → ⊥
-none_named s d k [] a among e = none_among d among
-none_named s _ k (d ∷ ds) a first e = entry_no_name s (entry_of s.tables d) k a.0 e
-none_named s d k (x ∷ ds) a (later b) e = none_named s d k ds a.1 b e
+formal_other : (s : Source) (f : Mode) (g : FormalKind) (ty : Option SimType) (k : Holds) → NotNamed f g → formal_holds s f g ty ≡ Some k → OtherHeld k
+formal_other s mode.ByName g ty k a e = absurd a
+formal_other s mode.ByValue shape.Simple (Some ty) k a e = same_other (held_by s ty) k (held_other s ty) e
+formal_other s mode.ByReference shape.Simple (Some ty) k a e = same_other (held_by s ty) k (held_other s ty) e
+formal_other s mode.ByValue shape.Array (Some ty) k a e = same_other (ArrayOf (held_by s ty)) k tt e
+formal_other s mode.ByReference shape.Array (Some ty) k a e = same_other (ArrayOf (held_by s ty)) k tt e
+formal_other s mode.ByValue shape.Simple None k a e = absurd (cc)
+formal_other s mode.ByReference shape.Simple None k a e = absurd (cc)
+formal_other s mode.ByValue shape.Array None k a e = absurd (cc)
+formal_other s mode.ByReference shape.Array None k a e = absurd (cc)
+formal_other s mode.ByValue shape.Procedure ty k a e = absurd a
+formal_other s mode.ByReference shape.Procedure ty k a e = absurd a
+
+entry_other : (s : Source) (x : Option Entry) (k : Holds) → NoName x → entry_holds s true x ≡ Some k → OtherHeld k
+entry_other s (Some (entry.Variable ty)) k a e = same_other (held_by s ty) k (held_other s ty) e
+entry_other s (Some (entry.Constant ty)) k a e = same_other (Simply (kind_of_type ty)) k tt e
+entry_other s (Some (entry.Array ty n)) k a e = same_other (ArrayOf (held_by s ty)) k tt e
+entry_other s (Some (entry.Formal f)) k a e = formal_other s f.mode f.kind f.ty k a e
+entry_other s None k a e = absurd (cc)
+entry_other s (Some _) k a e = absurd (cc)
+
+among_other : (s : Source) (d : DeclNo) (k : Holds) (ds : List DeclNo) → NoneNamed s ds → Among d ds → entry_holds s true (entry_of s.tables d) ≡ Some k → OtherHeld k
+among_other s d k [] a among e = absurd (none_among d among)
+among_other s _ k (d ∷ ds) a first e = entry_other s (entry_of s.tables d) k a.0 e
+among_other s d k (x ∷ ds) a (later b) e = among_other s d k ds a.1 b e
+
+pub none_named : (s : Source) (d : DeclNo) (k : Holds) (ds : List DeclNo) → NoneNamed s ds → Among d ds → entry_holds s true (entry_of s.tables d) ≡ Some (ByName k) → ⊥
+none_named s d k ds a among e = among_other s d (ByName k) ds a among e
+
+pub no_procedures : (s : Source) (d : DeclNo) (r : Option SimType) (ds : List DeclNo) → NoneNamed s ds → Among d ds → entry_holds s true (entry_of s.tables d) ≡ Some (Procedure r) → ⊥
+no_procedures s d r ds a among e = among_other s d (Procedure r) ds a among e
 
 pub true_never : (b : Bool) → b ≡ false → b ≡ true → ⊥
 true_never b off on = cc
@@ -326,10 +343,11 @@ f_rows (suc zero) = first
 f_rows (suc (suc n)) = tt
 
 f_inner : TextHolds factorial_20 1 (text factorial_20 1)
-unfolding digits element_place making_array copying_array keeping_array finding_element giving_back handed_over stopping no_rule ticking taking entering having when computing choosing popping pop_many pop_plain pop_truth pop_integers pop_operands pop_text answering applying_one applying_two testing_step performing putting_back assigning making_text joining at_level kept_on pushing index level_of_machine cell_at jumping block_at own_block leaving with_result putting put_back is_text home_of first_cells leaving_of_meaning constants_of putting_of_steps back_of_steps text_constants text_constant is_variable stream_of own_result own_match is_inside text is_class_free declared_at constant_of calculate compare compare_as_texts connect same_objects same_texts two_of one_of step_test take_integer take_character take_text take_nothing row_of standard_effect default_mode mode_allowed marked type_named result_named mode_named first_of_procedure first_of_class variable_marks array_marks parameter_marks moded_marks specified_marks headed_marks procedure_marks class_marks virtual_name_marks program_marks inner_marks declaring of_segment of_mode_part of_specification of_specifier of_virtual of_heading declared_by declarations_of run_of_runs lookup shown_of_scopes encloser searched block_at_of_scopes declaration_from binding entry_of formals_of formal_of result_of source_of denoted type_at line_at level_of block_of block_around standard_name text_attribute sysin_attribute sysout_attribute signature is_real_function is_random_drawing is_file_or_layout is_environment_name undeclared program_events of_statement of_branch of_arm of_block of_whole of_class_body of_declaration accessible protects is_kind some_around_of some_around base brought_by level_shows shown_of is_detach ends_search outward virtual_of represented standard_at qualified_marks qualified_result has_level some_level_of found_at connection_at transfer_at is_attribute result_meant own_attribute
+unfolding digits element_place making_array copying_array keeping_array finding_element giving_back handed_over stopping no_rule ticking taking entering having when computing choosing popping pop_many pop_plain pop_truth pop_integers pop_operands pop_text answering applying_one applying_two testing_step performing putting_back assigning making_text joining at_level kept_on pushing index level_of_machine cell_at jumping block_at own_block leaving with_result putting put_back is_text home_of first_cells leaving_of_meaning constants_of putting_of_steps back_of_steps text_constants text_constant is_variable stream_of own_result own_match is_inside text is_class_free declared_at constant_of calculate compare compare_as_texts connect same_objects same_texts two_of one_of step_test take_integer take_character take_text take_nothing row_of standard_effect default_mode mode_allowed marked type_named result_named mode_named first_of_procedure first_of_class variable_marks array_marks parameter_marks moded_marks specified_marks headed_marks procedure_marks class_marks virtual_name_marks program_marks inner_marks declaring of_segment of_mode_part of_specification of_specifier of_virtual of_heading declared_by declarations_of run_of_runs lookup shown_of_scopes encloser searched block_at_of_scopes declaration_from binding entry_of formals_of formal_of result_of source_of denoted type_at line_at level_of block_of block_around standard_name text_attribute sysin_attribute sysout_attribute signature is_real_function is_random_drawing is_file_or_layout is_environment_name undeclared program_events of_statement of_branch of_arm of_block of_whole of_class_body of_declaration accessible protects is_kind some_around_of some_around base brought_by level_shows shown_of is_detach ends_search outward virtual_of represented standard_at qualified_marks qualified_result has_level some_level_of found_at connection_at transfer_at is_attribute result_meant own_attribute qualification
 f_inner = record {
   result = refl;
   formals = (Simply kind.Integer, refl, refl, tt);
+  near = λ around e. (tt, tt);
   body = (
     kind.Integer,
     ((integer_apart, (refl, itself)), tt),
@@ -663,8 +681,8 @@ v_rows (suc (suc zero)) = later first
 v_rows (suc (suc (suc n))) = tt
 
 v_inner : TextHolds value_array 1 (text value_array 1)
-unfolding digits element_place making_array copying_array keeping_array finding_element giving_back handed_over stopping no_rule ticking taking entering having when computing choosing popping pop_many pop_plain pop_truth pop_integers pop_operands pop_text answering applying_one applying_two testing_step performing putting_back assigning making_text joining at_level kept_on pushing index level_of_machine cell_at jumping block_at own_block leaving with_result putting put_back is_text home_of first_cells leaving_of_meaning constants_of putting_of_steps back_of_steps text_constants text_constant is_variable stream_of own_result own_match is_inside text is_class_free declared_at constant_of calculate compare compare_as_texts connect same_objects same_texts two_of one_of step_test take_integer take_character take_text take_nothing row_of standard_effect default_mode mode_allowed marked type_named result_named mode_named first_of_procedure first_of_class variable_marks array_marks parameter_marks moded_marks specified_marks headed_marks procedure_marks class_marks virtual_name_marks program_marks inner_marks declaring of_segment of_mode_part of_specification of_specifier of_virtual of_heading declared_by declarations_of run_of_runs lookup shown_of_scopes encloser searched block_at_of_scopes declaration_from binding entry_of formals_of formal_of result_of source_of denoted type_at line_at level_of block_of block_around standard_name text_attribute sysin_attribute sysout_attribute signature is_real_function is_random_drawing is_file_or_layout is_environment_name undeclared program_events of_statement of_branch of_arm of_block of_whole of_class_body of_declaration accessible protects is_kind some_around_of some_around base brought_by level_shows shown_of is_detach ends_search outward virtual_of represented standard_at qualified_marks qualified_result has_level some_level_of found_at connection_at transfer_at is_attribute result_meant own_attribute
-v_inner = record { result = tt; formals = (ArrayOf (Simply kind.Integer), refl, refl, tt); body = (kind.Integer, ((integer_apart, (refl, record { found = 1; around = itself; instance = refl; level = refl }, (refl, tt))), tt), refl) }
+unfolding digits element_place making_array copying_array keeping_array finding_element giving_back handed_over stopping no_rule ticking taking entering having when computing choosing popping pop_many pop_plain pop_truth pop_integers pop_operands pop_text answering applying_one applying_two testing_step performing putting_back assigning making_text joining at_level kept_on pushing index level_of_machine cell_at jumping block_at own_block leaving with_result putting put_back is_text home_of first_cells leaving_of_meaning constants_of putting_of_steps back_of_steps text_constants text_constant is_variable stream_of own_result own_match is_inside text is_class_free declared_at constant_of calculate compare compare_as_texts connect same_objects same_texts two_of one_of step_test take_integer take_character take_text take_nothing row_of standard_effect default_mode mode_allowed marked type_named result_named mode_named first_of_procedure first_of_class variable_marks array_marks parameter_marks moded_marks specified_marks headed_marks procedure_marks class_marks virtual_name_marks program_marks inner_marks declaring of_segment of_mode_part of_specification of_specifier of_virtual of_heading declared_by declarations_of run_of_runs lookup shown_of_scopes encloser searched block_at_of_scopes declaration_from binding entry_of formals_of formal_of result_of source_of denoted type_at line_at level_of block_of block_around standard_name text_attribute sysin_attribute sysout_attribute signature is_real_function is_random_drawing is_file_or_layout is_environment_name undeclared program_events of_statement of_branch of_arm of_block of_whole of_class_body of_declaration accessible protects is_kind some_around_of some_around base brought_by level_shows shown_of is_detach ends_search outward virtual_of represented standard_at qualified_marks qualified_result has_level some_level_of found_at connection_at transfer_at is_attribute result_meant own_attribute qualification
+v_inner = record { result = tt; formals = (ArrayOf (Simply kind.Integer), refl, refl, tt); near = λ around e. (tt, tt); body = (kind.Integer, ((integer_apart, (refl, record { found = 1; around = itself; instance = refl; level = refl }, (refl, tt))), tt), refl) }
 
 v_made : (d : DeclNo) (k : Holds) → Among d (numbers_of value_array 0) → entry_holds value_array false (entry_of value_array.tables d) ≡ Some (ArrayOf k) → Among d (number 2 ∷ [])
 unfolding digits element_place making_array copying_array keeping_array finding_element giving_back handed_over stopping no_rule ticking taking entering having when computing choosing popping pop_many pop_plain pop_truth pop_integers pop_operands pop_text answering applying_one applying_two testing_step performing putting_back assigning making_text joining at_level kept_on pushing index level_of_machine cell_at jumping block_at own_block leaving with_result putting put_back is_text home_of first_cells leaving_of_meaning constants_of putting_of_steps back_of_steps text_constants text_constant is_variable stream_of own_result own_match is_inside text is_class_free declared_at constant_of calculate compare compare_as_texts connect same_objects same_texts two_of one_of step_test take_integer take_character take_text take_nothing row_of standard_effect default_mode mode_allowed marked type_named result_named mode_named first_of_procedure first_of_class variable_marks array_marks parameter_marks moded_marks specified_marks headed_marks procedure_marks class_marks virtual_name_marks program_marks inner_marks declaring of_segment of_mode_part of_specification of_specifier of_virtual of_heading declared_by declarations_of run_of_runs lookup shown_of_scopes encloser searched block_at_of_scopes declaration_from binding entry_of formals_of formal_of result_of source_of denoted type_at line_at level_of block_of block_around standard_name text_attribute sysin_attribute sysout_attribute signature is_real_function is_random_drawing is_file_or_layout is_environment_name undeclared program_events of_statement of_branch of_arm of_block of_whole of_class_body of_declaration accessible protects is_kind some_around_of some_around base brought_by level_shows shown_of is_detach ends_search outward virtual_of represented standard_at qualified_marks qualified_result has_level some_level_of found_at connection_at transfer_at is_attribute result_meant own_attribute

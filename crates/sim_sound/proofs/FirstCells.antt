@@ -20,12 +20,12 @@ use Rattle.sim_scope.specs.declared.types.SimType.TheVariants as t
 use Rattle.sim_values.specs.declared.kind.Kind.{Kind}
 use Rattle.sim_values.specs.declared.kind.Kind.TheVariants as kind
 use Rattle.sim_meaning.specs.Levels.{has_levels, qualification}
-use Rattle.sim_sound.specs.Held.{Among, ArrayOf, ByName, Holds, IsOfKind, Refers, Simply, entry_holds, first, formal_holds, held_by, key_holds, later, reference_to, result_holds}
+use Rattle.sim_sound.specs.Held.{Among, ArrayOf, ByName, Holds, IsOfKind, Refers, Simply, entry_holds, first, formal_holds, held_by, key_holds, later, reference_to, result_holds, Procedure}
 use Rattle.sim_sound.specs.Typed.{FormalsAre, NoFormal, NoFormals, ResultWritten}
 use Rattle.sim_sound.proofs.Changes.{cell_of, equal_same}
-use Rattle.sim_sound.proofs.Later.{All, Copies, Later, deep_later}
-use Rattle.sim_sound.proofs.Sound.{formal_kinds, holds_of, in_hand, onto}
-use Rattle.sim_sound.proofs.Values.{AllArrays, CellFine, CellsFine, DeepFine, HandsFine, KeyAmong, Kinds, ValFine, first_key, key_of, later_key}
+use Rattle.sim_sound.proofs.Later.{All, Copies, Later, held_later}
+use Rattle.sim_sound.proofs.Sound.{formal_kinds, holds_of, onto}
+use Rattle.sim_sound.proofs.Values.{AllArrays, CellFine, CellsFine, HeldDeep, NotFor, by_depth, HandsFine, KeyAmong, Kinds, ValFine, first_key, key_of, later_key, in_hand}
 
 -- the first value of a kind names no object
 pub first_value : (s : Source) (o : AllArrays) (m : Instances) (j : ℕ) (k : Kind) (h : Holds) → IsOfKind h k → ValFine s o m j h (Of (initial k))
@@ -40,6 +40,7 @@ first_value s o m j kind.Boolean (Refers c) e = absurd (cc)
 first_value s o m j kind.Character (Refers c) e = absurd (cc)
 first_value s o m j kind.Text (Refers c) e = absurd (cc)
 first_value s o m j k (ArrayOf h) e = absurd e
+first_value s o m j k (Procedure r) e = absurd e
 first_value s o m j k (ByName h) e = absurd e
 
 reference_kind : (c : Option ℕ) → IsOfKind (reference_to c) kind.Reference
@@ -196,7 +197,7 @@ back (v ∷ vs) rest = back vs (v ∷ rest)
 -- values that are the actuals of formal parameters, the first one on top of so many others
 abbrev pub SomeDeep : Source → AllArrays → Instances → (j depth : ℕ) → Option Kinds → Val → Type 0
 SomeDeep s o m j d None v = ⊥
-SomeDeep s o m j d (Some x) v = DeepFine s o m j d x v
+SomeDeep s o m j d (Some x) v = HeldDeep s o m j d x v
 
 abbrev pub ActualsAre : Source → AllArrays → Instances → (j depth : ℕ) → List (Option Kinds) → List Val → Type 0
 ActualsAre s o m j d [] [] = Unit {0}
@@ -208,7 +209,7 @@ ActualsAre s o m j d (x ∷ xs) (v ∷ vs) = SomeDeep s o m j d x v × ActualsAr
 module _ (s : Source) (o : AllArrays) (m : Instances) (o' : AllArrays) (m' : Instances) (e : Later s o m o' m' All) (j : ℕ) (copies : (d : ℕ) → Copies o o' j d) where
   some_later : (d : ℕ) (x : Option Kinds) (v : Val) → SomeDeep s o m j d x v → SomeDeep s o' m' j d x v
   some_later d None v f = f
-  some_later d (Some x) v f = deep_later s o m o' m' All e j tt d (copies (suc d)) x v f
+  some_later d (Some x) v f = held_later s o m o' m' All e j tt d (copies (suc d)) x v f
 
   pub actuals_later : (xs : List (Option Kinds)) (vs : List Val) (d : ℕ) → ActualsAre s o m j d xs vs → ActualsAre s o' m' j d xs vs
   actuals_later [] [] d a = a
@@ -227,26 +228,27 @@ pub record Taken (s : Source) (o : AllArrays) (m : Instances) (i : ℕ) (hs : Li
 abbrev pub AllSome : List (Option Kinds) → Type 0
 AllSome [] = Unit {0}
 AllSome (None ∷ hs) = ⊥
-AllSome (Some h ∷ hs) = AllSome hs
+AllSome (Some h ∷ hs) = NotFor h × AllSome hs
 
 pub taken : (s : Source) (o : AllArrays) (m : Instances) (i : ℕ) (hs : List (Option Kinds)) (left : List Kinds) (vals : List Val) → AllSome hs → HandsFine s o m i (onto hs left) vals → Taken s o m i hs left vals
 taken s o m i [] left vals a h = record { values = []; rest = vals; are = refl; fine = tt; more = h; count = refl }
 taken s o m i (None ∷ hs) left vals a h = absurd a
-taken s o m i (Some x ∷ hs) left vals a h = one_more_taken (taken s o m i hs (x ∷ left) vals a h)
+taken s o m i (Some x ∷ hs) left vals a h = one_more_taken (taken s o m i hs (x ∷ left) vals a.1 h)
   where
     with_rest : (vs rest : List Val) → vals ≡ back vs rest → ActualsAre s o m i (length rest) hs vs → length vs ≡ length hs → HandsFine s o m i (x ∷ left) rest → Taken s o m i (Some x ∷ hs) left vals
     with_rest vs [] e f c h = absurd h
-    with_rest vs (v ∷ rest) e f c h = record { values = v ∷ vs; rest = rest; are = e; fine = (h.0, f); more = h.1; count = ap suc c }
+    with_rest vs (v ∷ rest) e f c h = record { values = v ∷ vs; rest = rest; are = e; fine = (by_depth s o m i rest x v a.0 h.0, f); more = h.1; count = ap suc c }
 
     one_more_taken : Taken s o m i hs (x ∷ left) vals → Taken s o m i (Some x ∷ hs) left vals
     one_more_taken t = with_rest t.values t.rest t.are t.fine t.count t.more
 
 some_first : (b : Bool) (h : Holds) (hs : List (Option Kinds)) → AllSome hs → AllSome (in_hand b (Some h) ∷ hs)
-some_first true (ArrayOf k) hs a = a
-some_first true (Simply k) hs a = a
-some_first true (Refers c) hs a = a
-some_first true (ByName k) hs a = a
-some_first false h hs a = a
+some_first true (ArrayOf k) hs a = (tt, a)
+some_first true (Simply k) hs a = (tt, a)
+some_first true (Refers c) hs a = (tt, a)
+some_first true (Procedure r) hs a = (tt, a)
+some_first true (ByName k) hs a = (tt, a)
+some_first false h hs a = (tt, a)
 
 pub formals_some : (s : Source) (ds : List DeclNo) (fs : List Formal) → FormalsAre s ds fs → AllSome (formal_kinds s fs)
 formals_some s [] [] a = tt

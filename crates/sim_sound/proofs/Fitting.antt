@@ -10,12 +10,13 @@ use Rattle.sim_values.specs.Plain.{Character, Integer, MainOf, Nothing, Object, 
 use Rattle.sim_code.specs.Instances.{Instance, live, unless_given}
 use Rattle.sim_meaning.specs.Attributes.{is_connection}
 use Rattle.sim_meaning.specs.Levels.{has_levels, is_in, process_at, process_in, stands_in, text_at, text_in, text_is_in}
-use Rattle.sim_meaning.specs.Pending.{Held, Instances, Of, Val}
+use Rattle.sim_meaning.specs.Pending.{Held, Instances, Of, ProcedureValue, Val}
 use Rattle.sim_meaning.specs.Texts.{has_class_in, is_class_free, text}
-use Rattle.sim_sound.specs.Held.{ArrayOf, ByName, Fits, Holds, Refers, Simply}
+use Rattle.sim_sound.specs.Held.{ArrayOf, ByName, Fits, Holds, Procedure, Refers, Simply, result_type}
 use Rattle.sim_sound.specs.Typed.{Typed}
 use Rattle.sim_sound.proofs.Prefixes.{LevelOf, level_has, level_has_levels, level_is, level_then}
 use Rattle.sim_sound.proofs.ProcessClasses.{process_class_is}
+use Rattle.sim_sound.proofs.Results.{results_then}
 use Rattle.sim_sound.proofs.Running.{StoreFine}
 use Rattle.sim_sound.proofs.Values.{AllArrays, IsPlain, Knows, MainIn, NamesObject, ObjectOf, PlainFine, ReferenceFine, Simulates, ValFine, Whole, own_text, staying}
 
@@ -174,6 +175,10 @@ module _ (s : Source) (ok : Typed s) (o : AllArrays) (m : Instances) (store : St
   plain_fits (Simply k) (ByName h') p e a = absurd e
   plain_fits (Refers c) (ByName h') p e a = absurd e
   plain_fits (ArrayOf h) (ByName h') p e a = absurd e
+  plain_fits (Simply k) (Procedure r) p e a = absurd e
+  plain_fits (Refers c) (Procedure r) p e a = absurd e
+  plain_fits (ArrayOf h) (Procedure r) p e a = absurd e
+  plain_fits (Procedure r) h' p e a = absurd a
   plain_fits (ByName k) h' p e a = absurd a
 
   pub val_fits : (i : ℕ) (h h' : Holds) (v : Val) → Fits s h h' → ValFine s o m i h v → ValFine s o m i h' v
@@ -189,6 +194,15 @@ module _ (s : Source) (ok : Typed s) (o : AllArrays) (m : Instances) (store : St
   val_fits i (Simply k) (ByName h') v e a = absurd e
   val_fits i (Refers c) (ByName h') v e a = absurd e
   val_fits i (ArrayOf h) (ByName h') v e a = absurd e
+  val_fits i (Simply k) (Procedure r) v e a = absurd e
+  val_fits i (Refers c) (Procedure r) v e a = absurd e
+  val_fits i (ArrayOf h) (Procedure r) v e a = absurd e
+  val_fits i (Procedure r) (Procedure r') (ProcedureValue k j) e a = record { around = a.around; near = a.near; whole = a.whole; procedure = a.procedure; gives = results_then s ok (result_type s k) r r' a.gives e }
+  val_fits i (Procedure r) (Procedure r') _ e a = absurd a
+  val_fits i (Procedure r) (Simply k) v e a = absurd e
+  val_fits i (Procedure r) (Refers u) v e a = absurd e
+  val_fits i (Procedure r) (ArrayOf h') v e a = absurd e
+  val_fits i (Procedure r) (ByName h') v e a = absurd e
   val_fits i (ByName k) h' v e a = absurd e
   val_fits i (Simply k) (Simply k') _ e a = absurd a
   val_fits i (Refers c) (Refers u) _ e a = absurd a
@@ -215,6 +229,7 @@ pub plain_val : (s : Source) (o : AllArrays) (m : Instances) (i : ℕ) (h : Hold
 plain_val s o m i (Simply k) p a = a
 plain_val s o m i (Refers c) p a = a
 plain_val s o m i (ArrayOf h) p a = absurd a
+plain_val s o m i (Procedure r) p a = absurd a
 plain_val s o m i (ByName k) p a = absurd a
 
 -- what fits in a variable may be held by one
@@ -223,6 +238,9 @@ fits_plain s (Simply k) (Simply k') e a = tt
 fits_plain s (Refers c) (Refers u) e a = tt
 fits_plain s (Refers c) (Simply k) e a = tt
 fits_plain s (ArrayOf h) h' e a = absurd a
+fits_plain s (Procedure r) h' e a = absurd a
+fits_plain s (Simply k) (Procedure r) e a = absurd e
+fits_plain s (Refers c) (Procedure r) e a = absurd e
 fits_plain s (ByName k) h' e a = absurd a
 fits_plain s (Simply k) (ByName h) e a = absurd e
 fits_plain s (Refers c) (ByName h) e a = absurd e

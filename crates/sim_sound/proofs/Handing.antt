@@ -19,14 +19,14 @@ use Rattle.sim_code.specs.Outcome.{ArrayOf as OneArray, World}
 use Rattle.sim_meaning.specs.Entries.{arrays_among, arrays_by_value, is_array_by_value, is_held, with_array_of}
 use Rattle.sim_meaning.specs.Levels.{qualification}
 use Rattle.sim_meaning.specs.Pending.{Address, ArrayValue, Instances, Link, Of, ProcedureValue, Actual, Val}
-use Rattle.sim_sound.specs.Held.{Among, ArrayOf, ByName, Holds, Refers, Simply, entry_holds, first, formal_holds, held_by, later, reference_to}
+use Rattle.sim_sound.specs.Held.{Among, ArrayOf, ByName, Holds, Refers, Simply, entry_holds, first, formal_holds, held_by, later, reference_to, Procedure}
 use Rattle.sim_sound.specs.Typed.{FormalsAre}
 use Rattle.sim_sound.proofs.Cells.{plain_anywhere, val_up}
 use Rattle.sim_sound.proofs.Changes.{ElementsFine, given_copy, given_elements, given_is, given_later, given_long, given_world, handed_copy, handed_elements, handed_is, handed_later, handed_long, handed_over_array, handed_world}
 use Rattle.sim_sound.proofs.FirstCells.{ActualsAre, SomeDeep, SomeFine, ValsFine}
 use Rattle.sim_sound.proofs.Later.{All, Later, array_seat, hand_later, later_none, later_seat, later_then, val_later}
-use Rattle.sim_sound.proofs.Sound.{class_kinds, formal_kinds, holds_of, in_hand, kept_kinds}
-use Rattle.sim_sound.proofs.Values.{ObjectIn, AddressOf, AllArrays, Component, Copied, CopyFine, DeepFine, ImageAddress, IsPlain, KeptFine, Kinds, Lasting, LinkTo, Marks, Near, Open, ReferenceAddress, Seat, Sight, ValFine, Value, Whichever, at_seat, see, MatchFor}
+use Rattle.sim_sound.proofs.Sound.{class_kinds, formal_kinds, holds_of, kept_kinds}
+use Rattle.sim_sound.proofs.Values.{ObjectIn, AddressOf, AllArrays, Component, Copied, CopyFine, HeldDeep, ImageAddress, IsPlain, KeptFine, Kinds, Lasting, LinkTo, Marks, Near, Open, ReferenceAddress, Seat, Sight, ValFine, Value, Whichever, at_seat, see, in_hand, Checked, ForFormal, NewObject}
 
 -- what is handed over is arrays alone
 owned_same : (n a : ℕ) (x : Option OneArray) (o p : World) → o.arrays ≡ p.arrays → (owned_by n x o a).arrays ≡ (owned_by n x p a).arrays
@@ -59,12 +59,11 @@ handed_simulations n (a ∷ ns) o = handed_simulations n ns (owned_by n (slice_g
 
 -- ---- what is in hand for a formal parameter, and what its cell holds
 
--- a value; an array that the new instance may know; a copy; an actual by name whose instance it may know; an array that is kept
+-- a value; an array, a procedure or an actual by name, whose instance the new one may know; a copy; an array that is kept
 pub data HandsTo (Known : Type 0) : (by_value : Bool) → Option Kinds → Option Holds → Type 0 where
   as_value : {h : Holds} → IsPlain h → HandsTo Known false (Some (Value h)) (Some h)
-  as_array : {h : Holds} → Known → HandsTo Known false (Some (Value (ArrayOf h))) (Some (ArrayOf h))
+  as_known : {h : Holds} → Known → HandsTo Known false (Some (Value h)) (Some h)
   as_copy : {h : Holds} → HandsTo Known true (Some (Copied h)) (Some (ArrayOf h))
-  as_name : {k : Kind} → Known → HandsTo Known false (Some (Value (ByName k))) (Some (ByName k))
   as_kept : {h : Holds} → HandsTo Known false (Some (Lasting h)) (Some (ArrayOf h))
 
 abbrev pub AllHandTo : Source → (Known : Type 0) → List Formal → List (Option Kinds) → Type 0
@@ -90,34 +89,36 @@ formal_hands : (s : Source) (Known : Type 0) (f : Mode) (g : FormalKind) (ty : O
 formal_hands s Known mode.ByValue shape.Simple (Some type) h e k = as_value (held_plain s type)
 formal_hands s Known mode.ByReference shape.Simple (Some type) h e k = as_value (held_plain s type)
 formal_hands s Known mode.ByValue shape.Array (Some type) h e k = as_copy
-formal_hands s Known mode.ByReference shape.Array (Some type) h e k = as_array (k refl)
+formal_hands s Known mode.ByReference shape.Array (Some type) h e k = as_known (k refl)
+formal_hands s Known mode.ByValue shape.Procedure ty h e k = as_known (k refl)
+formal_hands s Known mode.ByReference shape.Procedure ty h e k = as_known (k refl)
+formal_hands s Known mode.ByName shape.Simple (Some type) h e k = as_known (k refl)
+formal_hands s Known mode.ByName shape.Array (Some type) h e k = as_known (k refl)
+formal_hands s Known mode.ByName shape.Procedure ty h e k = as_known (k refl)
 formal_hands s Known mode.ByValue shape.Simple None h e k = absurd (cc)
 formal_hands s Known mode.ByReference shape.Simple None h e k = absurd (cc)
 formal_hands s Known mode.ByValue shape.Array None h e k = absurd (cc)
 formal_hands s Known mode.ByReference shape.Array None h e k = absurd (cc)
-formal_hands s Known mode.ByValue shape.Procedure ty h e k = absurd (cc)
-formal_hands s Known mode.ByReference shape.Procedure ty h e k = absurd (cc)
-formal_hands s Known mode.ByName shape.Simple (Some type) h e k = as_name (k refl)
 formal_hands s Known mode.ByName shape.Simple None h e k = absurd (cc)
-formal_hands s Known mode.ByName shape.Array ty h e k = absurd (cc)
-formal_hands s Known mode.ByName shape.Procedure ty h e k = absurd (cc)
+formal_hands s Known mode.ByName shape.Array None h e k = absurd (cc)
 
 -- of a class, whose arrays by reference are kept
-class_hands : (s : Source) (Known : Type 0) (f : Mode) (g : FormalKind) (ty : Option SimType) (h : Holds) → formal_holds s f g ty ≡ Some h → ((k : Kind) → formal_holds s f g ty ≡ Some (ByName k) → ⊥) → HandsTo Known (is_array_by_value f g) (kept_kinds f g (in_hand (is_array_by_value f g) (formal_holds s f g ty))) (formal_holds s f g ty)
-class_hands s Known mode.ByValue shape.Simple (Some type) h e nameless = as_value (held_plain s type)
-class_hands s Known mode.ByReference shape.Simple (Some type) h e nameless = as_value (held_plain s type)
-class_hands s Known mode.ByValue shape.Array (Some type) h e nameless = as_copy
-class_hands s Known mode.ByReference shape.Array (Some type) h e nameless = as_kept
-class_hands s Known mode.ByValue shape.Simple None h e nameless = absurd (cc)
-class_hands s Known mode.ByReference shape.Simple None h e nameless = absurd (cc)
-class_hands s Known mode.ByValue shape.Array None h e nameless = absurd (cc)
-class_hands s Known mode.ByReference shape.Array None h e nameless = absurd (cc)
-class_hands s Known mode.ByValue shape.Procedure ty h e nameless = absurd (cc)
-class_hands s Known mode.ByReference shape.Procedure ty h e nameless = absurd (cc)
-class_hands s Known mode.ByName shape.Simple (Some type) h e nameless = absurd (nameless (kind_of_type type) refl)
-class_hands s Known mode.ByName shape.Simple None h e nameless = absurd (cc)
-class_hands s Known mode.ByName shape.Array ty h e nameless = absurd (cc)
-class_hands s Known mode.ByName shape.Procedure ty h e nameless = absurd (cc)
+class_hands : (s : Source) (Known : Type 0) (f : Mode) (g : FormalKind) (ty : Option SimType) (h : Holds) → formal_holds s f g ty ≡ Some h → ((k : Holds) → formal_holds s f g ty ≡ Some (ByName k) → ⊥) → ((r : Option SimType) → formal_holds s f g ty ≡ Some (Procedure r) → ⊥) → HandsTo Known (is_array_by_value f g) (kept_kinds f g (in_hand (is_array_by_value f g) (formal_holds s f g ty))) (formal_holds s f g ty)
+class_hands s Known mode.ByValue shape.Simple (Some type) h e nameless none = as_value (held_plain s type)
+class_hands s Known mode.ByReference shape.Simple (Some type) h e nameless none = as_value (held_plain s type)
+class_hands s Known mode.ByValue shape.Array (Some type) h e nameless none = as_copy
+class_hands s Known mode.ByReference shape.Array (Some type) h e nameless none = as_kept
+class_hands s Known mode.ByValue shape.Procedure ty h e nameless none = absurd (none ty refl)
+class_hands s Known mode.ByReference shape.Procedure ty h e nameless none = absurd (none ty refl)
+class_hands s Known mode.ByName shape.Simple (Some type) h e nameless none = absurd (nameless (Simply (kind_of_type type)) refl)
+class_hands s Known mode.ByName shape.Array (Some type) h e nameless none = absurd (nameless (ArrayOf (held_by s type)) refl)
+class_hands s Known mode.ByName shape.Procedure ty h e nameless none = absurd (nameless (Procedure ty) refl)
+class_hands s Known mode.ByValue shape.Simple None h e nameless none = absurd (cc)
+class_hands s Known mode.ByReference shape.Simple None h e nameless none = absurd (cc)
+class_hands s Known mode.ByValue shape.Array None h e nameless none = absurd (cc)
+class_hands s Known mode.ByReference shape.Array None h e nameless none = absurd (cc)
+class_hands s Known mode.ByName shape.Simple None h e nameless none = absurd (cc)
+class_hands s Known mode.ByName shape.Array None h e nameless none = absurd (cc)
 
 -- where one of them is held, what holds it is known
 either_first : (p q : Bool) → p ≡ true → (p || q) ≡ true
@@ -137,12 +138,14 @@ formals_hand s Known (d ∷ ds) (f ∷ fs) a k = (
   formals_hand s Known ds fs a.3 (λ e. k (either_second (is_held f) (list_any is_held fs) e)),
 )
 
-pub classes_hand : (s : Source) (Known : Type 0) (ds : List DeclNo) (fs : List Formal) → FormalsAre s ds fs → ((d : DeclNo) (k : Kind) → Among d ds → entry_holds s true (entry_of s.tables d) ≡ Some (ByName k) → ⊥) → AllHandTo s Known fs (class_kinds s fs)
-classes_hand s Known [] [] a nameless = tt
-classes_hand s Known [] (f ∷ fs) a nameless = absurd a
-classes_hand s Known (d ∷ ds) [] a nameless = absurd a
-classes_hand s Known (d ∷ ds) (f ∷ fs) a nameless =
-    (class_hands s Known f.mode f.kind f.ty a.0 a.2 (λ k e. nameless d k first (ap (entry_holds s true) a.1 ∙ e)), classes_hand s Known ds fs a.3 (λ e k z. nameless e k (later z)))
+pub classes_hand : (s : Source) (Known : Type 0) (ds : List DeclNo) (fs : List Formal) → FormalsAre s ds fs → ((d : DeclNo) (k : Holds) → Among d ds → entry_holds s true (entry_of s.tables d) ≡ Some (ByName k) → ⊥) → ((d : DeclNo) (r : Option SimType) → Among d ds → entry_holds s true (entry_of s.tables d) ≡ Some (Procedure r) → ⊥) → AllHandTo s Known fs (class_kinds s fs)
+classes_hand s Known [] [] a nameless none = tt
+classes_hand s Known [] (f ∷ fs) a nameless none = absurd a
+classes_hand s Known (d ∷ ds) [] a nameless none = absurd a
+classes_hand s Known (d ∷ ds) (f ∷ fs) a nameless none = (
+  class_hands s Known f.mode f.kind f.ty a.0 a.2 (λ k e. nameless d k first (ap (entry_holds s true) a.1 ∙ e)) (λ r e. none d r first (ap (entry_holds s true) a.1 ∙ e)),
+  classes_hand s Known ds fs a.3 (λ e k z. nameless e k (later z)) (λ e r z. none e r (later z)),
+)
 
 -- ---- they are handed over, from the instance i to the new one n among the instances then
 
@@ -172,13 +175,13 @@ module _ (s : Source) (m m' : Instances) (i n : ℕ) (lt : i < n) (noted noted' 
 
   -- one array is handed over, and the actuals above it stay
   module _ (o : World) (g : List Sight) (d : ℕ) (Now : AllArrays) (e0 : Later s (Before g o) m Now m All) (copies : (e : ℕ) (k : Holds) (a : ℕ) → d < e → CopyFine (Before g o) i e k a → CopyFine Now i e k a) where
-    deep_moved : (e : ℕ) → d < e → (x : Kinds) (v : Val) → DeepFine s (Before g o) m i e x v → DeepFine s Now m i e x v
+    deep_moved : (e : ℕ) → d < e → (x : Kinds) (v : Val) → HeldDeep s (Before g o) m i e x v → HeldDeep s Now m i e x v
     deep_moved e less (Copied k) (ArrayValue a) f = copies e k a less f
     deep_moved e less (Copied k) (Of p) f = absurd f
     deep_moved e less (Copied k) (Link z) f = absurd f
     deep_moved e less (Copied k) (Address z) f = absurd f
     deep_moved e less (Copied k) (ProcedureValue z y) f = absurd f
-    deep_moved e less (Copied k) (Actual home z) f = absurd f
+    deep_moved e less (Copied k) (Actual home p z) f = absurd f
     deep_moved e less (Value h) v f = val_later s (Before g o) m Now m All e0 i tt h v f
     deep_moved e less (AddressOf k) v f = hand_later s (Before g o) m Now m All e0 i tt (AddressOf k) v f
     deep_moved e less (ReferenceAddress k) v f = hand_later s (Before g o) m Now m All e0 i tt (ReferenceAddress k) v f
@@ -187,7 +190,9 @@ module _ (s : Source) (m m' : Instances) (i n : ℕ) (lt : i < n) (noted noted' 
     deep_moved e less (Lasting h) v f = hand_later s (Before g o) m Now m All e0 i tt (Lasting h) v f
     deep_moved e less Component v f = hand_later s (Before g o) m Now m All e0 i tt Component v f
     deep_moved e less (ObjectIn c) v f = hand_later s (Before g o) m Now m All e0 i tt (ObjectIn c) v f
-    deep_moved e less (MatchFor h) v f = hand_later s (Before g o) m Now m All e0 i tt (MatchFor h) v f
+    deep_moved e less (NewObject c) v f = hand_later s (Before g o) m Now m All e0 i tt (NewObject c) v f
+    deep_moved e less (Checked es q) v f = hand_later s (Before g o) m Now m All e0 i tt (Checked es q) v f
+    deep_moved e less (ForFormal number) v f = absurd f
     deep_moved e less (Whichever b k) v f = hand_later s (Before g o) m Now m All e0 i tt (Whichever b k) v f
 
     some_moved : (e : ℕ) → d < e → (x : Option Kinds) (v : Val) → SomeDeep s (Before g o) m i e x v → SomeDeep s Now m i e x v
@@ -243,23 +248,21 @@ module _ (s : Source) (m m' : Instances) (i n : ℕ) (lt : i < n) (noted noted' 
         → Whole h v (if b then with_array_of v ns else ns)
     by_kind r copied false _ _ v (as_value {h = h} plain) f =
         other_value h v (λ z p e. plain_anywhere s (Behind z p) m' i n h v plain (val_later s (Before z p) m (Behind z p) m' All (enter z p) i tt h v (val_later s (Before g o) m (Before z p) m All e i tt h v f))) r
-    by_kind r copied false _ _ v (as_array {h = h} outlives) f =
-        other_value (ArrayOf h) v (λ z p e. val_up s (Behind z p) m' n i (outlives z p) (ArrayOf h) v (val_later s (Before z p) m (Behind z p) m' All (enter z p) i tt (ArrayOf h) v (val_later s (Before g o) m (Before z p) m All e i tt (ArrayOf h) v f))) r
-    by_kind r copied false _ _ v (as_name {k = k} outlives) f =
-        other_value (ByName k) v (λ z p e. val_up s (Behind z p) m' n i (outlives z p) (ByName k) v (val_later s (Before z p) m (Behind z p) m' All (enter z p) i tt (ByName k) v (val_later s (Before g o) m (Before z p) m All e i tt (ByName k) v f))) r
+    by_kind r copied false _ _ v (as_known {h = h} outlives) f =
+        other_value h v (λ z p e. val_up s (Behind z p) m' n i (outlives z p) h v (val_later s (Before z p) m (Behind z p) m' All (enter z p) i tt h v (val_later s (Before g o) m (Before z p) m All e i tt h v f))) r
     by_kind r copied true _ _ (ArrayValue a0) (as_copy {h = h}) f = copy_handed h a0 f (copied h a0 f)
     by_kind r copied true _ _ (Of p) as_copy f = absurd f
     by_kind r copied true _ _ (Link z) as_copy f = absurd f
     by_kind r copied true _ _ (Address z) as_copy f = absurd f
     by_kind r copied true _ _ (ProcedureValue z y) as_copy f = absurd f
-    by_kind r copied true _ _ (Actual home z) as_copy f = absurd f
+    by_kind r copied true _ _ (Actual home p z) as_copy f = absurd f
     by_kind r copied false _ _ (ArrayValue a0) (as_kept {h = h}) f =
         other_value (ArrayOf h) (ArrayValue a0) (λ z p e. let k = e.kept h a0 f in record { it = k.it; lives = k.lives; known = k.known; owned = inl k.keeps; count = k.count }) r
     by_kind r copied false _ _ (Of p) as_kept f = absurd f
     by_kind r copied false _ _ (Link z) as_kept f = absurd f
     by_kind r copied false _ _ (Address z) as_kept f = absurd f
     by_kind r copied false _ _ (ProcedureValue z y) as_kept f = absurd f
-    by_kind r copied false _ _ (Actual home z) as_kept f = absurd f
+    by_kind r copied false _ _ (Actual home p z) as_kept f = absurd f
 
     kept_handed : (h : Holds) (a0 : ℕ) (kept : KeptFine (Before g o) h a0) → Rest (given_world o (marks_of noted g) m h a0 kept n) g → Whole (Some (ArrayOf h)) (ArrayValue a0) (a0 ∷ ns)
     unfolding handed_over
@@ -282,6 +285,7 @@ module _ (s : Source) (m m' : Instances) (i n : ℕ) (lt : i < n) (noted noted' 
     no_array (Simply k) _ is f = absurd f
     no_array (Refers c) _ is f = absurd f
     no_array (ArrayOf k) v is f = absurd is
+    no_array (Procedure q) v is f = absurd is
     no_array (ByName k) v is f = absurd is
 
     -- all arrays among the actuals of a class go over
@@ -290,20 +294,19 @@ module _ (s : Source) (m m' : Instances) (i n : ℕ) (lt : i < n) (noted noted' 
         → Whole h v (with_array_of v ns)
     by_class r copied kept false _ _ v (as_value {h = h} plain) f =
         subst (λ z. Whole (Some h) v z) (sym (no_array h v plain f)) (other_value h v (λ z p e. plain_anywhere s (Behind z p) m' i n h v plain (val_later s (Before z p) m (Behind z p) m' All (enter z p) i tt h v (val_later s (Before g o) m (Before z p) m All e i tt h v f))) r)
-    by_class r copied kept false _ _ v (as_array knows) f = absurd knows
-    by_class r copied kept false _ _ v (as_name knows) f = absurd knows
+    by_class r copied kept false _ _ v (as_known knows) f = absurd knows
     by_class r copied kept true _ _ (ArrayValue a0) (as_copy {h = h}) f = copy_handed h a0 f (copied h a0 f)
     by_class r copied kept true _ _ (Of p) as_copy f = absurd f
     by_class r copied kept true _ _ (Link z) as_copy f = absurd f
     by_class r copied kept true _ _ (Address z) as_copy f = absurd f
     by_class r copied kept true _ _ (ProcedureValue z y) as_copy f = absurd f
-    by_class r copied kept true _ _ (Actual home z) as_copy f = absurd f
+    by_class r copied kept true _ _ (Actual home p z) as_copy f = absurd f
     by_class r copied kept false _ _ (ArrayValue a0) (as_kept {h = h}) f = kept_handed h a0 f (kept h a0 f)
     by_class r copied kept false _ _ (Of p) as_kept f = absurd f
     by_class r copied kept false _ _ (Link z) as_kept f = absurd f
     by_class r copied kept false _ _ (Address z) as_kept f = absurd f
     by_class r copied kept false _ _ (ProcedureValue z y) as_kept f = absurd f
-    by_class r copied kept false _ _ (Actual home z) as_kept f = absurd f
+    by_class r copied kept false _ _ (Actual home p z) as_kept f = absurd f
 
   -- of the actuals above a copy that is handed over
   past_copy : (o : World) (g : List Sight) (d : ℕ) (h : Holds) (a0 : ℕ) (copy : CopyFine (Before g o) i d h a0) (xs : List (Option Kinds)) (vs : List Val) → ActualsAre s (Before g o) m i (suc d) xs vs

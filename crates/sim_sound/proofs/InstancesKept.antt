@@ -308,7 +308,7 @@ module _ (s : Source) (o : AllArrays) (m : Instances) (chain : List Activation) 
   }
     where
       only_flag : (j : ℕ) (x : Instance (List Held)) (kept : Bool) → InstanceFine s o kept_now j x → InstanceFine s o kept_now j (record x { kept = kept })
-      only_flag j x kept f = record { level = f.level; solid = f.solid; keys = f.keys; holds = f.holds; cells = f.cells; ends = f.ends; out = f.out }
+      only_flag j x kept f = record { level = f.level; solid = f.solid; keys = f.keys; holds = f.holds; cells = f.cells; ends = f.ends; origins = f.origins; out = f.out }
 
       all_still : StillAll s m kept_now
       all_still = record {

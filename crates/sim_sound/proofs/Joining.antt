@@ -12,12 +12,13 @@ use Rattle.sim_code.specs.Outcome.{Simulation, World}
 use Rattle.sim_code.specs.Sets.{enrolled}
 use Rattle.sim_code.specs.Simulations.{begun, begun_in, joined, joined_at, located, with_process}
 use Rattle.sim_chains.specs.Components.{Standing}
-use Rattle.sim_meaning.specs.Attributes.{is_bare_process, is_connection}
+use Rattle.sim_meaning.specs.Attributes.{is_connection}
 use Rattle.sim_meaning.specs.Entries.{new_instance}
 use Rattle.sim_meaning.specs.Levels.{has_levels, is_process_text, is_simulation_text, linkage_of_text}
 use Rattle.sim_meaning.specs.Objects.{block_begun, object_made}
 use Rattle.sim_meaning.specs.Pending.{Activation, Held, Instances}
 use Rattle.sim_meaning.specs.Texts.{StandardText, Text, is_class_free, text}
+use Rattle.sim_sound.specs.Expressions.{ProcessClassThere}
 use Rattle.sim_sound.specs.Typed.{Typed}
 use Rattle.sim_sound.proofs.Attributes.{leveled}
 use Rattle.sim_sound.proofs.Entering.{made_new, more_new, new_lives, new_stays}
@@ -153,13 +154,13 @@ module _ (s : Source) (ok : Typed s) (o : World) (g : Marks) (m : Instances) (st
   more = more_new s ok (see g o) m k e cells z Words Is solid u o.members o.simulations
 
   -- an object, whose class may stand in `new`
-  module _ (single : is_for_prefixing s.tables k ≡ false) (made : is_bare_process (text s k) ≡ false) (j around : ℕ) (in_encloser : e ≡ Some j) (stands_in : encloser s.tables k ≡ Some around) (whole : Whole s m j around) where
+  module _ (single : is_for_prefixing s.tables k ≡ false) (itself : text s k ≡ Some (StandardText standard.Process) → ProcessClassThere s k) (j around : ℕ) (in_encloser : e ≡ Some j) (stands_in : encloser s.tables k ≡ Some around) (whole : Whole s m j around) where
     pub object_linked : MembersFine s (enrolled_members N (linkage_of_text s k) o.members) M
     object_linked = members_enrolled s ok k solid o.members m M e more (not_prefixing s ok k solid single) store.members
 
     joins : (q : ℕ) → text s q ≡ Some (StandardText standard.Process) → LevelOf s k q → SimulationsFine s (joined_in N o.simulations (located o.simulations j)) M
     joins q is at =
-        let there = process_there s ok k solid q made is at in
+        let there = process_there s ok k solid q itself is at in
         let lv = there.block in
         let level : LevelOf s k (lv + 4) = subst (LevelOf s k) there.is at in
         let out = level_around s ok solid level lv (ok.simulations lv there.simulates).process_around in
@@ -168,7 +169,7 @@ module _ (s : Source) (ok : Typed s) (o : World) (g : Marks) (m : Instances) (st
         let x = store.simulations.there j lv (home.lasts).now (home.lasts).lives there.simulates (home.lasts).level in
         at_entry s o.simulations M N (located o.simulations j) x.0 x.1
         (simulations_joined s ok o.simulations m M k e more store.simulations (not_prefixing s ok k solid single) lv there.simulates
-        (λ v is' at'. let other = process_there s ok k solid v made is' at' in other.is ∙ ap (λ y. y + 4) (one_process s ok k other.block lv other.simulates there.simulates (subst (LevelOf s k) other.is at') level)) j in_encloser home
+        (λ v is' at'. let other = process_there s ok k solid v itself is' at' in other.is ∙ ap (λ y. y + 4) (one_process s ok k other.block lv other.simulates there.simulates (subst (LevelOf s k) other.is at') level)) j in_encloser home
         (record { now = made_new s ok (see g o) m k e cells z Words Is solid u o.members o.simulations; lives = new_lives s ok (see g o) m k e cells z Words Is solid u o.members o.simulations; solid = solid; level = level; stays = new_stays s ok (see g o) m k e cells z Words Is solid u o.members o.simulations free }) x.0 x.1)
 
     pub object_joined : SimulationsFine s (joined_simulations (is_process_text s k) j N o.simulations) M

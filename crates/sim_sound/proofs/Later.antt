@@ -4,22 +4,23 @@ use Rattle.std.specs.Prelude.{slice_get, ◌&&◌, not, if◌then◌else◌}
 use Rattle.sim_base.specs.declared.numbering.DeclNo.{DeclNo}
 use Rattle.sim_chains.specs.Components.{AttachedObject, DetachedObject, NoObject, ResumedObject, Standing, TerminatedObject}
 use Rattle.sim_scope.specs.Levels.{has_level}
+use Rattle.sim_scope.specs.declared.types.SimType.{SimType}
 use Rattle.sim_scope.specs.Source.{Source}
 use Rattle.sim_values.specs.declared.kind.Kind.{Kind}
 use Rattle.sim_values.specs.Plain.{Character, Integer, MainOf, Nothing, Object, Plain, Text, Truth}
 use Rattle.sim_code.specs.Instances.{CellPlace, ElementPlace, ImagePlace, Instance, ends_in, live, unless_given}
 use Rattle.sim_code.specs.Instances as instances
 use Rattle.sim_tree.specs.Syntax.{Expression}
-use Rattle.sim_meaning.specs.Pending.{Actual, ActualOf, CloseOp, EndEvaluation, NamedOf, NamedOp, ToNamed, evaluates, owner, SetOf, Activation, Address, ArrayValue, AttributeOf, BackOp, BlockOp, BranchOp, CallOf, Cell, ChooseOp, ConnectOp, CopyOf, Declared, Do, Either, ElementOf, ElementsOp, EndBlock, EndLevel, EndObject, EndPrefixed, EndProcedure, EndProgram, EnterOp, Eval, Exec, Execs, FitsOf, Further, Given, GiveOp, Held, IfOp, ImageOf, InnerOp, Instances, Item, Joined, KeptOf, Key, Level, Link, MemberOf, NewOf, NoTerm, NotNoneOf, Of, One, Op, PlaceOf, PrefixedOp, ProcedureValue, ProcessOf, QuaOf, QualifiedElementOf, QualifiedPlaceOf, RaiseOp, RemoteCallOf, ShareOp, SimulationOf, StandardOf, StepTestOp, StoreOp, Target, Term, Terms, TestOp, ToAddress, ToCell, ToPlace, ToReference, ToReferenceAt, ToText, ToTextAt, ToTextOf, TransferOf, Two, Unbuilt, Val, ValueAt, WhenOp, WhileElementOp, held, VirtualOf}
+use Rattle.sim_meaning.specs.Pending.{Actual, ActualOf, CloseOp, EndEvaluation, NamedOf, NamedOp, ToNamed, evaluates, owner, SetOf, Activation, Address, ArrayValue, AttributeOf, BackOp, BlockOp, BranchOp, CallOf, Cell, ChooseOp, ConnectOp, CopyOf, Declared, Do, Either, ElementOf, ElementsOp, EndBlock, EndLevel, EndObject, EndPrefixed, EndProcedure, EndProgram, EnterOp, Eval, Exec, Execs, FitsOf, Further, Given, GiveOp, Held, IfOp, ImageOf, InnerOp, Instances, Item, Joined, KeptOf, Key, Level, Link, MemberOf, NewOf, NoTerm, NotNoneOf, Of, One, Op, PlaceOf, PrefixedOp, ProcedureValue, ProcessOf, QuaOf, QualifiedElementOf, QualifiedPlaceOf, RaiseOp, RemoteCallOf, ShareOp, SimulationOf, StandardOf, StepTestOp, StoreOp, Target, Term, Terms, TestOp, ToAddress, ToCell, ToPlace, ToReference, ToReferenceAt, ToText, ToTextAt, ToTextOf, TransferOf, Two, Unbuilt, Val, ValueAt, WhenOp, WhileElementOp, held, CheckOp, CheckedOf, ForParameter, ForPlace, ForValue, MatchOf, OriginOf, ParameterOp, ProcedureOf, RemoteProcedureOf, Use}
 use Rattle.sim_meaning.specs.Attributes.{is_connection}
-use Rattle.sim_meaning.specs.Levels.{has_levels}
+use Rattle.sim_meaning.specs.Levels.{has_levels, is_class}
 use Rattle.sim_meaning.specs.Texts.{text}
-use Rattle.sim_sound.specs.Held.{ArrayOf, ByName, Holds, Place, Refers, Simply, key_holds}
+use Rattle.sim_sound.specs.Held.{ArrayOf, ByName, Holds, Place, Refers, Simply, key_holds, Procedure}
 use Rattle.sim_sound.proofs.Lists.{same_some, there_is}
 use Rattle.sim_sound.proofs.Prefixes.{LevelOf}
-use Rattle.sim_sound.proofs.Running.{Last, ActFine, AllKeptSeats, AllSeats, ChainFine, ChainOn, Expected, Footing, IsRelease, KeptSeats, NoObjectStands, ObjectStands, SeatOf, SeatedFor, Shown, StandsFine, StandsOn, WorkFine, awaited, evaluation_seat, footing, is_resumed, own_seat, resumes, seat_on}
+use Rattle.sim_sound.proofs.Running.{Last, ActFine, AllKeptSeats, AllSeats, ChainFine, ChainOn, Expected, Footing, IsRelease, KeptSeats, NoObjectStands, ObjectStands, SeatOf, SeatedFor, Shown, StandsFine, StandsOn, WorkFine, awaited, evaluation_seat, footing, is_resumed, own_seat, resumes, seat_on, Serves}
 use Rattle.sim_sound.proofs.Sound.{BlockIn, CellIs, IntegersFine, LevelsFine, OpFine, OperandsFine, Site, Sited, StoreOpFine, TargetFine, TargetsFine, TermFine, TermsFine, VariableFine, array_stored, in_connection, in_instance, own_made, value_stored}
-use Rattle.sim_sound.proofs.Values.{ActualFine, Beneath, CellLies, PlaceFine, Seat, Stands, Whichever, at_itself, at_seat, in_bound, in_text, near_below, near_staying, one_lower, ObjectIn, AddressOf, AllArrays, ArrayFine, CellFine, CellTarget, CellsFine, Component, Copied, CopyFine, DeepFine, ElementFine, Enclosed, Generated, HandFine, HandsFine, ImageAddress, InstanceFine, KeptFine, KeyAmong, Kinds, Knows, Lasting, Lasts, LinkTo, MainIn, NamesObject, Near, ObjectOf, Outward, PlainFine, Present, ReferenceAddress, ReferenceFine, Simulates, StandsFor, Stays, Suspended, Takes, ValFine, Value, Waits, alone, connected, key_of, no_further, one_out, outward, own_text, staying, within, MatchFor}
+use Rattle.sim_sound.proofs.Values.{ActualFine, Beneath, CellLies, PlaceFine, Seat, Stands, Whichever, at_itself, at_seat, in_bound, in_text, near_below, near_staying, one_lower, ObjectIn, AddressOf, AllArrays, ArrayFine, CellFine, CellTarget, CellsFine, Component, Copied, CopyFine, DeepFine, ElementFine, Enclosed, Generated, HandFine, HandsFine, ImageAddress, InstanceFine, KeptFine, KeyAmong, Kinds, Knows, Lasting, Lasts, LinkTo, MainIn, NamesObject, Near, ObjectOf, Outward, PlainFine, Present, ReferenceAddress, ReferenceFine, Simulates, StandsFor, Stays, Suspended, Takes, ValFine, Value, Waits, MadeOf, alone, connected, key_of, no_further, one_out, outward, own_text, staying, within, Checked, ForFormal, HeldDeep, NewObject, ProcedureFine, Passes}
 
 -- an instance that is as it was, but for values of cells, and cells of connections that are new; and it may be kept now
 pub record Grown (x y : Instance (List Held)) : Type 0 where
@@ -67,6 +68,7 @@ Steady o m o' m' j = (o'.waiting j ≡ o.waiting j) × (resumes m' j ≡ resumes
 
 pub awaited_same : (f g : ℕ → Waits) (u : Option ℕ) (v : Waits) → ((j : ℕ) → u ≡ Some j → g j ≡ f j) → awaited g u v ≡ awaited f u v
 awaited_same f g u (Takes x) e = refl
+awaited_same f g u (Passes number formal) e = refl
 awaited_same f g u (Generated i k) e = refl
 awaited_same f g None Suspended e = refl
 awaited_same f g (Some j) Suspended e = e j refl
@@ -217,6 +219,13 @@ module _ (s : Source) (o : AllArrays) (m : Instances) (o' : AllArrays) (m' : Ins
         made = λ u at d k holds there none. p.made u (subst (λ z. LevelOf s z u) (y.grown).text at) d k holds there ((y.grown).holds (Declared d.0) none);
       }
 
+  made_later : (n c : ℕ) → MadeOf s m n c → MadeOf s m' n c
+  unfolding object_later
+  made_later n c a = record {
+    object = object_later n c a.object;
+    proper = ap (λ z. is_class (text s z)) ((e.there n (a.object).now (e.stays n (record { now = (a.object).now; lives = (a.object).lives; stays = (a.object).stays })) (a.object).lives).grown).text ∙ a.proper;
+  }
+
   pub lasts_later : (j u : ℕ) → Lasts s m j u → Lasts s m' j u
   lasts_later j u p =
       let y = e.there j p.now (e.stays j (record { now = p.now; lives = p.lives; stays = p.stays })) p.lives in
@@ -245,29 +254,36 @@ module _ (s : Source) (o : AllArrays) (m : Instances) (o' : AllArrays) (m' : Ins
   plain_later (Simply k) p a = (a.0, names_later p a.1)
   plain_later (Refers c) p a = reference_later c p a
   plain_later (ArrayOf h) p a = absurd a
+  plain_later (Procedure r) p a = absurd a
   plain_later (ByName h) p a = absurd a
 
   stands_later : (j : ℕ) (from : Place) → Apart j → Stands s m j from → Stands s m' j from
   stands_later j _ ok (in_text {u = u} whole) = in_text (present_later j u [] ok whole)
   stands_later j _ ok (in_bound {t = t} {todo = todo} p own at ready solid) = in_bound (present_later j t todo ok p) (own_later j t todo ok p ∙ own) at ready solid
 
-  pub actual_later : (j : ℕ) → Apart j → (k : Kind) (home : ℕ) (x : Expression) → ActualFine s o m j k home x → ActualFine s o' m' j k home x
-  actual_later j ok k home x a = record { near = e.nears j home ok a.near; from = a.from; stands = stands_later home a.from (e.near j home ok a.near) a.stands; typed = a.typed }
+  pub actual_later : (j : ℕ) → Apart j → (h : Holds) (home : ℕ) (p : Bool) (x : Expression) → ActualFine s o m j h home p x → ActualFine s o' m' j h home p x
+  actual_later j ok h home p x a = record { near = e.nears j home ok a.near; from = a.from; stands = stands_later home a.from (e.near j home ok a.near) a.stands; typed = a.typed }
+
+  pub procedure_later : (j : ℕ) → Apart j → (r : Option SimType) (k n : ℕ) → ProcedureFine s o m j r k n → ProcedureFine s o' m' j r k n
+  procedure_later j ok r k n a = record { around = a.around; near = e.nears j n ok a.near; whole = present_later n a.around [] (e.near j n ok a.near) a.whole; procedure = a.procedure; gives = a.gives }
 
   pub val_later : (j : ℕ) → Apart j → (h : Holds) (v : Val) → ValFine s o m j h v → ValFine s o' m' j h v
   val_later j ok (Simply k) (Of p) a = (a.0, names_later p a.1)
   val_later j ok (Refers c) (Of p) a = reference_later c p a
   val_later j ok (ArrayOf h) (ArrayValue n) a = e.arrays j h n ok a
-  val_later j ok (ByName k) (Actual home x) a = actual_later j ok k home x a
+  val_later j ok (Procedure r) (ProcedureValue k n) a = procedure_later j ok r k n a
+  val_later j ok (ByName h) (Actual home p x) a = actual_later j ok h home p x a
   val_later j ok (Simply k) _ a = absurd a
   val_later j ok (Refers c) _ a = absurd a
   val_later j ok (ArrayOf h) _ a = absurd a
+  val_later j ok (Procedure r) _ a = absurd a
   val_later j ok (ByName h) _ a = absurd a
 
   cell_later : (j : ℕ) → Apart j → (h : Option Holds) (v : Option Val) → CellFine s o m j h v → CellFine s o' m' j h v
   cell_later j ok None v a = a
   cell_later j ok (Some (Simply k)) None a = a
   cell_later j ok (Some (Refers c)) None a = a
+  cell_later j ok (Some (Procedure r)) None a = a
   cell_later j ok (Some (ByName k)) None a = a
   cell_later j ok (Some (ArrayOf k)) None a = a
   cell_later j ok (Some h) (Some v) a = val_later j ok h v a
@@ -283,7 +299,7 @@ module _ (s : Source) (o : AllArrays) (m : Instances) (o' : AllArrays) (m' : Ins
   enclosed_later j t out ok (within {e = n} {u = u} is around less near whole) = within is around less (e.nears j n ok near) (present_later n u [] (e.near j n ok near) whole)
 
   pub instance_later : (j : ℕ) (x : Instance (List Held)) → Apart j → InstanceFine s o m j x → InstanceFine s o' m' j x
-  instance_later j x ok f = record { level = f.level; solid = f.solid; keys = f.keys; holds = f.holds; cells = cells_later j x.text ok x.cells f.cells; ends = f.ends; out = enclosed_later j x.text x.encloser ok f.out }
+  instance_later j x ok f = record { level = f.level; solid = f.solid; keys = f.keys; holds = f.holds; cells = cells_later j x.text ok x.cells f.cells; ends = f.ends; origins = f.origins; out = enclosed_later j x.text x.encloser ok f.out }
 
   -- ---- what is in hand, and what is pending
 
@@ -339,22 +355,51 @@ module _ (s : Source) (o : AllArrays) (m : Instances) (o' : AllArrays) (m' : Ins
   hand_later j ok (ObjectIn c) (Of (Character z)) a = absurd a
   hand_later j ok (ObjectIn c) (Of (Text z)) a = absurd a
   hand_later j ok (ObjectIn c) _ a = absurd a
-  hand_later j ok (MatchFor h) (ProcedureValue k n) a =
-      record { around = a.around; near = knows_later j n ok a.near; whole = present_later n a.around [] (e.apart j n ok a.near) a.whole; procedure = a.procedure; alone = a.alone; fits = a.fits }
-  hand_later j ok (MatchFor h) _ a = absurd a
+  hand_later j ok (NewObject c) (Of (Object n)) a = made_later n c a
+  hand_later j ok (NewObject c) (Of (MainOf n)) a = absurd a
+  hand_later j ok (NewObject c) (Of Nothing) a = absurd a
+  hand_later j ok (NewObject c) (Of (Integer z)) a = absurd a
+  hand_later j ok (NewObject c) (Of (Truth z)) a = absurd a
+  hand_later j ok (NewObject c) (Of (Character z)) a = absurd a
+  hand_later j ok (NewObject c) (Of (Text z)) a = absurd a
+  hand_later j ok (NewObject c) _ a = absurd a
+  hand_later j ok (Checked es r) (ProcedureValue k n) a = (procedure_later j ok r k n a.0, a.1)
+  hand_later j ok (Checked es r) _ a = absurd a
+  hand_later j ok (ForFormal number) v a = absurd a
   hand_later j ok (Whichever b k) (Address p) a = place_later j ok k p a
   hand_later j ok (Whichever true k) (Of p) a = (a.0, names_later p a.1)
   hand_later j ok (Whichever false k) (Of p) a = absurd a
   hand_later j ok (Whichever true k) _ a = absurd a
   hand_later j ok (Whichever false k) _ a = absurd a
 
-  pub deep_later : (j : ℕ) → Apart j → (d : ℕ) → Copies o o' j (suc d) → (k : Kinds) (v : Val) → DeepFine s o m j d k v → DeepFine s o' m' j d k v
-  deep_later j ok d c (Copied k) (ArrayValue a) f = c d k a (omega arith) f
+  pub held_later : (j : ℕ) → Apart j → (d : ℕ) → Copies o o' j (suc d) → (k : Kinds) (v : Val) → HeldDeep s o m j d k v → HeldDeep s o' m' j d k v
+  held_later j ok d c (Copied k) (ArrayValue a) f = c d k a (omega arith) f
+  held_later j ok d c (Copied k) (Of p) f = absurd f
+  held_later j ok d c (Copied k) (Link z) f = absurd f
+  held_later j ok d c (Copied k) (Address z) f = absurd f
+  held_later j ok d c (Copied k) (ProcedureValue z y) f = absurd f
+  held_later j ok d c (Copied k) (Actual z p y) f = absurd f
+  held_later j ok d c (ForFormal number) v f = absurd f
+  held_later j ok d c (Value h) v f = val_later j ok h v f
+  held_later j ok d c (AddressOf k) v f = hand_later j ok (AddressOf k) v f
+  held_later j ok d c (ReferenceAddress k) v f = hand_later j ok (ReferenceAddress k) v f
+  held_later j ok d c ImageAddress v f = hand_later j ok ImageAddress v f
+  held_later j ok d c (LinkTo u) v f = hand_later j ok (LinkTo u) v f
+  held_later j ok d c (Lasting h) v f = hand_later j ok (Lasting h) v f
+  held_later j ok d c Component v f = hand_later j ok Component v f
+  held_later j ok d c (ObjectIn k) v f = hand_later j ok (ObjectIn k) v f
+  held_later j ok d c (NewObject k) v f = hand_later j ok (NewObject k) v f
+  held_later j ok d c (Checked es r) v f = hand_later j ok (Checked es r) v f
+  held_later j ok d c (Whichever b k) v f = hand_later j ok (Whichever b k) v f
+
+  pub deep_later : (j : ℕ) → Apart j → (d : List Val) → Copies o o' j (suc (length d)) → (k : Kinds) (v : Val) → DeepFine s o m j d k v → DeepFine s o' m' j d k v
+  deep_later j ok d c (ForFormal number) v f = record { formal = f.formal; is = f.is; kinds = f.kinds; hand = f.hand; fine = held_later j ok (length d) c f.kinds v f.fine }
+  deep_later j ok d c (Copied k) (ArrayValue a) f = c (length d) k a (omega arith) f
   deep_later j ok d c (Copied k) (Of p) f = absurd f
   deep_later j ok d c (Copied k) (Link z) f = absurd f
   deep_later j ok d c (Copied k) (Address z) f = absurd f
   deep_later j ok d c (Copied k) (ProcedureValue z y) f = absurd f
-  deep_later j ok d c (Copied k) (Actual z y) f = absurd f
+  deep_later j ok d c (Copied k) (Actual z p y) f = absurd f
   deep_later j ok d c (Value h) v f = val_later j ok h v f
   deep_later j ok d c (AddressOf k) v f = hand_later j ok (AddressOf k) v f
   deep_later j ok d c (ReferenceAddress k) v f = hand_later j ok (ReferenceAddress k) v f
@@ -363,14 +408,15 @@ module _ (s : Source) (o : AllArrays) (m : Instances) (o' : AllArrays) (m' : Ins
   deep_later j ok d c (Lasting h) v f = hand_later j ok (Lasting h) v f
   deep_later j ok d c Component v f = hand_later j ok Component v f
   deep_later j ok d c (ObjectIn k) v f = hand_later j ok (ObjectIn k) v f
-  deep_later j ok d c (MatchFor h) v f = hand_later j ok (MatchFor h) v f
+  deep_later j ok d c (NewObject k) v f = hand_later j ok (NewObject k) v f
+  deep_later j ok d c (Checked es r) v f = hand_later j ok (Checked es r) v f
   deep_later j ok d c (Whichever b k) v f = hand_later j ok (Whichever b k) v f
 
   pub hands_later : (j : ℕ) → Apart j → (ks : List Kinds) (vs : List Val) → Copies o o' j (length vs) → HandsFine s o m j ks vs → HandsFine s o' m' j ks vs
   hands_later j ok [] [] c a = a
   hands_later j ok [] (v ∷ vs) c a = absurd a
   hands_later j ok (k ∷ ks) [] c a = absurd a
-  hands_later j ok (k ∷ ks) (v ∷ vs) c a = (deep_later j ok (length vs) c k v a.0, hands_later j ok ks vs (λ d x n less f. c d x n (omega (arith, less)) f) a.1)
+  hands_later j ok (k ∷ ks) (v ∷ vs) c a = (deep_later j ok vs c k v a.0, hands_later j ok ks vs (λ d x n less f. c d x n (omega (arith, less)) f) a.1)
 
   module _ (j t : ℕ) (ok : Apart j) where
     read_later : (todo : List DeclNo) (n : ℕ) (key : Key) (h : Holds) → CellIs s m j t todo n key h → CellIs s m' j t todo n key h
@@ -408,8 +454,8 @@ module _ (s : Source) (o : AllArrays) (m : Instances) (o' : AllArrays) (m' : Ins
         near = knows_later j n ok a.near;
         whole = present_later n a.around [] (e.apart j n ok a.near) a.whole;
         class = a.class;
-        holds = a.holds;
-        fits = a.fits;
+        kinds = a.kinds;
+        made = a.made;
         gives = a.gives;
         actuals = terms_later todo ts _ a.actuals;
       }
@@ -425,9 +471,13 @@ module _ (s : Source) (o : AllArrays) (m : Instances) (o' : AllArrays) (m' : Ins
       term_later todo (SetOf name ts) g a = (a.0, a.1, a.2, a.3, terms_later todo ts _ a.4)
       term_later todo (ProcessOf name line x) g a = (a.0, a.1, a.2, a.3, term_later todo x _ a.4)
       term_later todo (SimulationOf n name ts line) g a = (a.0, a.1, a.2, a.3, block_later n _ a.4, terms_later todo ts _ a.5)
-      term_later todo (VirtualOf x v n line) g a = (a.0, a.1, a.2, a.3, term_later todo x _ a.4)
+      term_later todo (OriginOf k token line x) g a = (a.0, a.1, a.2, term_later todo x _ a.3)
+      term_later todo (ProcedureOf n k) g a = (a.0, knows_later j n ok a.1, present_later n a.0 [] (e.apart j n ok a.1) a.2, a.3, a.4)
+      term_later todo (RemoteProcedureOf x k line) g a = (a.0, a.1, a.2, a.3, a.4, a.5, term_later todo x _ a.6)
+      term_later todo (MatchOf x v line) g a = (a.0, a.1, a.2, a.3, term_later todo x _ a.4)
+      term_later todo (CheckedOf x leaves home es line) g a = (a.0, a.1, a.2, a.3, a.4, a.5, term_later todo x _ a.6, a.7, stands_later j a.7 ok a.8, a.9)
       term_later todo (TransferOf z line x) g a = (a.0, term_later todo x _ a.1)
-      term_later todo (ActualOf n x) g a = (a.0, a.1, a.2, a.3, stands_later j a.1 ok a.4, a.5)
+      term_later todo (ActualOf n p x) g a = (a.0, a.1, a.2, a.3, stands_later j a.1 ok a.4, a.5)
       term_later todo (NamedOf n key wanted) g a = (a.0, a.1, a.2, a.3, read_later todo n key (ByName a.0) a.4)
       term_later todo Unbuilt g a = absurd a
 
@@ -496,7 +546,10 @@ module _ (s : Source) (o : AllArrays) (m : Instances) (o' : AllArrays) (m' : Ins
     op_later (StepTestOp x line f c y) todo todo' before behind a = (a.0, a.1, a.2, sited_later _ _ (λ u r. (variable_later x _ r.0, r.1, r.2, r.3)) a.3)
     op_later (RaiseOp x line f c y) todo todo' before behind a = (a.0, a.1, a.2, sited_later _ _ (λ u r. (variable_later x _ r.0, r.1, r.2, r.3)) a.3)
     op_later (NamedOp n key wanted) todo todo' before behind a = (a.0, a.1, a.2, read_later todo n key (ByName a.0) a.3, a.4, a.5)
-    op_later (CloseOp x) todo todo' before behind a = (a.0, a.1, stands_later j a.1 ok a.2, a.3, a.4, a.5)
+    op_later (CloseOp p x) todo todo' before behind a = (a.0, a.1, stands_later j a.1 ok a.2, a.3, a.4, a.5)
+    op_later (CheckOp es line) todo todo' before behind a = (a.0, a.1, a.2, stands_later j a.2 ok a.3, a.4, a.5, a.6, a.7)
+    op_later (ParameterOp n x line) todo todo' before behind a =
+        let p = a.0 in (record { actuals = p.actuals; result = p.result; left = p.left; is = p.is; from = p.from; stands = stands_later j p.from ok p.stands; typed = p.typed; «in» = p.«in»; out = p.out }, a.1)
     op_later (Exec x) todo todo' before behind a = (a.0, a.1, a.2, sited_later _ _ (λ u z. z) a.3)
     op_later (Execs x) todo todo' before behind a = (a.0, a.1, a.2, sited_later _ _ (λ u z. z) a.3)
     op_later (EnterOp k line) todo todo' before behind a = (a.0, a.1, a.2, sited_later _ _ (λ u z. z) a.3)
@@ -510,6 +563,11 @@ module _ (s : Source) (o : AllArrays) (m : Instances) (o' : AllArrays) (m' : Ins
     op_later _ todo todo' before behind a = a
 
     module _ (seats : o'.seat ≡ o.seat) where
+      serves_later : (Below Below' : Waits → Type 0) → ((v : Waits) → Below v → Below' v) → (wanted : Use) (x : Kinds) → Serves s Below wanted x → Serves s Below' wanted x
+      serves_later Below Below' f (ForValue class line) x a = (a.0, a.1, a.2, a.3, f _ a.4)
+      serves_later Below Below' f (ForPlace value_too line) x a = (a.0, a.1, a.2, a.3, f _ a.4)
+      serves_later Below Below' f (ForParameter number line) x a = record { formal = a.formal; by_value = a.by_value; means = a.means; is = a.is; gives = a.gives; below = f _ a.below }
+
       last_later : (w : List Item) → Last o w → Last o' w
       last_later w a = (a.0, ap (λ q. q.evaluations) seats ∙ a.1)
 
@@ -522,7 +580,7 @@ module _ (s : Source) (o : AllArrays) (m : Instances) (o' : AllArrays) (m' : Ins
       work_later same Outermost Outermost' h Below Below' f (EndObject ∷ w) todo before a = (a.0, a.1, a.2, e.objects j a.3, a.4, subst (λ b. IsRelease b j t a.4) (sym (same (a.7).1)) a.5, f a.4 a.6, last_later w a.7)
       work_later same Outermost Outermost' h Below Below' f (EndPrefixed ∷ w) todo before a = (e.nobody j a.0, f _ a.1, last_later w a.2)
       work_later same Outermost Outermost' h Below Below' f (EndProgram ∷ w) todo before a = (e.nobody j a.0, h a.1, last_later w a.2)
-      work_later same Outermost Outermost' h Below Below' f (EndEvaluation wanted ∷ w) todo before a = (a.0, subst (λ q. 0 < q.evaluations) (sym seats) a.1, a.2, a.3, a.4, a.5, a.6, a.7, f _ a.8)
+      work_later same Outermost Outermost' h Below Below' f (EndEvaluation wanted ∷ w) todo before a = (a.0, subst (λ q. 0 < q.evaluations) (sym seats) a.1, a.2, a.3, serves_later Below Below' f wanted a.2 a.4)
 
   pub seated_later : (q : Seat) (j : ℕ) → Apart q.owner → SeatedFor o m q j → SeatedFor o' m' q j
   seated_later q j ok a = record { near = e.nears q.owner j ok a.near; through = e.nears q.owner q.lower ok a.through; lower = e.nears q.lower j (e.near q.owner q.lower ok a.through) a.lower }
@@ -549,7 +607,7 @@ module _ (s : Source) (o : AllArrays) (m : Instances) (o' : AllArrays) (m' : Ins
         seated = ap (seat_on (owner a)) (sym foot) ∙ c.seated;
         works = seated_later s o m o' m' Apart e q a.instance owned c.works;
         vals = c.vals;
-        shown = subst (λ z. Shown z a.values c.vals) same c.shown;
+        shown = subst (λ z. Shown s z a.values c.vals) same c.shown;
         kinds = c.kinds;
         hands = hands_later s (at_seat o q) m (at_seat o' q) m' Apart up a.instance ok c.kinds c.vals (seat_is (λ q. Apart a.instance → (d : ℕ) → Copies (at_seat o q) (at_seat o' q) a.instance d) (seat_on (owner a) on) q c.seated copies ok (length c.vals)) c.hands;
         expected = c.expected;

@@ -24,12 +24,12 @@ use Rattle.sim_values.specs.declared.kind.Kind.TheVariants as kind
 use Rattle.sim_code.specs.Instances.{at_level}
 use Rattle.sim_meaning.specs.Attributes.{connection_at, declared_attribute, qualified, qualified_place}
 use Rattle.sim_meaning.specs.Closing as closing
-use Rattle.sim_meaning.specs.Closing.{Left, LeftAddress, LeftCell, LeftNamed as NamedLeft, LeftReference, LeftText, LeftUnbuilt, array_left, block_if, by_name, class_of_formal, close, close_all, close_left_of, close_place, declared_left, formal_by_name, formal_left, home_of, in_instance, is_virtual_denoted, left_found, left_in, left_plain, left_variable, match_if_virtual, match_left, name_denoted, name_term, named_formal, named_left, named_text, own_block, own_block_denoted, own_match, own_result, reference_left, reference_place, result_left, result_meant, result_or, result_or_own, result_place, unless_connected, variable_left}
+use Rattle.sim_meaning.specs.Closing.{Left, LeftAddress, LeftCell, LeftNamed as NamedLeft, LeftReference, LeftText, LeftUnbuilt, array_left, block_if, by_name, class_of_formal, close, close_all, close_left_of, close_place, declared_left, formal_by_name, formal_left, home_of, in_instance, is_virtual_denoted, left_found, left_in, left_plain, left_variable, match_if_virtual, match_left, name_denoted, name_term, named_formal, named_left, named_text, own_block, own_block_denoted, own_match, own_result, reference_left, reference_place, result_left, result_meant, result_or, result_or_own, result_place, unless_connected, variable_left, named_array_left}
 use Rattle.sim_meaning.specs.Levels.{has_levels, qualification}
-use Rattle.sim_meaning.specs.Pending.{Cell, Declared, ElementOf, ForPlace, Instances, PlaceOf, Result, ValueAt}
+use Rattle.sim_meaning.specs.Pending.{Cell, Declared, ElementOf, ForPlace, Instances, PlaceOf, Result, ValueAt, ForValue, NamedOf}
 use Rattle.sim_meaning.specs.Texts.{ProcedureText, kind_of_type, text}
 use Rattle.sim_meaning.specs.Virtuals.{procedure_text, text_of_procedure}
-use Rattle.sim_sound.specs.Held.{ArrayOf, Around, Holds, In, Refers, Sees, Simply, declared_holds, entry_holds, entry_names, formal_holds, formal_names, held_by, result_holds}
+use Rattle.sim_sound.specs.Held.{ArrayOf, Around, Holds, In, Refers, Sees, Simply, declared_holds, entry_holds, entry_names, formal_holds, held_by, result_holds, ByName, formal_means}
 use Rattle.sim_sound.specs.Expressions.{AreIntegers, ExprIs, KnownAt, LeftHeld, ObjectHas}
 use Rattle.sim_sound.specs.Statements.{LeftDeclared, LeftDot, LeftIs, LeftNamed, LeftOf, LeftResultOr, NoText, OwnText, ReferenceAt, ReferenceLeft, ResultIs, TextLeft}
 use Rattle.sim_sound.specs.Typed.{ResultWritten, Typed}
@@ -97,14 +97,29 @@ module _ (s : Source) (ok : Typed s) (o : AllArrays) (m : Instances) (store : St
       found_left (home_of s m i d) y.instance (λ j. LeftAddress (ElementOf line (Cell j (Declared d.0)) (close_all s m i (Then z es)))) k y.found
       (q, same, (ArrayOf q, (ArrayOf q, refl, refl), at_cell (target_of s ok m i d (ArrayOf q) y e)), ints (Then z es) a.2)
 
-  formal_is : (d : DeclNo) (f : Mode) (g : FormalKind) (ty : Option SimType) (line : ℕ) (es : Expressions) (k : Kind) → declared_holds s (block_of s d) d ≡ formal_holds s f g ty → named_formal f g d ≡ None → LeftHeld (Sees s (In u) d) es (AreIntegers s (In u) es) (formal_names s f g ty) (Simply k) → PlainLeft (formal_left s m i line d f g es) k
+  named_array_is : (d : DeclNo) (line : ℕ) (es : Expressions) (q : Holds) (k : Kind) → declared_holds s (block_of s d) d ≡ Some (ByName (ArrayOf q)) → LeftHeld (Sees s (In u) d) es (AreIntegers s (In u) es) (Some (ArrayOf q)) (Simply k) → PlainLeft (named_array_left s m i line d es) k
+  named_array_is d line NoMore q k e a = absurd a
+  named_array_is d line (Then z es) q k e a =
+      let y = reach d a.1 in
+      let same : Some (AddressOf q) ≡ Some (AddressOf (Simply k)) = ap (λ z. Some (AddressOf z)) a.0 in
+      subst (λ x. TermFine s m i t [] (in_instance x (λ j. ElementOf line (NamedOf j (Declared d.0) (ForValue None line)) (close_all s m i (Then z es)))) (Some (AddressOf (Simply k)))) (sym y.found)
+      (q, same, (ArrayOf q, Value (ArrayOf q), refl, refl, at_cell (target_of s ok m i d (ByName (ArrayOf q)) y e)), ints (Then z es) a.2)
+
+  formal_is : (d : DeclNo) (f : Mode) (g : FormalKind) (ty : Option SimType) (line : ℕ) (es : Expressions) (k : Kind) → declared_holds s (block_of s d) d ≡ formal_holds s f g ty → named_formal f g d ≡ None → LeftHeld (Sees s (In u) d) es (AreIntegers s (In u) es) (formal_means s g ty) (Simply k) → PlainLeft (formal_left s m i line d f g es) k
   formal_is d mode.ByName shape.Simple ty line es k e other a = absurd (cc)
   formal_is d mode.ByValue shape.Simple (Some ty) line es k e other a = variable_is d es (AreIntegers s (In u) es) (held_by s ty) k (held_plain s ty) e a
   formal_is d mode.ByReference shape.Simple (Some ty) line es k e other a = variable_is d es (AreIntegers s (In u) es) (held_by s ty) k (held_plain s ty) e a
   formal_is d mode.ByValue shape.Array (Some ty) line es k e other a = array_is d line es (held_by s ty) k e a
   formal_is d mode.ByReference shape.Array (Some ty) line es k e other a = array_is d line es (held_by s ty) k e a
-  formal_is d _ _ _ line NoMore k e other a = absurd a
-  formal_is d _ _ _ line (Then z es) k e other a = absurd a
+  formal_is d mode.ByName shape.Array (Some ty) line es k e other a = named_array_is d line es (held_by s ty) k e a
+  formal_is d f shape.Procedure ty line NoMore k e other a = absurd a
+  formal_is d f shape.Procedure ty line (Then z es) k e other a = absurd a
+  formal_is d mode.ByValue shape.Simple None line NoMore k e other a = absurd a
+  formal_is d mode.ByValue shape.Simple None line (Then z es) k e other a = absurd a
+  formal_is d mode.ByReference shape.Simple None line NoMore k e other a = absurd a
+  formal_is d mode.ByReference shape.Simple None line (Then z es) k e other a = absurd a
+  formal_is d f shape.Array None line NoMore k e other a = absurd a
+  formal_is d f shape.Array None line (Then z es) k e other a = absurd a
 
   -- the result of a procedure from its inside
   result_target : (d : DeclNo) (ty : SimType) (block : ℕ) (h : Holds) → entry_of s.tables d ≡ Some (entry.Procedure (Some ty) block) → held_by s ty ≡ h → Around s.tables u block → (j : ℕ) × (at_level m (level_of s block) i ≡ Some j) × CellTarget s m i j Result h
@@ -174,10 +189,10 @@ module _ (s : Source) (ok : Typed s) (o : AllArrays) (m : Instances) (store : St
   left_named name es None None k in_c e other a = absurd a
   left_named name es (Some c) None k in_c e other a = absurd a
 
-  abbrev ProcedureOf : ℕ → Type 0
-  ProcedureOf block = (d : DeclNo) × (result : Option SimType) × (entry_of s.tables d ≡ Some (entry.Procedure result block))
+  abbrev ProcedureAt : ℕ → Type 0
+  ProcedureAt block = (d : DeclNo) × (result : Option SimType) × (entry_of s.tables d ≡ Some (entry.Procedure result block))
 
-  procedure_target : (block : ℕ) (h : Holds) → ProcedureOf block → ResultIs s u block h → (j : ℕ) × (at_level m (level_of s block) i ≡ Some j) × CellTarget s m i j Result h
+  procedure_target : (block : ℕ) (h : Holds) → ProcedureAt block → ResultIs s u block h → (j : ℕ) × (at_level m (level_of s block) i ≡ Some j) × CellTarget s m i j Result h
   procedure_target block h p a = by_result p.0 p.1 p.2
     where
       by_result : (d : DeclNo) (result : Option SimType) → entry_of s.tables d ≡ Some (entry.Procedure result block) → (j : ℕ) × (at_level m (level_of s block) i ≡ Some j) × CellTarget s m i j Result h
@@ -185,11 +200,11 @@ module _ (s : Source) (ok : Typed s) (o : AllArrays) (m : Instances) (store : St
       by_result d (Some ty) x = let holds : result_holds s block ≡ Some (held_by s ty) = holds_result s ok d (Some ty) block x in let other = a.1 in result_target d ty block h x (cc) a.0
 
   -- the match of a virtual is a procedure
-  match_procedure : (x : Option DeclNo) (block : ℕ) → text_of_procedure s x ≡ Some block → ProcedureOf block
+  match_procedure : (x : Option DeclNo) (block : ℕ) → text_of_procedure s x ≡ Some block → ProcedureAt block
   match_procedure None block e = absurd (cc)
   match_procedure (Some d) block e = by_entry (entry_of s.tables d) refl e
     where
-      by_entry : (y : Option Entry) → entry_of s.tables d ≡ y → procedure_text y ≡ Some block → ProcedureOf block
+      by_entry : (y : Option Entry) → entry_of s.tables d ≡ y → procedure_text y ≡ Some block → ProcedureAt block
       by_entry (Some (entry.Procedure result q)) is f = let same : q ≡ block = cc in (d, result, is ∙ ap (λ z. Some (entry.Procedure result z)) same)
       by_entry None is f = absurd (cc)
       by_entry (Some _) is f = absurd (cc)
@@ -220,7 +235,7 @@ module _ (s : Source) (ok : Typed s) (o : AllArrays) (m : Instances) (store : St
   own_entry d None token block is own = absurd (cc)
   own_entry d (Some _) token block is own = absurd (cc)
 
-  own_denoted : (x : Option Denotation) (token block : ℕ) → own_block_denoted s token x ≡ Some block → ProcedureOf block
+  own_denoted : (x : Option Denotation) (token block : ℕ) → own_block_denoted s token x ≡ Some block → ProcedureAt block
   own_denoted (Some (denotation.Declared d)) token block own = let x = own_entry d (entry_of s.tables d) token block refl own in (d, x.0, x.1)
   own_denoted (Some (denotation.Standard n)) token block own = absurd (cc)
   own_denoted None token block own = absurd (cc)
@@ -229,17 +244,17 @@ module _ (s : Source) (ok : Typed s) (o : AllArrays) (m : Instances) (store : St
   unless None own block e = e
   unless (Some k) own block e = absurd (cc)
 
-  own_of_result : (e : Expression) (block : ℕ) → own_result s e ≡ Some block → ProcedureOf block
+  own_of_result : (e : Expression) (block : ℕ) → own_result s e ≡ Some block → ProcedureAt block
   unfolding own_result
   own_of_result (syntax.Named name NoMore) block own = own_denoted (denoted s name.token.0) name.token.0 block own
   own_of_result (syntax.Named name (Then e es)) block own = absurd (cc)
   own_of_result _ block own = absurd (cc)
 
-  meant_or : (x : Option DeclNo) (match own : Option ℕ) (block : ℕ) → text_of_procedure s x ≡ match → result_or_own match own ≡ Some block → (own ≡ Some block → ProcedureOf block) → ProcedureOf block
+  meant_or : (x : Option DeclNo) (match own : Option ℕ) (block : ℕ) → text_of_procedure s x ≡ match → result_or_own match own ≡ Some block → (own ≡ Some block → ProcedureAt block) → ProcedureAt block
   meant_or x None own block e f go = go f
   meant_or x (Some q) own block e f go = match_procedure x block (e ∙ f)
 
-  meant_procedure : (e : Expression) (block : ℕ) → result_meant s e ≡ Some block → ProcedureOf block
+  meant_procedure : (e : Expression) (block : ℕ) → result_meant s e ≡ Some block → ProcedureAt block
   unfolding result_meant
   meant_procedure (syntax.Named name es) block e =
       let match = own_match s (syntax.Named name es) in

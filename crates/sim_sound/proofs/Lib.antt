@@ -1,4 +1,5 @@
 pub mod Prefixes
+pub mod Results
 pub mod Unprefixed
 pub mod Acyclic
 pub mod Values
@@ -61,6 +62,8 @@ pub mod Keeping
 pub mod Naming
 pub mod Uses
 pub mod Virtuals
+pub mod Parameters
+pub mod Operating
 pub mod Main
 pub mod Examples
 pub mod ClassExamples

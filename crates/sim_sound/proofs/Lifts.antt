@@ -12,7 +12,7 @@ use Rattle.sim_values.specs.declared.operators.Monadic.TheVariants as monadic
 use Rattle.sim_values.specs.declared.value.TextVal.{TextVal}
 use Rattle.sim_values.specs.Operators.{Answer, an_integer, calculate, compare, compare_as_texts, connect, one_of, same_objects, same_texts, step_test, two_of}
 use Rattle.sim_values.specs.Plain.{Character, Integer, MainOf, Nothing, Object, Plain, Text, Truth, kind_of}
-use Rattle.sim_values.specs.Texts.{Frame, assign, concatenated}
+use Rattle.sim_values.specs.Texts.{Frame, assign, concatenated, Making}
 use Rattle.sim_values.specs.Words.{is_exhausted}
 use Rattle.sim_values.specs.Store.{Store}
 use Rattle.sim_code.specs.Outcome.{Ended, Ending, Going, NoRule, Run, RunFault, StorageExhausted, TickLimit, World}
@@ -80,7 +80,7 @@ module _ {S : Type 0} (P : World → S → Type 0) where
 
   module _ (s : Source) (a : AllArrays) (m : Instances) (j : ℕ) where
     -- whatever is on top
-    pub any_popped : (k : Kinds) (ks : List Kinds) (vals : List Val) (o : World) (f : Val → List Val → Run S) → HandsFine s a m j (k ∷ ks) vals → ((v : Val) (rest : List Val) → vals ≡ v ∷ rest → DeepFine s a m j (length rest) k v → HandsFine s a m j ks rest → Goes P (f v rest)) → Goes P (popping vals o f)
+    pub any_popped : (k : Kinds) (ks : List Kinds) (vals : List Val) (o : World) (f : Val → List Val → Run S) → HandsFine s a m j (k ∷ ks) vals → ((v : Val) (rest : List Val) → vals ≡ v ∷ rest → DeepFine s a m j rest k v → HandsFine s a m j ks rest → Goes P (f v rest)) → Goes P (popping vals o f)
     any_popped k ks [] o f h x = absurd h
     any_popped k ks (v ∷ rest) o f h x = popped v rest o f (x v rest refl h.0 h.1)
 
@@ -90,7 +90,7 @@ module _ {S : Type 0} (P : World → S → Type 0) where
     simple_is k (Address i) o f h x = absurd h
     simple_is k (ArrayValue i) o f h x = absurd h
     simple_is k (ProcedureValue t i) o f h x = absurd h
-    simple_is k (Actual home t) o f h x = absurd h
+    simple_is k (Actual home pr t) o f h x = absurd h
 
     -- a value of a kind, and the object that it names
     pub known_popped : (k : Kind) (ks : List Kinds) (vals : List Val) (o : World) (f : Plain → List Val → Run S) → HandsFine s a m j (Value (Simply k) ∷ ks) vals → ((p : Plain) (rest : List Val) → PlainFine s m (Simply k) p → HandsFine s a m j ks rest → Goes P (f p rest)) → Goes P (pop_plain plain vals o f)
@@ -254,6 +254,12 @@ module _ {S : Type 0} (P : World → S → Type 0) where
         computed line (assign o.store.frames x y).answer o (λ done. f (with_texts o (assign o.store.frames x y).frames) rest) (λ z e. go (assign o.store.frames x y).frames rest most)))
 
     -- `&`
+    pub making_goes : (l : Limits) (line : ℕ) (making : Making) (o : World) (f : TextVal → World → Run S) → ((t w : ℕ) (z : TextVal) → Goes P (f z (with_texts (ran o t w) making.frames))) → Goes P (making_text l line making o f)
+    unfolding making_text
+    making_goes l line making o f go =
+        took l line making.wanted o (λ p. computing line making.answer (with_texts p making.frames) (λ z. f z (with_texts p making.frames))) (λ t w.
+        computed line making.answer (with_texts (ran o t w) making.frames) (λ z. f z (with_texts (ran o t w) making.frames)) (λ z e. go t w z))
+
     pub joining_goes : (l : Limits) (line : ℕ) (ks : List Kinds) (vals : List Val) (o : World) (f : Plain → World → List Val → Run S) → HandsFine s a m j (Value (Simply kind.Text) ∷ Value (Simply kind.Text) ∷ ks) vals → ((z : TextVal) (t w : ℕ) (frames : List Frame) (rest : List Val) → HandsFine s a m j ks rest → Goes P (f (Text z) (with_texts (ran o t w) frames) rest)) → Goes P (joining plain l line vals o f)
     unfolding joining making_text
     joining_goes l line ks vals o f h go =

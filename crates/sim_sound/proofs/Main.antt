@@ -8,7 +8,7 @@ use Rattle.sim_values.specs.declared.kind.Kind.TheVariants as kind
 use Rattle.sim_code.specs.Outcome.{Ended, Ending, Going, NoRule, Normal, Run, World, after, next}
 use Rattle.sim_meaning.specs.Meaning.{do_chain, do_item, do_op, do_work, opening, run, step, sub_block_entered}
 use Rattle.sim_meaning.specs.Sane.{NamesObjects, NamesOn, Sane, StaysSane}
-use Rattle.sim_meaning.specs.Pending.{CloseOp, NamedOp, ActivateOp, Activation, AgainOp, ArrayOp, AttributeOp, BackOp, BlockOp, BranchOp, CallOp, ChooseOp, Configuration, ConnectOp, CopyOp, DeclareOp, Do, DropOp, ElementOp, ElementsOp, EndBlock, EndEvaluation, EndLevel, EndObject, EndPrefixed, EndProcedure, EndProcessOp, EndProgram, EnterOp, Eval, Exec, Execs, FetchOp, FitsOp, GiveOp, IfOp, InnerOp, Instances, Item, JoinOp, KeepOp, LevelOp, MemberOp, NewOp, NotNoneOp, ObjectOp, OneOp, Op, PastOp, PrefixedOp, ProcessOp, QuaOp, QualifiedElementOp, RaiseOp, ReferOp, SelfOp, SetOp, SimulationOp, ShareOp, StandardOp, StepOp, StepTestOp, StoreOp, SwapOp, TestOp, TransferOp, TwoOp, Val, WhenOp, WhileElementOp, VirtualOp, CheckOp, CallValueOp}
+use Rattle.sim_meaning.specs.Pending.{CloseOp, NamedOp, ActivateOp, Activation, AgainOp, ArrayOp, AttributeOp, BackOp, BlockOp, BranchOp, CallOp, ChooseOp, Configuration, ConnectOp, CopyOp, DeclareOp, Do, DropOp, ElementOp, ElementsOp, EndBlock, EndEvaluation, EndLevel, EndObject, EndPrefixed, EndProcedure, EndProcessOp, EndProgram, EnterOp, Eval, Exec, Execs, FetchOp, FitsOp, GiveOp, IfOp, InnerOp, Instances, Item, JoinOp, KeepOp, LevelOp, MemberOp, NewOp, NotNoneOp, ObjectOp, OneOp, Op, PastOp, PrefixedOp, ProcessOp, QuaOp, QualifiedElementOp, RaiseOp, ReferOp, SelfOp, SetOp, SimulationOp, ShareOp, StandardOp, StepOp, StepTestOp, StoreOp, SwapOp, TestOp, TransferOp, TwoOp, Val, WhenOp, WhileElementOp, VirtualOp, CheckOp, CallValueOp, OriginOp, ProcedureOp, ParameterOp}
 use Rattle.sim_sound.specs.Held.{Simply}
 use Rattle.sim_sound.specs.Typed.{Typed}
 use Rattle.sim_sound.proofs.Cells.{site_whole}
@@ -26,7 +26,7 @@ use Rattle.sim_sound.proofs.Moves.{later_there, operates_first}
 use Rattle.sim_sound.proofs.Ops.{store_with}
 use Rattle.sim_sound.proofs.Naming.{fine_names}
 use Rattle.sim_sound.proofs.Objects.{declare_goes, inner_goes, level_goes, new_goes, prefixed_goes}
-use Rattle.sim_sound.proofs.Operators.{close_op, again_op, array_op, attribute_op, copy_op, drop_op, element_op, eval_op, fetch_op, fits_op, give_op, if_op, join_op, keep_op, member_op, not_none_op, object_op, one_op, past_op, qua_op, qualified_element_op, refer_op, share_op, standard_op, step_op, store_op, swap_op, two_op}
+use Rattle.sim_sound.proofs.Operators.{close_op, again_op, array_op, attribute_op, copy_op, drop_op, element_op, eval_op, fetch_op, fits_op, give_op, if_op, join_op, keep_op, member_op, not_none_op, object_op, one_op, past_op, qua_op, qualified_element_op, refer_op, share_op, standard_op, step_op, store_op, swap_op, two_op, origin_op}
 use Rattle.sim_sound.proofs.Running.{Begun, ChainFine, Fine, Headed, Operates, Placed, StoreFine, WorkFine, opens, own_seat, runs}
 use Rattle.sim_sound.proofs.ProcessWork.{block_op, end_process_op, process_op, self_op}
 use Rattle.sim_sound.proofs.SetWork.{set_op}
@@ -34,8 +34,10 @@ use Rattle.sim_sound.proofs.SimulationWork.{activate_op, simulation_op}
 use Rattle.sim_sound.proofs.Sound.{OpFine}
 use Rattle.sim_sound.proofs.Values.{AllArrays, HandsFine, Kinds, Marks, Seat, Takes, Value, Waits, at_seat, see}
 use Rattle.sim_sound.proofs.Transfers.{transfer_op}
-use Rattle.sim_sound.proofs.Virtuals.{call_value_op, check_op, virtual_op}
+use Rattle.sim_sound.proofs.Virtuals.{call_value_op, check_op, procedure_op, virtual_op}
 use Rattle.sim_sound.proofs.Statements.{branch_goes, choose_goes, elements_goes, exec_goes, execs_goes, raise_goes, step_goes, test_goes, while_goes}
+use Rattle.sim_sound.proofs.Operating.{store_there, work_there}
+use Rattle.sim_sound.proofs.Parameters.{parameter_op}
 
 module _ (s : Source) (ok : Typed s) (l : Limits) (o : World) (g : Marks) (long : length g.sights ≡ length o.arrays) where
   module _ (m : Instances) (i t : ℕ) (rest : List Activation) (top : Operates g.beneath g.seat m i rest) (w : List Item) (vals : List Val) where
@@ -81,7 +83,7 @@ module _ (s : Source) (ok : Typed s) (l : Limits) (o : World) (g : Marks) (long 
     op_goes (FitsOp c line) todo todo' before behind a b h work = fits_op s ok l o g long m i t rest top w vals todo todo' before behind b h work c line a
     -- parameters by name
     op_goes (NamedOp e key wanted) todo todo' before behind a b h work = named_op s ok l o g long m i t rest top w vals todo before b h e key wanted todo' behind a work
-    op_goes (CloseOp e) todo todo' before behind a b h work = close_op s ok l o g long m i t rest top w vals todo todo' before behind b h work e a
+    op_goes (CloseOp p e) todo todo' before behind a b h work = close_op s ok l o g long m i t rest top w vals todo todo' before behind b h work p e a
     op_goes KeepOp todo todo' before behind a b h work = keep_op s ok l o g long m i t rest top w vals todo todo' before behind b h work a
     op_goes (NotNoneOp line) todo todo' before behind a b h work = not_none_op s ok l o g long m i t rest top w vals todo todo' before behind b h work line a
     op_goes (SetOp name) todo todo' before behind a b h work = set_op s ok l o g long m i t rest top w vals todo todo' before behind b h work name a
@@ -89,8 +91,11 @@ module _ (s : Source) (ok : Typed s) (l : Limits) (o : World) (g : Marks) (long 
     op_goes (ProcessOp name line) todo todo' before behind a b h work = process_op s ok l o g long m i t rest top w vals todo todo' before behind b h work name line a
     op_goes (SimulationOp name line) todo todo' before behind a b h work = simulation_op s ok l o g long m i t rest top w vals todo todo' before behind b h work name line a
     op_goes (VirtualOp v line) todo todo' before behind a b h work = virtual_op s ok l o g long m i t rest top w vals todo todo' before behind b h work v line a
-    op_goes (CheckOp n line) todo todo' before behind a b h work = check_op s ok l o g long m i t rest top w vals todo todo' before behind b h work n line a
-    op_goes (CallValueOp line) todo todo' before behind a b h work = call_value_op s ok l o g long m i t rest top w vals todo todo' before behind b h work line a
+    op_goes (OriginOp k token line) todo todo' before behind a b h work = origin_op s ok l o g long m i t rest top w vals todo todo' before behind b h work k token line a
+    op_goes (ProcedureOp k) todo todo' before behind a b h work = procedure_op s ok l o g long m i t rest top w vals todo todo' before behind b h work k a
+    op_goes (CheckOp es line) todo todo' before behind a b h work = check_op s ok l o g long m i t rest top w vals todo todo' before behind b h work es line a
+    op_goes (ParameterOp n e line) todo todo' before behind a b h work = parameter_op s ok l o g long m i t rest top w vals todo todo' before behind b h work n e line a
+    op_goes (CallValueOp n leaves line) todo todo' before behind a b h work = call_value_op s ok l o g long m i t rest top w vals todo todo' before behind b h work n leaves line a
     -- values in hand, and assignments
     op_goes DropOp todo todo' before behind a b h work = drop_op s ok l o g long m i t rest top w vals todo todo' before behind b h work a
     op_goes AgainOp todo todo' before behind a b h work = again_op s ok l o g long m i t rest top w vals todo todo' before behind b h work a
@@ -176,20 +181,6 @@ module _ (s : Source) (ok : Typed s) (l : Limits) (o : World) (g : Marks) (long 
   work_goes : (m : Instances) (i t : ℕ) (rest : List Activation) (top : Operates g.beneath g.seat m i rest) (vals : List Val) (work : List Item) (todo : List DeclNo) (ks : List Kinds) → Begun s (see g o) m i t todo → HandsFine s (see g o) m i ks vals → Work s o g long m i t rest top work todo ks → Goes (IsFine s) (do_work s l o m i vals rest work)
   work_goes m i t rest top vals [] todo ks b h a = absurd a
   work_goes m i t rest top vals (x ∷ w) todo ks b h a = item_goes m i t rest top w vals x todo ks b h a
-
--- what is looked at from where it operates
-module _ (s : Source) (o : AllArrays) (q : Seat) (m : Instances) where
-  same_copies : AllCopies o (at_seat o q)
-  same_copies p j d e h a less f = f
-
-  store_there : StoreFine s o m → StoreFine s (at_seat o q) m
-  store_there store = store_with s o (at_seat o q) m (later_there s o q m) refl refl same_copies store.elements store.members store.simulations store
-
-  below_there : (rest : List Activation) (v : Waits) → ChainFine s o m rest v → ChainFine s (at_seat o q) m rest v
-  below_there rest v c = fine_later s o m (at_seat o q) m All (later_there s o q m) AnySeat (λ p j d k ok. same_copies p j d) (λ j k. (refl, refl)) rest (all_apart None rest) (all_apart None rest) v c
-
-  work_there : (rest : List Activation) (i t : ℕ) (w : List Item) (todo : List DeclNo) (ks : List Kinds) → WorkFine s (at_seat o q) m (λ v. ChainFine s o m rest v) (rest ≡ []) i t w todo ks → WorkFine s (at_seat o q) m (λ v. ChainFine s (at_seat o q) m rest v) (rest ≡ []) i t w todo ks
-  work_there rest i t w todo ks a = work_later s (at_seat o q) m (at_seat o q) m All (later_none s (at_seat o q) m) i t tt refl (λ own. refl) (rest ≡ []) (rest ≡ []) (λ z. z) (λ v. ChainFine s o m rest v) (λ v. ChainFine s (at_seat o q) m rest v) (below_there rest) w todo ks a
 
 module _ (s : Source) (ok : Typed s) (l : Limits) (o : World) (g : Marks) (long : length g.sights ≡ length o.arrays) where
   chain_goes : (m : Instances) (chain : List Activation) → StoreFine s (see g o) m → Placed m chain → Headed m chain → ChainFine s (see g o) m chain (Takes None) → Goes (IsFine s) (do_chain s l o m chain)

@@ -11,7 +11,7 @@ use Rattle.sim_code.specs.Outcome.{ArrayOf as OneArray, Simulation, World}
 use Rattle.sim_code.specs.Arrays.{given_with, giving_back, goes_with, unless_given}
 use Rattle.sim_code.specs.Instances.{Instance, encloser_in, encloser_of, ends_in, entered, given, given_in, is_given_at_end, live, system_head, with_instance}
 use Rattle.sim_code.specs.Instances as instances
-use Rattle.sim_meaning.specs.Pending.{Activation, Held, Instances, Key, Val, held, held_set, owner}
+use Rattle.sim_meaning.specs.Pending.{Activation, Held, Instances, Key, Val, held, held_set, owner, Origin}
 use Rattle.sim_meaning.specs.Meaning.{instances_left, text_of, words_of_text, world_left}
 use Rattle.sim_meaning.specs.Texts.{text}
 use Rattle.sim_sound.specs.Held.{Holds, key_holds}
@@ -281,6 +281,7 @@ module _ (s : Source) (o : AllArrays) (m : Instances) (e : ℕ) (y : Instance (L
     holds = f.holds;
     cells = cells_later s o m o set_in All later_cells e y.text tt cells fine;
     ends = f.ends;
+    origins = λ class u at is. keys Origin (f.origins class u at is);
     out = enclosed_later s o m o set_in All later_cells e y.text y.encloser tt f.out;
   }
 

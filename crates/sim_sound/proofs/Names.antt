@@ -23,13 +23,13 @@ use Rattle.sim_code.specs.Sets.{is_attribute_name}
 use Rattle.sim_code.specs.Simulations.{is_simulation_name}
 use Rattle.sim_meaning.specs.Pending.{Address, ArrayValue, Configuration, Instances, Link, Of, ProcedureValue, Actual, Val, cell}
 use Rattle.sim_meaning.specs.Steps.{of_plain, operand, plain_in, put_back}
-use Rattle.sim_sound.specs.Held.{ByName, ArrayOf, Holds, Refers, Simply}
+use Rattle.sim_sound.specs.Held.{ByName, ArrayOf, Holds, Refers, Simply, Procedure}
 use Rattle.sim_sound.specs.Expressions.{DoneAlone, standard_kind}
 use Rattle.sim_sound.proofs.Cells.{lies_cell, val_up, whichever_value}
 use Rattle.sim_sound.proofs.Constants.{NoReference}
 use Rattle.sim_sound.proofs.Running.{StoreFine}
 use Rattle.sim_sound.proofs.Sound.{OperandIs, OperandsAre, pushed}
-use Rattle.sim_sound.proofs.Values.{Whichever, ObjectIn, AddressOf, Component, Copied, DeepFine, ElementFine, HandFine, HandsFine, ImageAddress, IsImage, Kinds, Lasting, LinkTo, Marks, Open, PlainFine, ReferenceAddress, ValFine, Value, see, MatchFor}
+use Rattle.sim_sound.proofs.Values.{Whichever, ObjectIn, AddressOf, Component, Copied, DeepFine, ElementFine, HandFine, HandsFine, ImageAddress, IsImage, Kinds, Lasting, LinkTo, Marks, Open, PlainFine, ReferenceAddress, ValFine, Value, see, Checked, ForFormal, NewObject}
 use Rattle.sim_sound.proofs.Lifts.{Goes, Shape, a_char, a_text, an_int, any_popped, computed, had, ran, shape, took}
 use Rattle.sim_sound.proofs.Lists.{equal_numbers, there_get}
 
@@ -205,7 +205,7 @@ plain_of s g o m j k (Link z) a = absurd a
 plain_of s g o m j k (Address z) a = absurd a
 plain_of s g o m j k (ArrayValue z) a = absurd a
 plain_of s g o m j k (ProcedureValue z y) a = absurd a
-plain_of s g o m j k (Actual home z) a = absurd a
+plain_of s g o m j k (Actual home pr z) a = absurd a
 
 module _ {S : Type 0} (P : World → S → Type 0) (s : Source) (o : World) (g : Marks) (m : Instances) (j : ℕ) where
   -- an operand that lies in an image is its text
@@ -235,6 +235,7 @@ module _ {S : Type 0} (P : World → S → Type 0) (s : Source) (o : World) (g :
       (p.0, ap (operand o m) p.1, p.2 ∙ (let f : k' ≡ k = cc in f), λ n f. absurd (cc))
   direct_read store k (Value (Refers c)) v direct is a = absurd (cc)
   direct_read store k (Value (ArrayOf k')) v direct is a = absurd (cc)
+  direct_read store k (Value (Procedure k')) v direct is a = absurd (cc)
   direct_read store k (Value (ByName k')) v direct is a = absurd (cc)
   direct_read store k (AddressOf h) (Address (ElementPlace a n None)) direct is f =
       let q = element_there s g o m j a n h store f in
@@ -251,7 +252,7 @@ module _ {S : Type 0} (P : World → S → Type 0) (s : Source) (o : World) (g :
   direct_read store k (AddressOf k') (Link z) direct is f = absurd f
   direct_read store k (AddressOf k') (ArrayValue z) direct is f = absurd f
   direct_read store k (AddressOf k') (ProcedureValue z y) direct is f = absurd f
-  direct_read store k (AddressOf k') (Actual home z) direct is f = absurd f
+  direct_read store k (AddressOf k') (Actual home pr z) direct is f = absurd f
   direct_read store k ImageAddress (Address (ImagePlace zero)) direct is f = (Text o.store.sysin, refl, sym is, λ n g. (o.store.sysin, refl, ap (image_at o.store) (let h : n ≡ 0 = cc in h)))
   direct_read store k ImageAddress (Address (ImagePlace (suc zero))) direct is f = (Text o.store.sysout, refl, sym is, λ n g. (o.store.sysout, refl, ap (image_at o.store) (let h : n ≡ 1 = cc in h)))
   direct_read store k ImageAddress (Address (ImagePlace (suc (suc n)))) direct is f = absurd f
@@ -261,14 +262,16 @@ module _ {S : Type 0} (P : World → S → Type 0) (s : Source) (o : World) (g :
   direct_read store k ImageAddress (Link z) direct is f = absurd f
   direct_read store k ImageAddress (ArrayValue z) direct is f = absurd f
   direct_read store k ImageAddress (ProcedureValue z y) direct is f = absurd f
-  direct_read store k ImageAddress (Actual home z) direct is f = absurd f
+  direct_read store k ImageAddress (Actual home pr z) direct is f = absurd f
   direct_read store k (LinkTo t) v direct is f = absurd is
   direct_read store k (Copied t) v direct is f = absurd is
   direct_read store k (ReferenceAddress t) v direct is f = absurd is
   direct_read store k (Lasting t) v direct is f = absurd is
   direct_read store k Component v direct is f = absurd is
   direct_read store k (ObjectIn u) v direct is f = absurd is
-  direct_read store k (MatchFor h) v direct is f = absurd is
+  direct_read store k (NewObject h) v direct is f = absurd is
+  direct_read store k (Checked es h) v direct is f = absurd is
+  direct_read store k (ForFormal h) v direct is f = absurd is
 
   operand_read : StoreFine s (see g o) m → (k : Kind) (x : Kinds) (v : Val) → OperandIs k x → HandFine s (see g o) m j x v → Read k v
   operand_read store k (Whichever value_too h) v is a =
@@ -280,7 +283,7 @@ module _ {S : Type 0} (P : World → S → Type 0) (s : Source) (o : World) (g :
   operand_read store k _ v is a = absurd is
 
   -- an operand is no copy of an array
-  at_hand : (k : Kind) (x : Kinds) (d : ℕ) (v : Val) → OperandIs k x → DeepFine s (see g o) m j d x v → HandFine s (see g o) m j x v
+  at_hand : (k : Kind) (x : Kinds) (d : List Val) (v : Val) → OperandIs k x → DeepFine s (see g o) m j d x v → HandFine s (see g o) m j x v
   at_hand k (Value h) d v is f = f
   at_hand k (AddressOf z) d v is f = f
   at_hand k ImageAddress d v is f = f
@@ -290,7 +293,9 @@ module _ {S : Type 0} (P : World → S → Type 0) (s : Source) (o : World) (g :
   at_hand k (Lasting z) d v is f = absurd is
   at_hand k Component d v is f = absurd is
   at_hand k (ObjectIn u) d v is f = absurd is
-  at_hand k (MatchFor h) d v is f = absurd is
+  at_hand k (NewObject h) d v is f = absurd is
+  at_hand k (Checked es h) d v is f = absurd is
+  at_hand k (ForFormal h) d v is f = absurd is
   at_hand k (Whichever value_too h) d v is f = f
 
   -- a text operand that is put back: the place that it came from, which if it is an image is still the same text
@@ -338,7 +343,7 @@ module _ {S : Type 0} (P : World → S → Type 0) (s : Source) (o : World) (g :
   unfolding pop_operands
   operand_popped store k x ks n first vals f is h go =
       any_popped P s (see g o) m j x ks vals o (λ v rest. having (operand o m v) o (λ p. pop_operands (operand o m) n (Some v) rest o (λ ps first rest. f (p ∷ ps) first rest))) h (λ v rest same here more.
-      let hand = at_hand k x (length rest) v is here in
+      let hand = at_hand k x rest v is here in
       let r = operand_read store k x v is hand in
       had P (operand o m v) r.0 o (λ p. pop_operands (operand o m) n (Some v) rest o (λ ps first rest. f (p ∷ ps) first rest)) r.1 (go v r.0 rest r.2 hand r.3 more))
 

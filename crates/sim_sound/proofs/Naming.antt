@@ -1,5 +1,5 @@
 -- Each configuration with a rule is one in which references name objects.
-use Rattle.std.proofs.Common.{◌≡◌, ℕ, true, false, List, [], ◌∷◌, Option, Some, None, ⊎_elim, inl, inr, sym, subst}
+use Rattle.std.proofs.Common.{length, ◌≡◌, ℕ, true, false, List, [], ◌∷◌, Option, Some, None, ⊎_elim, inl, inr, sym, subst}
 use Rattle.sim_scope.specs.Source.{Source}
 use Rattle.sim_values.specs.Plain.{Character, Integer, MainOf, Nothing, Object, Text, Truth}
 use Rattle.sim_values.specs.declared.value.TextVal.{TextVal}
@@ -11,7 +11,7 @@ use Rattle.sim_code.specs.Outcome.{World}
 use Rattle.sim_meaning.specs.Pending.{Key, cell, Activation, Address, ArrayValue, Configuration, Instances, Link, Of, ProcedureValue, Actual, Val}
 use Rattle.sim_meaning.specs.Steps.{of_plain, value_at}
 use Rattle.sim_meaning.specs.Sane.{AllLead, Leads, AllName, IsObject, IsSimulation, Names, NamesOn}
-use Rattle.sim_sound.specs.Held.{ByName, Holds, ArrayOf, Refers, Simply}
+use Rattle.sim_sound.specs.Held.{ByName, Holds, ArrayOf, Refers, Simply, Procedure}
 use Rattle.sim_sound.specs.Typed.{Typed}
 use Rattle.sim_sound.proofs.Cells.{lies_cell}
 use Rattle.sim_sound.proofs.Fitting.{plain_val}
@@ -19,7 +19,7 @@ use Rattle.sim_sound.proofs.Later.{near_unseat}
 use Rattle.sim_sound.proofs.Lists.{same_some}
 use Rattle.sim_sound.proofs.Names.{element_there}
 use Rattle.sim_sound.proofs.Running.{StoreFine, ChainFine, Fine, opens, runs}
-use Rattle.sim_sound.proofs.Values.{ArrayFine, CellLies, ElementFine, Marks, Seat, Whichever, at_seat, see, ObjectIn, AddressOf, AllArrays, Component, Copied, DeepFine, HandsFine, ImageAddress, Kinds, Lasting, LinkTo, ObjectOf, ReferenceAddress, Simulates, Takes, Value, MatchFor}
+use Rattle.sim_sound.proofs.Values.{ArrayFine, CellLies, ElementFine, Marks, Seat, Whichever, at_seat, see, ObjectIn, AddressOf, AllArrays, Component, Copied, HeldDeep, HandsFine, some_held, ImageAddress, Kinds, Lasting, LinkTo, ObjectOf, ReferenceAddress, Simulates, Takes, Value, Checked, ForFormal, NewObject}
 use Rattle.sim_sound.proofs.ProcessClasses.{simulation_is}
 
 module _ (s : Source) (ok : Typed s) (o : AllArrays) (m : Instances) where
@@ -29,7 +29,7 @@ module _ (s : Source) (ok : Typed s) (o : AllArrays) (m : Instances) where
   simulation_is_named : (b k : ℕ) → Simulates s m b k → IsSimulation s m b
   simulation_is_named b k p = let x = p.lasts in record { instance = x.now; lives = x.lives; simulates = simulation_is s ok (x.now).text k x.solid x.level p.simulates }
 
-  deep_names : (i d : ℕ) (k : Kinds) (j : ℕ) → DeepFine s o m i d k (Of (Object j)) → IsObject s m j
+  deep_names : (i d : ℕ) (k : Kinds) (j : ℕ) → HeldDeep s o m i d k (Of (Object j)) → IsObject s m j
   deep_names i d (Value (Simply k)) j a = let x = a.1 in object_is j x.0 x.1
   deep_names i d (Value (Refers c)) j a = object_is j c a
   deep_names i d (Value (ArrayOf h)) j a = absurd a
@@ -41,12 +41,15 @@ module _ (s : Source) (ok : Typed s) (o : AllArrays) (m : Instances) where
   deep_names i d (Lasting h) j a = absurd a
   deep_names i d Component j a = object_is j a.0 a.1
   deep_names i d (ObjectIn c) j a = object_is j c a
-  deep_names i d (MatchFor h) j a = absurd a
+  deep_names i d (NewObject h) j a = object_is j h a.object
+  deep_names i d (Checked es h) j a = absurd a
+  deep_names i d (ForFormal h) j a = absurd a
+  deep_names i d (Value (Procedure k)) j a = absurd a
   deep_names i d (Value (ByName k)) j a = absurd a
   deep_names i d (Whichever true k) j a = let x = a.1 in object_is j x.0 x.1
   deep_names i d (Whichever false k) j a = absurd a
 
-  main_names : (i d : ℕ) (k : Kinds) (b : ℕ) → DeepFine s o m i d k (Of (MainOf b)) → IsSimulation s m b
+  main_names : (i d : ℕ) (k : Kinds) (b : ℕ) → HeldDeep s o m i d k (Of (MainOf b)) → IsSimulation s m b
   main_names i d (Value (Simply k)) b a = let x = a.1 in simulation_is_named b x.0 x.1
   main_names i d (Value (Refers c)) b a = simulation_is_named b a.level a.block
   main_names i d (Value (ArrayOf h)) b a = absurd a
@@ -58,12 +61,15 @@ module _ (s : Source) (ok : Typed s) (o : AllArrays) (m : Instances) where
   main_names i d (Lasting h) b a = absurd a
   main_names i d Component b a = simulation_is_named b a.0 a.1
   main_names i d (ObjectIn c) b a = simulation_is_named b a.level a.block
-  main_names i d (MatchFor h) b a = absurd a
+  main_names i d (NewObject h) b a = absurd a
+  main_names i d (Checked es h) b a = absurd a
+  main_names i d (ForFormal h) b a = absurd a
+  main_names i d (Value (Procedure k)) b a = absurd a
   main_names i d (Value (ByName k)) b a = absurd a
   main_names i d (Whichever true k) b a = let x = a.1 in simulation_is_named b x.0 x.1
   main_names i d (Whichever false k) b a = absurd a
 
-  value_names : (i d : ℕ) (k : Kinds) (v : Val) → DeepFine s o m i d k v → Names s m v
+  value_names : (i d : ℕ) (k : Kinds) (v : Val) → HeldDeep s o m i d k v → Names s m v
   value_names i d k (Of (Object j)) a = deep_names i d k j a
   value_names i d k (Of (MainOf b)) a = main_names i d k b a
   value_names i d k (Of Nothing) a = tt
@@ -75,12 +81,12 @@ module _ (s : Source) (ok : Typed s) (o : AllArrays) (m : Instances) where
   value_names i d k (Address p) a = tt
   value_names i d k (ArrayValue n) a = tt
   value_names i d k (ProcedureValue p q) a = tt
-  value_names i d k (Actual home x) a = tt
+  value_names i d k (Actual home pr x) a = tt
 
   hands_name : (i : ℕ) (ks : List Kinds) (vals : List Val) → HandsFine s o m i ks vals → AllName s m vals
   hands_name i ks [] a = tt
   hands_name i [] (v ∷ vals) a = absurd a
-  hands_name i (k ∷ ks) (v ∷ vals) a = (value_names i _ k v a.0, hands_name i ks vals a.1)
+  hands_name i (k ∷ ks) (v ∷ vals) a = let y = some_held s o m i vals k v a.0 in (value_names i (length vals) y.0 v y.1, hands_name i ks vals a.1)
 
 -- what lies where a value in hand leads
 module _ (s : Source) (ok : Typed s) (o : World) (g : Marks) (m : Instances) (store : StoreFine s (see g o) m) (q : Seat) where
@@ -108,7 +114,7 @@ module _ (s : Source) (ok : Typed s) (o : World) (g : Marks) (m : Instances) (st
   text_leads None x is = absurd (cc)
   text_leads (Some t) x is = let same : Of (Text t) ≡ x = cc in subst (Names s m) same tt
 
-  place_leads : (j d : ℕ) (k : Kinds) (p : Place Key (Option ℕ)) → DeepFine s There m j d k (Address p) → (x : Val) → value_at o m p ≡ Some x → Names s m x
+  place_leads : (j d : ℕ) (k : Kinds) (p : Place Key (Option ℕ)) → HeldDeep s There m j d k (Address p) → (x : Val) → value_at o m p ≡ Some x → Names s m x
   place_leads j d (AddressOf h) (ElementPlace a n None) f x is = element_leads j h a n f x is
   place_leads j d (AddressOf h) (CellPlace e key None) f x is = cell_leads j e key h f x is
   place_leads j d (ReferenceAddress c) (ElementPlace a n (Some k)) f x is = element_leads j (Refers c) a n f.1 x is
@@ -130,29 +136,32 @@ module _ (s : Source) (ok : Typed s) (o : World) (g : Marks) (m : Instances) (st
   place_leads j d (Value (Simply k)) p f x is = absurd f
   place_leads j d (Value (Refers c)) p f x is = absurd f
   place_leads j d (Value (ArrayOf h)) p f x is = absurd f
+  place_leads j d (Value (Procedure k)) p f x is = absurd f
   place_leads j d (Value (ByName k)) p f x is = absurd f
   place_leads j d (LinkTo u) p f x is = absurd f
   place_leads j d (Copied h) p f x is = absurd f
   place_leads j d (Lasting h) p f x is = absurd f
   place_leads j d Component p f x is = absurd f
   place_leads j d (ObjectIn c) p f x is = absurd f
-  place_leads j d (MatchFor h) p f x is = absurd f
+  place_leads j d (NewObject h) p f x is = absurd f
+  place_leads j d (Checked es h) p f x is = absurd f
+  place_leads j d (ForFormal h) p f x is = absurd f
 
-  itself_leads : (j d : ℕ) (k : Kinds) (v : Val) → DeepFine s There m j d k v → (x : Val) → Some v ≡ Some x → Names s m x
+  itself_leads : (j d : ℕ) (k : Kinds) (v : Val) → HeldDeep s There m j d k v → (x : Val) → Some v ≡ Some x → Names s m x
   itself_leads j d k v f x is = let same : v ≡ x = cc in subst (Names s m) same (value_names s ok There m j d k v f)
 
-  value_leads : (j d : ℕ) (k : Kinds) (v : Val) → DeepFine s There m j d k v → Leads s o m v
+  value_leads : (j d : ℕ) (k : Kinds) (v : Val) → HeldDeep s There m j d k v → Leads s o m v
   value_leads j d k (Address p) f x is = place_leads j d k p f x is
   value_leads j d k (Of p) f x is = itself_leads j d k (Of p) f x is
   value_leads j d k (Link n) f x is = itself_leads j d k (Link n) f x is
   value_leads j d k (ArrayValue n) f x is = itself_leads j d k (ArrayValue n) f x is
   value_leads j d k (ProcedureValue t n) f x is = itself_leads j d k (ProcedureValue t n) f x is
-  value_leads j d k (Actual home e) f x is = itself_leads j d k (Actual home e) f x is
+  value_leads j d k (Actual home pr e) f x is = itself_leads j d k (Actual home pr e) f x is
 
   hands_lead : (j : ℕ) (ks : List Kinds) (vals : List Val) → HandsFine s There m j ks vals → AllLead s o m vals
   hands_lead j ks [] a = tt
   hands_lead j [] (v ∷ vals) a = absurd a
-  hands_lead j (k ∷ ks) (v ∷ vals) a = (value_leads j _ k v a.0, hands_lead j ks vals a.1)
+  hands_lead j (k ∷ ks) (v ∷ vals) a = let y = some_held s There m j vals k v a.0 in (value_leads j (length vals) y.0 v y.1, hands_lead j ks vals a.1)
 
   all_name : (j : ℕ) (ks : List Kinds) (vals : List Val) → HandsFine s There m j ks vals → AllName s m vals × AllLead s o m vals
   all_name j ks vals a = (hands_name s ok There m j ks vals a, hands_lead j ks vals a)

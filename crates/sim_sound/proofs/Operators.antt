@@ -1,6 +1,6 @@
 -- Each operator of expressions and assignments goes on.
 use Rattle.std.proofs.Common.{⊎_elim, ◌≡◌, ℕ, suc, Bool, true, false, List, [], ◌∷◌, ◌++◌, length, Option, Some, None, inr, refl, sym, ap, ◌∙◌, subst}
-use Rattle.std.specs.Prelude.{◌*◌, ◌+◌}
+use Rattle.std.specs.Prelude.{◌*◌, ◌+◌, pos}
 use Rattle.sim_base.specs.declared.limits.Limits.{Limits}
 use Rattle.sim_base.specs.declared.numbering.DeclNo.{DeclNo}
 use Rattle.sim_scope.specs.Levels.{has_level}
@@ -24,10 +24,10 @@ use Rattle.sim_code.specs.Events.{choosing, having, popping, qualifying, when}
 use Rattle.sim_code.specs.Instances.{CellPlace, ElementPlace}
 use Rattle.sim_meaning.specs.Levels.{belongs, has_procedure, has_levels, is_in, is_in_any, main_belongs, stands_in}
 use Rattle.sim_meaning.specs.Objects.{is_member, putting_reference}
-use Rattle.sim_meaning.specs.Closing.{close_actual}
-use Rattle.sim_meaning.specs.Pending.{CloseOp, ToNamed, Activation, Address, AgainOp, array_in, ArrayOp, ArrayValue, AttributeOp, cell_set, Configuration, CopyOp, Declared, Do, DropOp, ElementOp, Eval, FetchOp, FitsOp, GiveOp, IfOp, Instances, Item, JoinOp, KeepOp, Key, Link, MemberOp, NotNoneOp, ObjectOp, Of, OneOp, Op, PastOp, place_in, QualifiedElementOp, QuaOp, ReferOp, ShareOp, StandardOp, StepOp, StoreOp, SwapOp, Target, Term, ToAddress, ToCell, ToPlace, ToReference, ToReferenceAt, ToText, ToTextAt, ToTextOf, TwoOp, Val, variable_in}
+use Rattle.sim_meaning.specs.Closing.{close_actual, close_passed}
+use Rattle.sim_meaning.specs.Pending.{CloseOp, ToNamed, Activation, Address, AgainOp, array_in, ArrayOp, ArrayValue, AttributeOp, cell_set, Configuration, CopyOp, Declared, Do, DropOp, ElementOp, Eval, FetchOp, FitsOp, GiveOp, IfOp, Instances, Item, JoinOp, KeepOp, Key, Link, MemberOp, NotNoneOp, ObjectOp, Of, OneOp, Op, PastOp, place_in, QualifiedElementOp, QuaOp, ReferOp, ShareOp, StandardOp, StepOp, StoreOp, SwapOp, Target, Term, ToAddress, ToCell, ToPlace, ToReference, ToReferenceAt, ToText, ToTextAt, ToTextOf, TwoOp, Val, variable_in, OriginOp, Origin}
 use Rattle.sim_meaning.specs.Texts.{text}
-use Rattle.sim_sound.specs.Held.{ByName, ArrayOf, Holds, Refers, Simply}
+use Rattle.sim_sound.specs.Held.{ByName, ArrayOf, Holds, Refers, Simply, Procedure}
 use Rattle.sim_sound.specs.Expressions.{TwoKinds, some_holds, standard_kind}
 use Rattle.sim_sound.specs.Typed.{Typed}
 use Rattle.sim_sound.proofs.ArrayEvents.{NewArray, added_fine, array_is, copied_array, copied_fine, found_element, made_array}
@@ -35,20 +35,21 @@ use Rattle.sim_sound.proofs.Cells.{target_lies, whichever_reference, whichever_v
 use Rattle.sim_sound.proofs.Changes.{copies_array, copies_replaced, elements_array, elements_replaced, later_array, later_replaced, more, new_lives, replaced}
 use Rattle.sim_sound.proofs.Constants.{names_none}
 use Rattle.sim_sound.proofs.Evals.{IsFine, Work, eval_goes, goes_on}
-use Rattle.sim_sound.proofs.Fitting.{knows_object, object_in, main_up, object_levels, object_up, object_whole, plain_by_kind, val_fits}
+use Rattle.sim_sound.proofs.Fitting.{knows_object, object_in, main_up, object_levels, object_up, object_whole, plain_by_kind, val_fits, plain_fits, plain_val}
 use Rattle.sim_sound.proofs.Later.{All, AllCopies, own_later, present_later}
 use Rattle.sim_sound.proofs.Lifts.{Goes, any_popped, assigning_goes, chosen, had, integers_popped, joining_goes, known_popped, one_applied, plain_popped, ran, step_applied, truth_popped, two_applied, whens}
 use Rattle.sim_sound.proofs.Lists.{set_len}
 use Rattle.sim_sound.proofs.Moves.{same_ones}
 use Rattle.sim_sound.proofs.Names.{ValueIs, performed}
-use Rattle.sim_sound.proofs.Ops.{back_goes, fetched_goes, later_hands, later_with, putting_goes, putting_reference_goes, set_goes, store_with, stored_array}
-use Rattle.sim_sound.proofs.Places.{actual_closed}
+use Rattle.sim_sound.proofs.Ops.{back_goes, fetched_goes, later_hands, later_with, putting_goes, putting_reference_goes, set_goes, store_with, stored_array, origin_goes}
+use Rattle.sim_sound.proofs.Places.{passed_closed}
 use Rattle.sim_sound.proofs.Prefixes.{level_is, level_then}
 use Rattle.sim_sound.proofs.ProcessClasses.{main_bare}
-use Rattle.sim_sound.proofs.References.{any_some_popped, held_reference_goes, object_popped, some_popped}
+use Rattle.sim_sound.proofs.References.{any_some_popped, held_reference_goes, object_popped, some_popped, new_popped}
 use Rattle.sim_sound.proofs.Running.{Begun, Operates}
-use Rattle.sim_sound.proofs.Sound.{TakesReference, TakesValue, actual_gives, ShowsObject, Addressed, IsAddress, IsCopy, Leads, NotStandard, OneKinds, OpFine, TermFine, array_stored, given, held_kinds, value_stored}
-use Rattle.sim_sound.proofs.Values.{CellLies, Whichever, near_staying, ObjectIn, AddressOf, Component, Copied, CopyFine, DeepFine, HandFine, HandsFine, Hidden, ImageAddress, Kinds, Lasting, LinkTo, MainIn, Marks, ObjectOf, Open, PlainFine, ReferenceAddress, ReferenceFine, Sight, ValFine, Value, elements_of, see, MatchFor}
+use Rattle.sim_sound.proofs.Sound.{TakesReference, TakesValue, actual_gives, ShowsObject, Addressed, IsAddress, IsCopy, Leads, NotStandard, OneKinds, OpFine, TermFine, array_stored, given, value_stored}
+use Rattle.sim_sound.proofs.Values.{CellLies, Whichever, near_staying, ObjectIn, AddressOf, Component, Copied, CopyFine, DeepFine, HandFine, HandsFine, Hidden, ImageAddress, Kinds, Lasting, LinkTo, MainIn, Marks, ObjectOf, Open, PlainFine, ReferenceAddress, ReferenceFine, Sight, ValFine, Value, elements_of, see, held_kinds, Checked, ForFormal, NewObject}
+use Rattle.sim_sound.proofs.Reach.{has_itself}
 
 one_longer : (g : List Sight) (o : List OneArray) (z : Sight) (x : OneArray) → length (g ++ z ∷ []) ≡ suc (length g)
 one_longer [] o z x = refl
@@ -110,9 +111,9 @@ module _ (s : Source) (ok : Typed s) (l : Limits) (o : World) (g : Marks) (long 
   pub fetch_op : OpFine s (see g o) m i t FetchOp todo todo' before behind → Stepped FetchOp
   fetch_op a =
       any_popped P s (see g o) m i a.1 a.2 vals o (λ v vs. having (place_in v) o (λ p. having (value_at o m p) o (λ v. go o m i w (v ∷ vs) rest))) (hand _ a.4) (λ v vs is e more.
-      fetched_goes s ok l o g long m i t rest top a.0 a.1 v w vs todo a.2 a.3 (leading a.1 a.0 (length vs) v a.3 e) b more (works _ a.5 a.6))
+      fetched_goes s ok l o g long m i t rest top a.0 a.1 v w vs todo a.2 a.3 (leading a.1 a.0 vs v a.3 e) b more (works _ a.5 a.6))
     where
-      leading : (x : Kinds) (k : Holds) (d : ℕ) (v : Val) → Leads s x k → DeepFine s (see g o) m i d x v → HandFine s (see g o) m i x v
+      leading : (x : Kinds) (k : Holds) (d : List Val) (v : Val) → Leads s x k → DeepFine s (see g o) m i d x v → HandFine s (see g o) m i x v
       leading (AddressOf z) k d v is f = f
       leading ImageAddress k d v is f = f
       leading (Value z) k d v is f = absurd is
@@ -122,14 +123,16 @@ module _ (s : Source) (ok : Typed s) (l : Limits) (o : World) (g : Marks) (long 
       leading (Lasting z) k d v is f = absurd is
       leading Component k d v is f = absurd is
       leading (ObjectIn z) k d v is f = absurd is
-      leading (MatchFor z) k d v is f = absurd is
+      leading (NewObject z) k d v is f = absurd is
+      leading (Checked es z) k d v is f = absurd is
+      leading (ForFormal z) k d v is f = absurd is
       leading (Whichever value_too z) k d v is f = f
 
   pub join_op : (line : ℕ) → OpFine s (see g o) m i t (JoinOp line) todo todo' before behind → Stepped (JoinOp line)
   join_op line a = joining_goes P s (see g o) m i l line a.0 vals o (λ z p vs. go p m i w (Of z ∷ vs) rest) (hand _ a.1) (λ z t' w' frames vs more. goes (Of (Text z) ∷ vs) (Value (Simply kind.Text) ∷ a.0) ((refl, tt), more) (works _ a.2 a.3))
 
   -- an array more
-  array_goes : (z : Sight) (c : Kinds) (vs : List Val) (left : List Kinds) → HandsFine s (see g o) m i left vs → (t' w' : ℕ) (x : OneArray) → NewArray s m i (elements_of z) x → DeepFine s (more (see g o) z x) m i (length vs) c (ArrayValue (length o.arrays)) → Work s o g long m i t rest top w todo (c ∷ left) → IsFine s (added (ran o t' w') x) (record { chain = record { instance = i; work = w; values = ArrayValue (length o.arrays) ∷ vs } ∷ rest; memory = m })
+  pub array_goes : (z : Sight) (c : Kinds) (vs : List Val) (left : List Kinds) → HandsFine s (see g o) m i left vs → (t' w' : ℕ) (x : OneArray) → NewArray s m i (elements_of z) x → DeepFine s (more (see g o) z x) m i vs c (ArrayValue (length o.arrays)) → Work s o g long m i t rest top w todo (c ∷ left) → IsFine s (added (ran o t' w') x) (record { chain = record { instance = i; work = w; values = ArrayValue (length o.arrays) ∷ vs } ∷ rest; memory = m })
   array_goes z c vs left hands t' w' x new f y =
       let e = later_array s (see g o) m z x in
       let seen : Marks = record g { sights = g.sights ++ z ∷ [] } in
@@ -153,7 +156,9 @@ module _ (s : Source) (ok : Typed s) (l : Limits) (o : World) (g : Marks) (long 
       by_copy (Lasting k) is vs hands t' w' x new y = absurd is
       by_copy Component is vs hands t' w' x new y = absurd is
       by_copy (ObjectIn k) is vs hands t' w' x new y = absurd is
-      by_copy (MatchFor k) is vs hands t' w' x new y = absurd is
+      by_copy (NewObject k) is vs hands t' w' x new y = absurd is
+      by_copy (Checked es k) is vs hands t' w' x new y = absurd is
+      by_copy (ForFormal k) is vs hands t' w' x new y = absurd is
       by_copy (Whichever value_too k) is vs hands t' w' x new y = absurd is
       by_copy ImageAddress is vs hands t' w' x new y = absurd is
       by_copy (LinkTo k) is vs hands t' w' x new y = absurd is
@@ -203,7 +208,7 @@ module _ (s : Source) (ok : Typed s) (l : Limits) (o : World) (g : Marks) (long 
   now_fine x r none a = subst (λ z. TermFine s m i t z x r) (sym none) a
 
   -- where a value goes
-  takes_hand : (k : Kind) (x : Kinds) (d : ℕ) (v : Val) → TakesValue (Simply k) x → DeepFine s (see g o) m i d x v → HandFine s (see g o) m i (AddressOf (Simply k)) v
+  takes_hand : (k : Kind) (x : Kinds) (d : List Val) (v : Val) → TakesValue (Simply k) x → DeepFine s (see g o) m i d x v → HandFine s (see g o) m i (AddressOf (Simply k)) v
   takes_hand k (AddressOf h) d v is f = subst (λ z. HandFine s (see g o) m i (AddressOf z) v) is f
   takes_hand k (Whichever false h) d v is f =
       let same : h ≡ k = let e = is.0 in cc in
@@ -216,7 +221,7 @@ module _ (s : Source) (ok : Typed s) (l : Limits) (o : World) (g : Marks) (long 
   takes_address k _ is = absurd is
 
   -- and a reference
-  reference_hand : (x : Kinds) (d : ℕ) (v : Val) → TakesReference x → DeepFine s (see g o) m i d x v → (c : ℕ) × HandFine s (see g o) m i (ReferenceAddress c) v
+  reference_hand : (x : Kinds) (d : List Val) (v : Val) → TakesReference x → DeepFine s (see g o) m i d x v → (c : ℕ) × HandFine s (see g o) m i (ReferenceAddress c) v
   reference_hand (ReferenceAddress c) d v is f = (c, f)
   reference_hand (Whichever false k) d v is f = whichever_reference s (see g o) m i k v is f
   reference_hand _ d v is f = absurd is
@@ -228,7 +233,7 @@ module _ (s : Source) (ok : Typed s) (l : Limits) (o : World) (g : Marks) (long 
   store_op ToAddress (value_stored k next is a none same) =
       any_popped P s (see g o) m i (Value (Simply k)) next vals o (λ v vs. popping vs o (λ p vs. having (variable_in p) o (λ p. putting p v o m (λ o m. go o m i w vs rest)))) (hand _ is) (λ v vs e here more.
       any_popped P s (see g o) m i a.0 behind vs o (λ p vs. having (variable_in p) o (λ p. putting p v o m (λ o m. go o m i w vs rest))) (subst (λ z. HandsFine s (see g o) m i z vs) a.2 more) (λ p vs f there most.
-      putting_goes s ok l o g long m i t rest top (Simply k) p v w vs todo behind tt (takes_hand k a.0 (length vs) p a.1 there) here b most (works behind refl same)))
+      putting_goes s ok l o g long m i t rest top (Simply k) p v w vs todo behind tt (takes_hand k a.0 vs p a.1 there) here b most (works behind refl same)))
   store_op (ToText line) (value_stored k next is a none same) = text_stored line k next is a same
   store_op (ToTextOf j key line) (value_stored k next is a none same) = text_stored line k next is a same
   store_op (ToTextAt x line) (value_stored k next is a none same) = text_stored line k next is a same
@@ -292,7 +297,7 @@ module _ (s : Source) (ok : Typed s) (l : Limits) (o : World) (g : Marks) (long 
 
   -- ---- objects and references
 
-  swap_goes : (x : Kinds) (v : Val) (u : Val) (k : Kind) (d e : ℕ) → IsAddress x → DeepFine s (see g o) m i d x v → DeepFine s (see g o) m i e x v
+  swap_goes : (x : Kinds) (v : Val) (u : Val) (k : Kind) (d e : List Val) → IsAddress x → DeepFine s (see g o) m i d x v → DeepFine s (see g o) m i e x v
   swap_goes (AddressOf z) v u k d e is f = f
   swap_goes (ReferenceAddress z) v u k d e is f = f
   swap_goes (Value z) v u k d e is f = absurd is
@@ -302,20 +307,32 @@ module _ (s : Source) (ok : Typed s) (l : Limits) (o : World) (g : Marks) (long 
   swap_goes (Lasting z) v u k d e is f = absurd is
   swap_goes Component v u k d e is f = absurd is
   swap_goes (ObjectIn z) v u k d e is f = absurd is
-  swap_goes (MatchFor z) v u k d e is f = absurd is
+  swap_goes (NewObject z) v u k d e is f = absurd is
+  swap_goes (Checked es z) v u k d e is f = absurd is
+  swap_goes (ForFormal z) v u k d e is f = absurd is
   swap_goes (Whichever value_too z) v u k d e is f = f
 
   pub swap_op : OpFine s (see g o) m i t SwapOp todo todo' before behind → Stepped SwapOp
   swap_op a =
       any_popped P s (see g o) m i a.0 (Value (Simply a.1) ∷ a.2) vals o (λ v vs. popping vs o (λ u vs. go o m i w (u ∷ v ∷ vs) rest)) (hand _ a.4) (λ v vs is e more.
       any_popped P s (see g o) m i (Value (Simply a.1)) a.2 vs o (λ u vs. go o m i w (u ∷ v ∷ vs) rest) more (λ u us is' f most.
-      goes (u ∷ v ∷ us) (Value (Simply a.1) ∷ a.0 ∷ a.2) (f, (swap_goes a.0 v u a.1 (length vs) (length us) a.3 e, most)) (works _ a.5 a.6)))
+      goes (u ∷ v ∷ us) (Value (Simply a.1) ∷ a.0 ∷ a.2) (f, (swap_goes a.0 v u a.1 vs us a.3 e, most)) (works _ a.5 a.6)))
 
   -- an actual parameter by name is closed, in the instance in which it stands
-  pub close_op : (e : Expression) → OpFine s (see g o) m i t (CloseOp e) todo todo' before behind → Stepped (CloseOp e)
-  close_op e a =
-      goes_on s o g long m i t rest top (Do (Eval (close_actual s m i e)) ∷ w) vals todo before b h
-      (todo, actual_gives s e a.0 ∷ before, (Some (actual_gives s e a.0), actual_closed s ok (see g o) m b.store i t todo a.1 a.2 e a.0 a.3, refl, refl), works (actual_gives s e a.0 ∷ before) a.4 a.5)
+  pub close_op : (p : Bool) (e : Expression) → OpFine s (see g o) m i t (CloseOp p e) todo todo' before behind → Stepped (CloseOp p e)
+  close_op p e a =
+      goes_on s o g long m i t rest top (Do (Eval (close_passed p s m i e)) ∷ w) vals todo before b h
+      (todo, actual_gives s p e a.0 ∷ before, (Some (actual_gives s p e a.0), passed_closed s ok (see g o) m b.store i t todo a.1 a.2 p e a.0 a.3, refl, refl), works (actual_gives s p e a.0 ∷ before) a.4 a.5)
+
+  -- an object of `process` itself keeps where it was generated
+  pub origin_op : (k token line : ℕ) → OpFine s (see g o) m i t (OriginOp k token line) todo todo' before behind → Stepped (OriginOp k token line)
+  origin_op k token line a =
+      new_popped P s (see g o) m i k line a.1 vals o (λ j vs. when (is_in s m k j) o (having (cell_set m j Origin (Of (Integer (pos token)))) o (λ m. go o m i w (Of (Object j) ∷ vs) rest))) (hand _ a.3) (λ j vs p more.
+      let q = p.object in
+      let x = q.now in
+      whens P (is_in s m k j) o (having (cell_set m j Origin (Of (Integer (pos token)))) o (λ m. go o m i w (Of (Object j) ∷ vs) rest)) (object_in s ok (see g o) m b.store j k k q (has_itself s ok k))
+      (origin_goes s ok l o g long m i t rest top j (pos token) x q.lives ((b.store.instances j x q.lives).origins p.proper k (level_is s x.text k q.levels) (a.2).process) w (Of (Object j) ∷ vs) todo (Value a.0 ∷ a.1) b
+      (plain_val s (see g o) m i a.0 (Object j) (plain_fits s ok (see g o) m b.store (Refers k) a.0 (Object j) (a.2).fits q), more) (works _ a.4 a.5)))
 
   -- no main program has an attribute of a class that is not one of the standard classes
   pub bare : (c u : ℕ) → has_level s.tables c u ≡ true → NotStandard s u → (z : ℕ) → MainIn s m z c → ⊥
@@ -325,7 +342,7 @@ module _ (s : Source) (ok : Typed s) (l : Limits) (o : World) (g : Marks) (long 
   attribute_op u key class line a =
       object_popped P s (see g o) m i a.0 line a.3 vals o (λ j vs. when (is_in s m u j) o (go o m i w (Address (CellPlace j key class) ∷ vs) rest)) (λ b x. bare a.0 u (a.4).level (a.4).own b x) (hand _ a.6) (λ j vs p more.
       whens P (is_in s m u j) o (go o m i w (Address (CellPlace j key class) ∷ vs) rest) (object_in s ok (see g o) m b.store j a.0 u p (a.4).level)
-      (goes (Address (CellPlace j key class) ∷ vs) (a.2 ∷ a.3) (address class a.1 a.2 (length vs) j a.5 (target j vs p), more) (works _ a.7 a.8)))
+      (goes (Address (CellPlace j key class) ∷ vs) (a.2 ∷ a.3) (address class a.1 a.2 vs j a.5 (target j vs p), more) (works _ a.7 a.8)))
     where
       target : (j : ℕ) (vs : List Val) → ObjectOf s m j a.0 → CellLies s (see g o) m i j key a.1
       target j vs p =
@@ -333,7 +350,7 @@ module _ (s : Source) (ok : Typed s) (l : Limits) (o : World) (g : Marks) (long 
           let has : has_levels (text s u) ≡ true = object_levels s ok (see g o) m b.store j a.0 u p (a.4).level in
           record { around = u; near = near_staying (record { now = p.now; lives = p.lives; stays = p.stays }); todo = []; here = whole; ready = λ d e z. none_among d z; holds = (a.4).is has; there = (a.4).there has }
 
-      address : (class : Option ℕ) (held : Holds) (x : Kinds) (d j : ℕ) → Addressed class held x → CellLies s (see g o) m i j key held → DeepFine s (see g o) m i d x (Address (CellPlace j key class))
+      address : (class : Option ℕ) (held : Holds) (x : Kinds) (d : List Val) (j : ℕ) → Addressed class held x → CellLies s (see g o) m i j key held → DeepFine s (see g o) m i d x (Address (CellPlace j key class))
       address None held x d j is c = subst (λ z. DeepFine s (see g o) m i d z (Address (CellPlace j key None))) is c
       address (Some k) held x d j is c = subst (λ z. DeepFine s (see g o) m i d z (Address (CellPlace j key (Some k)))) is.1 (refl, subst (λ z. CellLies s (see g o) m i j key z) is.0 c)
 
@@ -356,7 +373,7 @@ module _ (s : Source) (ok : Typed s) (l : Limits) (o : World) (g : Marks) (long 
   pub not_none_op : (line : ℕ) → OpFine s (see g o) m i t (NotNoneOp line) todo todo' before behind → Stepped (NotNoneOp line)
   not_none_op line a = by_kind a.0 a.1 a.3 (hand _ a.4) (works _ a.5 a.6)
     where
-      component : (p : Plain) → PlainFine s m (Simply kind.Reference) p → (p ≡ Nothing → ⊥) → (d : ℕ) → DeepFine s (see g o) m i d Component (Of p)
+      component : (p : Plain) → PlainFine s m (Simply kind.Reference) p → (p ≡ Nothing → ⊥) → (d : List Val) → DeepFine s (see g o) m i d Component (Of p)
       component (Object j) e some d = e.1
       component (MainOf z) e some d = e.1
       component Nothing e some d = absurd (some refl)
@@ -365,7 +382,7 @@ module _ (s : Source) (ok : Typed s) (l : Limits) (o : World) (g : Marks) (long 
       component (Truth z) e some d = absurd (let f = e.0 in cc)
       component (Text z) e some d = absurd (let f = e.0 in cc)
 
-      in_class : (c k : ℕ) → has_level s.tables c k ≡ true → (p : Plain) → ReferenceFine s m c p → (p ≡ Nothing → ⊥) → (d : ℕ) → DeepFine s (see g o) m i d (ObjectIn k) (Of p)
+      in_class : (c k : ℕ) → has_level s.tables c k ≡ true → (p : Plain) → ReferenceFine s m c p → (p ≡ Nothing → ⊥) → (d : List Val) → DeepFine s (see g o) m i d (ObjectIn k) (Of p)
       in_class c k is (Object j) e some d = object_up s ok (see g o) m b.store j c k e is
       in_class c k is (MainOf z) e some d = main_up s ok (see g o) m b.store z c k e is
       in_class c k is Nothing e some d = absurd (some refl)
@@ -376,11 +393,12 @@ module _ (s : Source) (ok : Typed s) (l : Limits) (o : World) (g : Marks) (long 
 
       by_kind : (h : Holds) (x : Kinds) → ShowsObject s h x → HandsFine s (see g o) m i (Value h ∷ a.2) vals → Work s o g long m i t rest top w todo (x ∷ a.2) → Stepped (NotNoneOp line)
       by_kind h Component is f y =
-          any_some_popped P s (see g o) m i line a.2 vals o (λ p vs. go o m i w (Of p ∷ vs) rest) (subst (λ z. HandsFine s (see g o) m i (Value z ∷ a.2) vals) is f) (λ p vs e some more. goes (Of p ∷ vs) (Component ∷ a.2) (component p e some (length vs), more) y)
+          any_some_popped P s (see g o) m i line a.2 vals o (λ p vs. go o m i w (Of p ∷ vs) rest) (subst (λ z. HandsFine s (see g o) m i (Value z ∷ a.2) vals) is f) (λ p vs e some more. goes (Of p ∷ vs) (Component ∷ a.2) (component p e some vs, more) y)
       by_kind (Refers c) (ObjectIn k) is f y =
-          some_popped P s (see g o) m i c line a.2 vals o (λ p vs. go o m i w (Of p ∷ vs) rest) f (λ p vs e some more. goes (Of p ∷ vs) (ObjectIn k ∷ a.2) (in_class c k is p e some (length vs), more) y)
+          some_popped P s (see g o) m i c line a.2 vals o (λ p vs. go o m i w (Of p ∷ vs) rest) f (λ p vs e some more. goes (Of p ∷ vs) (ObjectIn k ∷ a.2) (in_class c k is p e some vs, more) y)
       by_kind (Simply q) (ObjectIn k) is f y = absurd is
       by_kind (ArrayOf q) (ObjectIn k) is f y = absurd is
+      by_kind (Procedure q) (ObjectIn k) is f y = absurd is
       by_kind (ByName q) (ObjectIn k) is f y = absurd is
       by_kind h _ is f y = absurd is
 
@@ -430,5 +448,5 @@ module _ (s : Source) (ok : Typed s) (l : Limits) (o : World) (g : Marks) (long 
   refer_op line a =
       known_popped P s (see g o) m i kind.Reference (a.0 ∷ behind) vals o (λ p vs. popping vs o (λ v vs. having (place_in v) o (λ place. putting_reference s line place p o m (λ o m. go o m i w vs rest)))) (hand _ a.2) (λ p vs e more.
       any_popped P s (see g o) m i a.0 behind vs o (λ v vs. having (place_in v) o (λ place. putting_reference s line place p o m (λ o m. go o m i w vs rest))) more (λ v vs is f most.
-      let x = reference_hand a.0 (length vs) v a.1 f in
+      let x = reference_hand a.0 vs v a.1 f in
       putting_reference_goes s ok l o g long m i t rest top x.0 line v p w vs todo behind x.1 e b most (works behind refl a.3)))

@@ -6,18 +6,18 @@ use Rattle.sim_scope.specs.Source.{Source}
 use Rattle.sim_values.specs.declared.kind.Kind.{Kind}
 use Rattle.sim_values.specs.declared.kind.Kind.TheVariants as kind
 use Rattle.sim_values.specs.declared.value.TextVal.{TextVal}
-use Rattle.sim_values.specs.Plain.{Plain, Text}
+use Rattle.sim_values.specs.Plain.{Plain, Text, Integer}
 use Rattle.sim_values.specs.Store.{Store, image_at, with_image}
 use Rattle.sim_values.specs.Texts.{same_text}
 use Rattle.sim_code.specs.Arrays.{element, element_set, element_set_in}
 use Rattle.sim_code.specs.Events.{having, image_moved, image_set, image_value, putting_back, text_of}
-use Rattle.sim_code.specs.Instances.{CellPlace, ElementPlace, ImagePlace, with_instance}
+use Rattle.sim_code.specs.Instances.{CellPlace, ElementPlace, ImagePlace, with_instance, Instance, live}
 use Rattle.sim_code.specs.Outcome.{ArrayOf as OneArray, Run, World}
-use Rattle.sim_meaning.specs.Pending.{Activation, Address, ArrayValue, cell, cell_set, Configuration, Declared, Held, held, held_set, Instances, Item, Key, Link, Of, place_in, plain, ProcedureValue, Actual, Val, variable_in}
+use Rattle.sim_meaning.specs.Pending.{Activation, Address, ArrayValue, cell, cell_set, Configuration, Declared, Held, held, held_set, Instances, Item, Key, Link, Of, place_in, plain, ProcedureValue, Actual, Val, variable_in, Origin}
 use Rattle.sim_meaning.specs.Steps.{go, of_plain, put_back, putting, value_at}
 use Rattle.sim_meaning.specs.Objects.{putting_reference}
 use Rattle.sim_meaning.specs.Texts.{text}
-use Rattle.sim_sound.specs.Held.{ByName, Among, ArrayOf, Fits, Holds, Refers, Simply, first, key_holds, later}
+use Rattle.sim_sound.specs.Held.{ByName, Among, ArrayOf, Fits, Holds, Refers, Simply, first, key_holds, later, Procedure}
 use Rattle.sim_sound.specs.Typed.{Typed}
 use Rattle.sim_sound.proofs.Cells.{lies_cell, val_up, cell_put, own_key, plain_anywhere}
 use Rattle.sim_sound.proofs.Changes.{ElementsFine, changed, copies_element, elements_changed, held_now, held_stays, keys_set, later_element, new}
@@ -34,7 +34,8 @@ use Rattle.sim_sound.proofs.References.{held_reference_goes}
 use Rattle.sim_sound.proofs.Running.{Begun, ChainFine, Operates, SeatedFor, StoreFine, WorkFine}
 use Rattle.sim_sound.proofs.Simulated.{SimulationsFine}
 use Rattle.sim_sound.proofs.Sound.{Leads, OperandIs}
-use Rattle.sim_sound.proofs.Values.{CellLies, Whichever, ObjectIn, AddressOf, AllArrays, Component, Copied, ElementFine, HandFine, HandsFine, ImageAddress, IsPlain, KeyAmong, Kinds, Lasting, LinkTo, Made, Marks, PlainFine, Present, ReferenceAddress, ValFine, Value, Waits, at_seat, key_of, keys_in, own_text, see, MatchFor}
+use Rattle.sim_sound.proofs.Values.{CellLies, Whichever, ObjectIn, AddressOf, AllArrays, Component, Copied, ElementFine, HandFine, HandsFine, ImageAddress, IsPlain, KeyAmong, Kinds, Lasting, LinkTo, Made, Marks, PlainFine, Present, ReferenceAddress, ValFine, Value, Waits, at_seat, key_of, keys_in, own_text, see, Checked, ForFormal, NewObject}
+use Rattle.std.specs.Prelude.{ℤ}
 
 among_cases : (e : DeclNo) (xs : List DeclNo) → Among e xs → (d : DeclNo) (ds : List DeclNo) → xs ≡ d ∷ ds → (e ≡ d) ⊎ Among e ds
 among_cases e xs (first {ds = es}) d ds f = inl (cc)
@@ -105,6 +106,14 @@ module _ (s : Source) (ok : Typed s) (l : Limits) (o : World) (g : Marks) (long 
       (later_goes g o long refl refl refl (with_instance m j (record x { cells = r.0 })) (later_cell s (see g o) m j x p.lives key v r.0 r.1) same_copies (same_cell s (see g o) m j x p.lives key v r.0 r.1)
       (store_cell s (see g o) m j x p.lives key v r.0 r.1 q holds (plain_anywhere s (see g o) m i j q v flat fine) b.store) w vals todo ks b h work)
 
+  -- an object of `process` itself keeps where it was generated
+  pub origin_goes : (j : ℕ) (z : ℤ) (x : Instance (List Held)) (lives : live m j ≡ Some x) → KeyAmong Origin (map key_of x.cells) → (w : List Item) (vals : List Val) (todo : List DeclNo) (ks : List Kinds) → Bg todo → Hd ks vals → Wk w todo ks → Go (having (cell_set m j Origin (Of (Integer z))) o (λ m. go o m i w vals rest))
+  origin_goes j z x lives there w vals todo ks b h work =
+      let r = cell_put s m j x Origin (Of (Integer z)) lives there in
+      had (IsFine s) (cell_set m j Origin (Of (Integer z))) (with_instance m j (record x { cells = r.0 })) o (λ m. go o m i w vals rest) r.2
+      (later_goes g o long refl refl refl (with_instance m j (record x { cells = r.0 })) (later_cell s (see g o) m j x lives Origin (Of (Integer z)) r.0 r.1) same_copies (same_cell s (see g o) m j x lives Origin (Of (Integer z)) r.0 r.1)
+      (store_cell s (see g o) m j x lives Origin (Of (Integer z)) r.0 r.1 (Simply kind.Integer) refl (refl, tt) b.store) w vals todo ks b h work)
+
   made_now : (t : ℕ) (todo todo' : List DeclNo) (d : DeclNo) (v : Val) (hs cells : List Held) → held_set (Declared d.0) v hs ≡ Some cells → todo ≡ d ∷ todo' → Made s t todo hs → Made s t todo' cells
   made_now t todo todo' d v hs cells set is made u at e k holds in_text none =
       ⊎_elim
@@ -158,6 +167,7 @@ module _ (s : Source) (ok : Typed s) (l : Limits) (o : World) (g : Marks) (long 
       by_value (Simply k) _ flat f is = absurd is
       by_value (Refers c) _ flat f is = absurd is
       by_value (ArrayOf k) v flat f is = absurd flat
+      by_value (Procedure k) v flat f is = absurd flat
       by_value (ByName k) v flat f is = absurd flat
   putting_goes q (Address (CellPlace e key None)) v w vals todo ks flat c is b h work =
       had (IsFine s) (Some (CellPlace e key None)) (CellPlace e key None) o (λ z. putting z v o m (λ o m. go o m i w vals rest)) refl (set_goes e key q v w vals todo ks c flat is b h work)
@@ -168,7 +178,7 @@ module _ (s : Source) (ok : Typed s) (l : Limits) (o : World) (g : Marks) (long 
   putting_goes q (Link z) v w vals todo ks flat f is b h work = absurd f
   putting_goes q (ArrayValue z) v w vals todo ks flat f is b h work = absurd f
   putting_goes q (ProcedureValue z y) v w vals todo ks flat f is b h work = absurd f
-  putting_goes q (Actual home z) v w vals todo ks flat f is b h work = absurd f
+  putting_goes q (Actual home pr z) v w vals todo ks flat f is b h work = absurd f
 
   -- a reference is put where an address leads, if it is none or in the class there
   pub putting_reference_goes : (c line : ℕ) (v : Val) (p : Plain) (w : List Item) (vals : List Val) (todo : List DeclNo) (ks : List Kinds) → HandFine s (see g o) m i (ReferenceAddress c) v → PlainFine s m (Simply kind.Reference) p → Bg todo → Hd ks vals → Wk w todo ks → Go (having (place_in v) o (λ place. putting_reference s line place p o m (λ o m. go o m i w vals rest)))
@@ -186,7 +196,7 @@ module _ (s : Source) (ok : Typed s) (l : Limits) (o : World) (g : Marks) (long 
   putting_reference_goes c line (Link z) p w vals todo ks f is b h work = absurd f
   putting_reference_goes c line (ArrayValue z) p w vals todo ks f is b h work = absurd f
   putting_reference_goes c line (ProcedureValue z y) p w vals todo ks f is b h work = absurd f
-  putting_reference_goes c line (Actual home z) p w vals todo ks f is b h work = absurd f
+  putting_reference_goes c line (Actual home pr z) p w vals todo ks f is b h work = absurd f
 
   -- what is read where an address leads
   read_goes : (q' q : Holds) (v : Val) (w : List Item) (vals : List Val) (todo : List DeclNo) (ks : List Kinds) → Fits s q' q → ValFine s (see g o) m i q' v → Bg todo → Hd ks vals → Wk w todo (Value q ∷ ks) → IsFine s o (record { chain = record { instance = i; work = w; values = v ∷ vals } ∷ rest; memory = m })
@@ -221,21 +231,23 @@ module _ (s : Source) (ok : Typed s) (l : Limits) (o : World) (g : Marks) (long 
   fetched_goes q (AddressOf q') (Link z) w vals todo ks is f b h work = absurd f
   fetched_goes q (AddressOf q') (ArrayValue z) w vals todo ks is f b h work = absurd f
   fetched_goes q (AddressOf q') (ProcedureValue z y) w vals todo ks is f b h work = absurd f
-  fetched_goes q (AddressOf q') (Actual home z) w vals todo ks is f b h work = absurd f
+  fetched_goes q (AddressOf q') (Actual home pr z) w vals todo ks is f b h work = absurd f
   fetched_goes q ImageAddress (Address (ElementPlace a n c)) w vals todo ks is f b h work = absurd f
   fetched_goes q ImageAddress (Address (CellPlace a n c)) w vals todo ks is f b h work = absurd f
   fetched_goes q ImageAddress (Of z) w vals todo ks is f b h work = absurd f
   fetched_goes q ImageAddress (Link z) w vals todo ks is f b h work = absurd f
   fetched_goes q ImageAddress (ArrayValue z) w vals todo ks is f b h work = absurd f
   fetched_goes q ImageAddress (ProcedureValue z y) w vals todo ks is f b h work = absurd f
-  fetched_goes q ImageAddress (Actual home z) w vals todo ks is f b h work = absurd f
+  fetched_goes q ImageAddress (Actual home pr z) w vals todo ks is f b h work = absurd f
   fetched_goes q (Value z) v w vals todo ks is f b h work = absurd is
   fetched_goes q (Copied z) v w vals todo ks is f b h work = absurd is
   fetched_goes q (LinkTo z) v w vals todo ks is f b h work = absurd is
   fetched_goes q (Lasting z) v w vals todo ks is f b h work = absurd is
   fetched_goes q Component v w vals todo ks is f b h work = absurd is
   fetched_goes q (ObjectIn z) v w vals todo ks is f b h work = absurd is
-  fetched_goes q (MatchFor z) v w vals todo ks is f b h work = absurd is
+  fetched_goes q (NewObject z) v w vals todo ks is f b h work = absurd is
+  fetched_goes q (Checked es z) v w vals todo ks is f b h work = absurd is
+  fetched_goes q (ForFormal z) v w vals todo ks is f b h work = absurd is
   fetched_goes q (ReferenceAddress z) v w vals todo ks is f b h work = absurd is
   fetched_goes q (Whichever true z) v w vals todo ks is f b h work = absurd is
   fetched_goes q (Whichever false z) (Address (ElementPlace a n None)) w vals todo ks is f b h work = element_fetched q (Simply z) a n None w vals todo ks (subst (Fits s (Simply z)) (sym is) refl) f.1 b h work
@@ -270,7 +282,7 @@ module _ (s : Source) (ok : Typed s) (l : Limits) (o : World) (g : Marks) (long 
   put_text (Link z) x from is a image = stays_on
   put_text (ArrayValue z) x from is a image = stays_on
   put_text (ProcedureValue z y) x from is a image = stays_on
-  put_text (Actual home z) x from is a image = stays_on
+  put_text (Actual home pr z) x from is a image = stays_on
   put_text (Address (ElementPlace n e None)) x (AddressOf q) is a image = putting_goes s ok l Then g long m i t rest top q (Address (ElementPlace n e None)) (Of (Text x)) w vals todo ks (text_plain q is.1) a (text_there q x is.1) b h work
   put_text (Address (CellPlace n e None)) x (AddressOf q) is a image = putting_goes s ok l Then g long m i t rest top q (Address (CellPlace n e None)) (Of (Text x)) w vals todo ks (text_plain q is.1) a (text_there q x is.1) b h work
   put_text (Address (ImagePlace n)) x ImageAddress is a image =
@@ -284,6 +296,7 @@ module _ (s : Source) (ok : Typed s) (l : Limits) (o : World) (g : Marks) (long 
   put_text (Address p) x (Value (Simply k)) is a image = absurd a
   put_text (Address p) x (Value (Refers c)) is a image = absurd a
   put_text (Address p) x (Value (ArrayOf k)) is a image = absurd a
+  put_text (Address p) x (Value (Procedure k)) is a image = absurd a
   put_text (Address p) x (Value (ByName k)) is a image = absurd a
   put_text (Address (ElementPlace n e None)) x (Whichever value_too k) is a image = putting_goes s ok l Then g long m i t rest top (Simply k) (Address (ElementPlace n e None)) (Of (Text x)) w vals todo ks tt a.1 (sym is.1, tt) b h work
   put_text (Address (CellPlace n e None)) x (Whichever value_too k) is a image = putting_goes s ok l Then g long m i t rest top (Simply k) (Address (CellPlace n e None)) (Of (Text x)) w vals todo ks tt a.1 (sym is.1, tt) b h work
@@ -296,7 +309,9 @@ module _ (s : Source) (ok : Typed s) (l : Limits) (o : World) (g : Marks) (long 
   put_text (Address p) x (Lasting u) is a image = absurd is
   put_text (Address p) x Component is a image = absurd is
   put_text (Address p) x (ObjectIn u) is a image = absurd is
-  put_text (Address p) x (MatchFor u) is a image = absurd is
+  put_text (Address p) x (NewObject u) is a image = absurd is
+  put_text (Address p) x (Checked es u) is a image = absurd is
+  put_text (Address p) x (ForFormal u) is a image = absurd is
 
   pub back_goes : (first : Option Val) (moved : Option TextVal) → AllBack (IsFine s) s o g m i store first moved → Goes (IsFine s) (putting_back put_back first moved Then m (λ p m. go p m i w vals rest))
   unfolding putting_back

@@ -28,12 +28,12 @@ use Rattle.sim_scope.specs.Scopes.{entry_in, entry_of}
 use Rattle.sim_scope.specs.Source.{Source, block_of, denoted}
 use Rattle.sim_code.specs.Transfers.{Calling, Detaching, Resuming, Transfer}
 use Rattle.sim_meaning.specs.Attributes.{fitting, kept_if}
-use Rattle.sim_meaning.specs.Closing.{actual_term, is_attribute_denoted, is_image_behind, is_text_type, is_variable_entry, class_passed, stream_denoted}
+use Rattle.sim_meaning.specs.Closing.{actual_term, is_attribute_denoted, is_image_behind, is_procedure_kind, is_text_type, is_variable_entry, class_passed, stream_denoted}
 use Rattle.sim_meaning.specs.Entries.{is_array_by_value}
 use Rattle.sim_meaning.specs.Levels.{class_at, class_denoted, class_text, has_levels, is_class, qualification}
 use Rattle.sim_meaning.specs.Pending.{CopyOf, Declared, FitsOf, ForValue, Further, Instances, KeptOf, NoTerm, StandardOf, Term}
 use Rattle.sim_meaning.specs.Texts.{kind_of_type, text}
-use Rattle.sim_sound.specs.Held.{Among, ArrayOf, ByName, Fits, Holds, In, IsFixed, Place, Refers, Simply, declared_holds, formal_holds, held_by, reference_to}
+use Rattle.sim_sound.specs.Held.{Among, ArrayOf, ByName, Fits, Holds, In, IsFixed, Place, Refers, Simply, declared_holds, formal_holds, held_by, reference_to, Procedure}
 use Rattle.sim_sound.specs.Expressions.{ActualFits, AreOf, LeftHeld, ThisFound, passed}
 use Rattle.sim_sound.specs.Statements.{TransferIs}
 use Rattle.sim_sound.specs.Typed.{Typed}
@@ -42,32 +42,15 @@ use Rattle.sim_sound.proofs.Fitting.{level_itself}
 use Rattle.sim_sound.proofs.Lists.{if_true}
 use Rattle.sim_sound.proofs.Prefixes.{class_has}
 use Rattle.sim_sound.proofs.Reach.{Reached, among_block, key_there}
-use Rattle.sim_sound.proofs.Sound.{Gets, OperandsAre, in_hand, kept_kinds}
-use Rattle.sim_sound.proofs.Values.{CellTarget, Copied, IsImage, IsPlain, Kinds, Lasting, Present, Value, Whole}
+use Rattle.sim_sound.proofs.Results.{class_is, qualified_class}
+use Rattle.sim_sound.proofs.Sound.{Gets, OperandsAre, kept_kinds}
+use Rattle.sim_sound.proofs.Values.{CellTarget, Copied, IsImage, Kinds, Lasting, Present, Value, Whole, in_hand}
 
 -- ---- actual parameters
 
 -- a class is one of its own levels
 pub class_itself : (s : Source) → Typed s → (k : ℕ) → is_class (text s k) ≡ true → has_level s.tables k k ≡ true
 class_itself s ok k is = level_itself s k ((leveled s ok k (class_has s ok k is)).typed).stays
-
-pub class_is : (s : Source) (x : Option ℕ) (k : ℕ) → class_text s x ≡ Some k → is_class (text s k) ≡ true
-class_is s None k e = absurd (cc)
-class_is s (Some c) k e = by_class (is_class (text s c)) refl e
-  where
-    by_class : (b : Bool) → is_class (text s c) ≡ b → (if b then Some c else None) ≡ Some k → is_class (text s k) ≡ true
-    by_class true f g = let same : c ≡ k = cc in ap (λ z. is_class (text s z)) (sym same) ∙ f
-    by_class false f g = absurd (cc)
-
-pub qualified_class : (s : Source) (ty : Option SimType) (k : ℕ) → qualification s ty ≡ Some k → is_class (text s k) ≡ true
-unfolding qualification
-qualified_class s (Some (type.Ref d)) k e = class_is s (class_block s.tables d) k e
-qualified_class s (Some type.Integer) k e = absurd (cc)
-qualified_class s (Some type.Boolean) k e = absurd (cc)
-qualified_class s (Some type.Character) k e = absurd (cc)
-qualified_class s (Some type.Text) k e = absurd (cc)
-qualified_class s (Some type.NoneType) k e = absurd (cc)
-qualified_class s None k e = absurd (cc)
 
 pub not_qualified : (s : Source) (ty : SimType) → (h : Kind) → held_by s ty ≡ Simply h → (qualification s (Some ty) ≡ None) ⊎ (h ≡ kind.Reference)
 unfolding qualification
@@ -83,7 +66,8 @@ not_qualified s (type.Ref d) h e = by_class (class_text s (class_block s.tables 
     by_class (Some k) f g = absurd (cc)
 
 -- what an actual parameter is, with its term, by the term of the expression
-module _ (s : Source) (ok : Typed s) (Is : Holds → Type 0) (Passed : Kind → Type 0) (Fine : Term → Kinds → Type 0) (line : ℕ) (a actual : Term) (go : (h : Holds) → Is h → Fine a (Value h)) (passed_on : (k : Kind) → Passed k → Fine actual (Value (ByName k)))
+module _ (s : Source) (ok : Typed s) (Is : Holds → Type 0) (Passed : Kind → Type 0) (Gives : Option SimType → Type 0) (Fine : Term → Kinds → Type 0) (line : ℕ) (a procedure : Term) (actual : (as_procedure : Bool) → Term) (go : (h : Holds) → Is h → Fine a (Value h)) (gives_on : (r : Option SimType) → Gives r → Fine procedure (Value (Procedure r)))
+    (passed_on : (k : Kind) → Passed k → Fine (actual false) (Value (ByName (Simply k)))) (array_passed_on : (h : Holds) → Is (ArrayOf h) → Fine (actual false) (Value (ByName (ArrayOf h)))) (procedure_passed_on : (r : Option SimType) → Gives r → Fine (actual true) (Value (ByName (Procedure r))))
     (text_copied : Fine a (Value (Simply kind.Text)) → Fine (StandardOf name_of.Copy (Further a NoTerm) line) (Value (Simply kind.Text)))
     (array_copied : (k : Holds) → Fine a (Value (ArrayOf k)) → Fine (CopyOf line a) (Copied k))
     (array_kept : (k : Holds) → Fine a (Value (ArrayOf k)) → Fine (KeptOf a) (Lasting k))
@@ -96,7 +80,7 @@ module _ (s : Source) (ok : Typed s) (Is : Holds → Type 0) (Passed : Kind → 
   type_level : (ty : SimType) (k : ℕ) → qualification s (Some ty) ≡ Some k → has_level s.tables k k ≡ true
   type_level ty k e = class_itself s ok k (qualified_class s (Some ty) k e)
 
-  by_value : (ty : SimType) → Is (passed (held_by s ty)) → Fine (fitting (qualification s (Some ty)) line (actual_term line mode.ByValue shape.Simple (is_text_type (Some ty)) a actual)) (Value (held_by s ty))
+  by_value : (ty : SimType) → Is (passed (held_by s ty)) → Fine (fitting (qualification s (Some ty)) line (actual_term line mode.ByValue shape.Simple (is_text_type (Some ty)) a procedure (actual false))) (Value (held_by s ty))
   unfolding qualification
   by_value type.Text y = text_copied (go (Simply kind.Text) y)
   by_value type.Integer y = go (Simply kind.Integer) y
@@ -114,25 +98,40 @@ module _ (s : Source) (ok : Typed s) (Is : Holds → Type 0) (Passed : Kind → 
   by_reference type.NoneType y = go (Simply kind.Reference) y
   by_reference (type.Ref d) y = reference_passed (class_text s (class_block s.tables d)) (λ k e. type_level (type.Ref d) k e) y
 
-  hand_plain : (h : Holds) → IsPlain h → in_hand false (Some h) ≡ Some (Value h)
-  hand_plain h is = refl
-
-  pub actual_fine : (f : Mode) (g : FormalKind) (ty : Option SimType) → ActualFits s f g ty Is Passed → (h : Kinds) × (in_hand (is_array_by_value f g) (formal_holds s f g ty) ≡ Some h) × Fine (fitting (class_passed s (record { mode = f; kind = g; ty = ty })) line (actual_term line f g (is_text_type ty) a actual)) h
+  pub actual_fine : (f : Mode) (g : FormalKind) (ty : Option SimType) → ActualFits s f g ty Is Passed Gives → (h : Kinds) × (in_hand (is_array_by_value f g) (formal_holds s f g ty) ≡ Some h) × Fine (fitting (class_passed s (record { mode = f; kind = g; ty = ty })) line (actual_term line f g (is_text_type ty) a procedure (actual (is_procedure_kind g)))) h
   actual_fine mode.ByValue shape.Simple (Some ty) y = (Value (held_by s ty), refl, by_value ty y)
   actual_fine mode.ByReference shape.Simple (Some ty) y = (Value (held_by s ty), refl, by_reference ty y)
   actual_fine mode.ByValue shape.Array (Some ty) y = (Copied (held_by s ty), refl, array_copied (held_by s ty) (go (ArrayOf (held_by s ty)) y))
   actual_fine mode.ByReference shape.Array (Some ty) y = (Value (ArrayOf (held_by s ty)), refl, go (ArrayOf (held_by s ty)) y)
-  actual_fine mode.ByName shape.Simple (Some ty) y = (Value (ByName (kind_of_type ty)), refl, passed_on (kind_of_type ty) y)
-  actual_fine _ _ _ y = absurd y
+  actual_fine mode.ByName shape.Simple (Some ty) y = (Value (ByName (Simply (kind_of_type ty))), refl, passed_on (kind_of_type ty) y)
+  actual_fine mode.ByName shape.Array (Some ty) y = (Value (ByName (ArrayOf (held_by s ty))), refl, array_passed_on (held_by s ty) y)
+  actual_fine mode.ByValue shape.Procedure ty y = (Value (Procedure ty), refl, gives_on ty y)
+  actual_fine mode.ByReference shape.Procedure ty y = (Value (Procedure ty), refl, gives_on ty y)
+  actual_fine mode.ByName shape.Procedure ty y = (Value (ByName (Procedure ty)), refl, procedure_passed_on ty y)
+  actual_fine mode.ByValue shape.Simple None y = absurd y
+  actual_fine mode.ByReference shape.Simple None y = absurd y
+  actual_fine mode.ByName shape.Simple None y = absurd y
+  actual_fine mode.ByValue shape.Array None y = absurd y
+  actual_fine mode.ByReference shape.Array None y = absurd y
+  actual_fine mode.ByName shape.Array None y = absurd y
 
   -- of a class, where an array by reference is kept
-  pub class_actual : (f : Mode) (g : FormalKind) (ty : Option SimType) → ActualFits s f g ty Is Passed → (h : Kinds) × (kept_kinds f g (in_hand (is_array_by_value f g) (formal_holds s f g ty)) ≡ Some h) × Fine (kept_if f g (fitting (class_passed s (record { mode = f; kind = g; ty = ty })) line (actual_term line f g (is_text_type ty) a actual))) h
+  pub class_actual : (f : Mode) (g : FormalKind) (ty : Option SimType) → ActualFits s f g ty Is Passed Gives → (h : Kinds) × (kept_kinds f g (in_hand (is_array_by_value f g) (formal_holds s f g ty)) ≡ Some h) × Fine (kept_if f g (fitting (class_passed s (record { mode = f; kind = g; ty = ty })) line (actual_term line f g (is_text_type ty) a procedure (actual (is_procedure_kind g))))) h
   class_actual mode.ByValue shape.Simple (Some ty) y = (Value (held_by s ty), refl, by_value ty y)
   class_actual mode.ByReference shape.Simple (Some ty) y = (Value (held_by s ty), refl, by_reference ty y)
   class_actual mode.ByValue shape.Array (Some ty) y = (Copied (held_by s ty), refl, array_copied (held_by s ty) (go (ArrayOf (held_by s ty)) y))
   class_actual mode.ByReference shape.Array (Some ty) y = (Lasting (held_by s ty), refl, array_kept (held_by s ty) (go (ArrayOf (held_by s ty)) y))
-  class_actual mode.ByName shape.Simple (Some ty) y = (Value (ByName (kind_of_type ty)), refl, passed_on (kind_of_type ty) y)
-  class_actual _ _ _ y = absurd y
+  class_actual mode.ByName shape.Simple (Some ty) y = (Value (ByName (Simply (kind_of_type ty))), refl, passed_on (kind_of_type ty) y)
+  class_actual mode.ByName shape.Array (Some ty) y = (Value (ByName (ArrayOf (held_by s ty))), refl, array_passed_on (held_by s ty) y)
+  class_actual mode.ByValue shape.Procedure ty y = (Value (Procedure ty), refl, gives_on ty y)
+  class_actual mode.ByReference shape.Procedure ty y = (Value (Procedure ty), refl, gives_on ty y)
+  class_actual mode.ByName shape.Procedure ty y = (Value (ByName (Procedure ty)), refl, procedure_passed_on ty y)
+  class_actual mode.ByValue shape.Simple None y = absurd y
+  class_actual mode.ByReference shape.Simple None y = absurd y
+  class_actual mode.ByName shape.Simple None y = absurd y
+  class_actual mode.ByValue shape.Array None y = absurd y
+  class_actual mode.ByReference shape.Array None y = absurd y
+  class_actual mode.ByName shape.Array None y = absurd y
 
 -- operands that are values of these kinds
 abbrev pub value_kinds : List Kind → List Kinds
@@ -172,7 +171,7 @@ nothing_left Known NoMore Indices h a = a
 nothing_left Known (Then e es) Indices h a = a
 
 -- a use of a parameter by name as a value, which is held against its qualification
-pub value_gets : (s : Source) (ty : SimType) (line : ℕ) (h : Holds) → Fits s (held_by s ty) h → Gets s (kind_of_type ty) (ForValue (qualification s (Some ty)) line) (Value h)
+pub value_gets : (s : Source) (ty : SimType) (line : ℕ) (h : Holds) → Fits s (held_by s ty) h → Gets s (Simply (kind_of_type ty)) (ForValue (qualification s (Some ty)) line) (Value h)
 unfolding qualification
 value_gets s type.Integer line h fits = (h, fits, refl)
 value_gets s type.Boolean line h fits = (h, fits, refl)
@@ -181,7 +180,7 @@ value_gets s type.Text line h fits = (h, fits, refl)
 value_gets s type.NoneType line h fits = (h, fits, refl)
 value_gets s (type.Ref d) line h fits = of_class (class_text s (class_block s.tables d)) fits
   where
-    of_class : (x : Option ℕ) → Fits s (reference_to x) h → Gets s kind.Reference (ForValue x line) (Value h)
+    of_class : (x : Option ℕ) → Fits s (reference_to x) h → Gets s (Simply kind.Reference) (ForValue x line) (Value h)
     of_class None fits = (h, fits, refl)
     of_class (Some c) fits = (refl, (h, fits, refl))
 

@@ -19,22 +19,22 @@ use Rattle.sim_tree.specs.Syntax as syntax
 use Rattle.sim_values.specs.declared.kind.Kind.{Kind}
 use Rattle.sim_values.specs.declared.kind.Kind.TheVariants as kind
 use Rattle.sim_meaning.specs.Attributes.{attribute_place, connected_object, connection_at, declared_attribute, element_at, entry_at, if_any, is_standard_attribute, own_attribute, parameter_at, place_of_attribute, qualified, variable_at}
-use Rattle.sim_meaning.specs.Closing.{array_place, by_name, close, close_actual, close_actual_by, close_all, close_place, declared_place, formal_by_name, formal_place, home_of, image_place, in_instance, is_placed, name_denoted, name_term, named_place, qualified_if, stream_of, type_of_formal, typed_token, variable_place}
+use Rattle.sim_meaning.specs.Closing.{array_place, by_name, close, close_actual, close_actual_by, close_all, close_passed, close_place, declared_place, named_array_place, has_operands, is_attribute_denoted, is_variable_entry, is_variable_formal, named_formal, formal_by_name, formal_place, home_of, image_place, in_instance, is_placed, name_denoted, name_term, named_place, qualified_if, stream_of, type_of_formal, typed_token, variable_place}
 use Rattle.sim_meaning.specs.Levels.{qualification}
 use Rattle.sim_values.specs.Standard.{row_of}
-use Rattle.sim_meaning.specs.Pending.{ActualOf, ForPlace, ForValue, NamedOf, Use, SetOf, ProcessOf, SimulationOf, AttributeOf, CallOf, Cell, CopyOf, Declared, Either, ElementOf, FitsOf, Given, ImageOf, Instances, Joined, KeptOf, MemberOf, NewOf, NoTerm, NotNoneOf, One, PlaceOf, QualifiedElementOf, QualifiedPlaceOf, QuaOf, RemoteCallOf, StandardOf, Term, Terms, TransferOf, Two, Unbuilt, ValueAt, VirtualOf}
+use Rattle.sim_meaning.specs.Pending.{ActualOf, ForPlace, ForValue, NamedOf, Use, SetOf, ProcessOf, SimulationOf, AttributeOf, CallOf, Cell, CopyOf, Declared, Either, ElementOf, FitsOf, Given, ImageOf, Instances, Joined, KeptOf, MemberOf, NewOf, NoTerm, NotNoneOf, One, PlaceOf, QualifiedElementOf, QualifiedPlaceOf, QuaOf, RemoteCallOf, StandardOf, Term, Terms, TransferOf, Two, Unbuilt, ValueAt, CheckedOf, ForParameter, MatchOf, OriginOf, ProcedureOf, RemoteProcedureOf}
 use Rattle.sim_meaning.specs.Texts.{kind_of_type}
-use Rattle.sim_sound.specs.Held.{ArrayOf, ByName, Holds, Place, Refers, Sees, Simply, entry_names, formal_names, held_by}
-use Rattle.sim_sound.specs.Expressions.{ActualIs, ActualPassed, ActualsFit, AreIntegers, AreOf, DeclaredGives, ExprIs, IdentifierGives, KnownAt, LeftHeld, ObjectHas, PlaceDeclared, PlaceDot, PlaceIs, NamedGives, PlaceNamed, VariablePassed, some_holds, standard_kind}
+use Rattle.sim_sound.specs.Held.{Fits, formal_means, ArrayOf, ByName, Holds, Place, Refers, Sees, Simply, entry_names, held_by, Procedure}
+use Rattle.sim_sound.specs.Expressions.{DotGives, ActualIs, ArrayNames, HeldNames, NamedIs, ParametersAre, VariableNames, ActualPassed, ActualsFit, AreIntegers, AreOf, DeclaredGives, ExprIs, IdentifierGives, KnownAt, LeftHeld, ObjectHas, PlaceDeclared, PlaceDot, PlaceIs, NamedGives, PlaceNamed, VariablePassed, some_holds, standard_kind}
 use Rattle.sim_sound.specs.Statements.{LeftDeclared}
 use Rattle.sim_sound.specs.Typed.{Typed}
-use Rattle.sim_sound.proofs.Attributes.{held_of_kind, held_qualified, left_known, named_entry, text_left}
+use Rattle.sim_sound.proofs.Attributes.{IsNoProcedure, held_plain, names_variable, held_of_kind, held_qualified, left_known, named_entry, text_left}
 use Rattle.sim_sound.proofs.Calls.{own_denoted, own_is_attribute}
-use Rattle.sim_sound.proofs.Closing.{attribute_lies, connected_other, expr_fine, integers_fine, lies_at, named_lies, named_place_lies, value_no_stream}
+use Rattle.sim_sound.proofs.Closing.{alone_fine, formal_no_procedure, attribute_lies, connected_other, expr_fine, integers_fine, lies_at, named_lies, named_place_lies, value_no_stream}
 use Rattle.sim_sound.proofs.Lists.{no_some}
 use Rattle.sim_sound.proofs.Running.{StoreFine}
-use Rattle.sim_sound.proofs.Sound.{Gets, actual_gives, actual_gives_by, place_gives, ShowsObject, held_kinds, IntegersFine, TermFine}
-use Rattle.sim_sound.proofs.Values.{Stands, Whichever, ObjectIn, AddressOf, AllArrays, CellTarget, Component, Copied, Kinds, Lasting, ReferenceAddress, Value}
+use Rattle.sim_sound.proofs.Sound.{GetsKind, Makes, Gets, actual_gives, actual_gives_by, place_gives, ShowsObject, IntegersFine, TermFine}
+use Rattle.sim_sound.proofs.Values.{IsPlain, Stands, Whichever, ObjectIn, AddressOf, AllArrays, CellTarget, Component, Copied, Kinds, Lasting, ReferenceAddress, Value, held_kinds, NewObject}
 
 -- ---- places are no choices
 
@@ -78,13 +78,17 @@ array_choice : (s : Source) (m : Instances) (i line : ℕ) (d : DeclNo) (es : Ex
 array_choice s m i line d NoMore ts = tt
 array_choice s m i line d (Then e es) ts = in_choice (home_of s m i d) (λ j. ElementOf line (Cell j (Declared d.0)) ts) (λ j. tt)
 
+named_array_choice : (s : Source) (m : Instances) (i line : ℕ) (d : DeclNo) (es : Expressions) (ts : Terms) → NoChoice (named_array_place s m i line d es ts)
+named_array_choice s m i line d NoMore ts = tt
+named_array_choice s m i line d (Then e es) ts = in_choice (home_of s m i d) (λ j. ElementOf line (NamedOf j (Declared d.0) (ForValue None line)) ts) (λ j. tt)
+
 name_choice : (s : Source) (m : Instances) (i : ℕ) (d : DeclNo) (es : Expressions) (wanted : Use) → NoChoice (name_term s m i d es wanted)
 name_choice s m i d NoMore wanted = in_choice (home_of s m i d) (λ j. NamedOf j (Declared d.0) wanted) (λ j. tt)
 name_choice s m i d (Then e es) wanted = tt
 
 formal_choice : (s : Source) (m : Instances) (i line : ℕ) (d : DeclNo) (f : Mode) (g : FormalKind) (es : Expressions) (ts : Terms) → NoChoice (formal_place s m i line d f g es ts)
 formal_choice s m i line d mode.ByName shape.Simple es ts = name_choice s m i d es (ForPlace true line)
-formal_choice s m i line d mode.ByName shape.Array es ts = tt
+formal_choice s m i line d mode.ByName shape.Array es ts = named_array_choice s m i line d es ts
 formal_choice s m i line d mode.ByName shape.Procedure es ts = tt
 formal_choice s m i line d mode.ByValue shape.Simple es ts = variable_choice s m i d es
 formal_choice s m i line d mode.ByReference shape.Simple es ts = variable_choice s m i d es
@@ -143,6 +147,67 @@ place_held s Known es Indices (Some (entry.Constant ty)) h a = a
 place_held s Known es Indices None h a = absurd a
 place_held s Known es Indices (Some _) h a = a
 
+-- ---- arrays are no places
+
+module _ (s : Source) (from : Place) where
+  no_array : (g h : Holds) → IsPlain g → Fits s g (ArrayOf h) → ⊥
+  no_array (Simply k) h is f = f
+  no_array (Refers c) h is f = f
+  no_array (ArrayOf k) h is f = is
+  no_array (Procedure q) h is f = is
+  no_array (ByName k) h is f = is
+
+  no_variable : (Known : Type 0) (es : Expressions) (g h : Holds) → IsPlain g → VariableNames s Known es g (ArrayOf h) → ⊥
+  no_variable Known NoMore g h is a = no_array g h is a.0
+  no_variable Known (Then e es) g h is a = a
+
+  no_element : (Known : Type 0) (es : Expressions) (Indices : Type 0) (g h : Holds) → IsPlain g → has_operands es ≡ true → ArrayNames s Known es Indices g (ArrayOf h) → ⊥
+  no_element Known NoMore Indices g h is v a = cc
+  no_element Known (Then e es) Indices g h is v a = no_array g h is a.0
+
+  no_array_declared : (Known : Type 0) (d : DeclNo) (e : Option Entry) (es : Expressions) (Indices Checked : Type 0) (Actuals : List Formal → Type 0) (h : Holds) → is_variable_entry e es ≡ true → DeclaredGives s Known d es Indices Checked Actuals e (Some (ArrayOf h)) → ⊥
+  no_array_declared Known d (Some (entry.Variable ty)) es Indices Checked Actuals h v a = no_variable Known es (held_by s ty) h (held_plain s ty) (names_variable s Known es Indices Checked (held_by s ty) (ArrayOf h) (held_plain s ty) a)
+  no_array_declared Known d (Some (entry.Array ty n)) es Indices Checked Actuals h v a = no_element Known es Indices (held_by s ty) h (held_plain s ty) v a
+  no_array_declared Known d (Some (entry.Formal f)) es Indices Checked Actuals h v a = by_kind f.kind f.ty v a
+    where
+      by_kind : (g : FormalKind) (ty : Option SimType) → is_variable_formal g es ≡ true → HeldNames s Known es Indices Checked (formal_means s g ty) (ArrayOf h) → ⊥
+      by_kind shape.Simple (Some ty) v a = no_variable Known es (held_by s ty) h (held_plain s ty) (names_variable s Known es Indices Checked (held_by s ty) (ArrayOf h) (held_plain s ty) a)
+      by_kind shape.Array (Some ty) v a = no_element Known es Indices (held_by s ty) h (held_plain s ty) v a
+      by_kind shape.Simple None v a = a
+      by_kind shape.Array None v a = a
+      by_kind shape.Procedure ty v a = cc
+  no_array_declared Known d None es Indices Checked Actuals h v a = a
+  no_array_declared Known d (Some _) es Indices Checked Actuals h v a = cc
+
+  no_attribute_placed : (e : Option Entry) (es : Expressions) → is_standard_attribute e ≡ true → is_variable_entry e es ≡ true → ⊥
+  no_attribute_placed (Some (entry.Attribute n parameter result)) es f v = cc
+  no_attribute_placed None es f v = cc
+  no_attribute_placed (Some (entry.Variable ty)) es f v = cc
+  no_attribute_placed (Some (entry.Array ty n)) es f v = cc
+  no_attribute_placed (Some (entry.Formal g)) es f v = cc
+  no_attribute_placed (Some _) es f v = cc
+
+  no_array_named : (c : Option ℕ) (x : Option Denotation) (es : Expressions) (Indices Checked : Type 0) (Operands : List Kind → Type 0) (Actuals : List Formal → Type 0) (h : Holds) → is_attribute_denoted s x es ≡ true → NamedGives s from c x es Indices Checked Operands Actuals (Some (ArrayOf h)) → ⊥
+  no_array_named c (Some (denotation.Declared d)) es Indices Checked Operands Actuals h v a = no_array_declared (KnownAt s from c d) d (entry_of s.tables d) es Indices Checked Actuals h v a
+  no_array_named c (Some (denotation.Standard n)) es Indices Checked Operands Actuals h v a = cc
+  no_array_named c None es Indices Checked Operands Actuals h v a = cc
+
+  no_array_identifier : (token : ℕ) (c : Option ℕ) (own : Option DeclNo) (es : Expressions) (Indices Checked : Type 0) (Operands : List Kind → Type 0) (Actuals : List Formal → Type 0) (h : Holds) → own_attribute s token ≡ own → is_attribute_denoted s (denoted s token) es ≡ true → IdentifierGives s from token c own es Indices Checked Operands Actuals (Some (ArrayOf h)) → ⊥
+  no_array_identifier token None None es Indices Checked Operands Actuals h e v a = no_array_named None (denoted s token) es Indices Checked Operands Actuals h v a
+  no_array_identifier token (Some k) own es Indices Checked Operands Actuals h e v a = no_array_named (Some k) (denoted s token) es Indices Checked Operands Actuals h v a
+  no_array_identifier token None (Some d) es Indices Checked Operands Actuals h e v a = no_attribute_placed (entry_of s.tables d) es (own_is_attribute s token d e) (ap (λ z. is_attribute_denoted s z es) (sym (own_denoted s token d e)) ∙ v)
+
+  no_array_dot : (x : Option Denotation) (stream : Option ℕ) (Front : Type 0) (Object : ℕ → Type 0) (es : Expressions) (Indices Checked : Type 0) (Operands : List Kind → Type 0) (Actuals : List Formal → Type 0) (h : Holds) → is_attribute_denoted s x es ≡ true → DotGives s x stream Front Object es Indices Checked Operands Actuals (Some (ArrayOf h)) → ⊥
+  no_array_dot (Some (denotation.Declared d)) stream Front Object es Indices Checked Operands Actuals h v a = no_array_declared (ObjectHas s Object d) d (entry_of s.tables d) es Indices Checked Actuals h v a
+  no_array_dot (Some (denotation.Standard n)) stream Front Object es Indices Checked Operands Actuals h v a = cc
+  no_array_dot None stream Front Object es Indices Checked Operands Actuals h v a = a
+
+  pub no_array_placed : (e : Expression) (h : Holds) → ExprIs s from e (ArrayOf h) → is_placed s e ≡ true → ⊥
+  unfolding is_placed
+  no_array_placed (syntax.Named name es) h a v = no_array_identifier name.token.0 (connection_at s name.token.0) (own_attribute s name.token.0) es (AreIntegers s from es) (ParametersAre s from es) (λ ks. AreOf s from es ks) (λ fs. ActualsFit s from es fs) h refl v a
+  no_array_placed (syntax.Dot token x name es) h a v = no_array_dot (denoted s name.token.0) (stream_of s x) (ExprIs s from x (Simply kind.Text)) (λ c. ExprIs s from x (Refers c)) es (AreIntegers s from es) (ParametersAre s from es) (λ ks. AreOf s from es ks) (λ fs. ActualsFit s from es fs) h v a
+  no_array_placed _ h a v = cc
+
 module _ (s : Source) (ok : Typed s) (o : AllArrays) (m : Instances) (store : StoreFine s o m) (i t : ℕ) (todo : List DeclNo) (from : Place) (at : Stands s m i from) where
   abbrev pub Fine : Term → Option Kinds → Type 0
   Fine x g = TermFine s m i t todo x g
@@ -156,7 +221,7 @@ module _ (s : Source) (ok : Typed s) (o : AllArrays) (m : Instances) (store : St
   pub dot_held : (token : ℕ) (a : Expression) (name : Identifier) (es : Expressions) (d : DeclNo) (h : Holds) → denoted s name.token.0 ≡ Some (denotation.Declared d) → LeftHeld (ObjectHas s (λ c. ExprIs s from a (Refers c)) d) es (AreIntegers s from es) (entry_names s (entry_of s.tables d)) h → Fine (close_place s m i (syntax.Dot token a name es)) (Some (AddressOf h))
   dot_held token a name es d h e held =
       let known = left_known s (ObjectHas s (λ c. ExprIs s from a (Refers c)) d) d es (AreIntegers s from es) (entry_names s (entry_of s.tables d)) h held in
-      let fine = attribute_lies s ok o m store i t todo from at (line_at s name.token.0) es (close_all s m i es) (λ fs. NoTerm) (AreIntegers s from es) (λ ks. ⊥) (λ fs. ⊥) (λ y. ints es y) (λ ks y. absurd y) (λ fs y. absurd y) (close s m i a) known.0 (ObjectHas s (λ c. ExprIs s from a (Refers c)) d) d h known.2 (expr_fine s ok o m store i t todo from at a (Refers known.0) known.3) held in
+      let fine = attribute_lies s ok o m store i t todo from at (line_at s name.token.0) es (close_all s m i es) (λ fs. NoTerm) (AreIntegers s from es) ⊥ (λ ks. ⊥) (λ fs. ⊥) (λ y. ints es y) (λ y. absurd y) (λ ks y. absurd y) (λ fs y. absurd y) (close s m i a) known.0 (ObjectHas s (λ c. ExprIs s from a (Refers c)) d) d h known.2 (expr_fine s ok o m store i t todo from at a (Refers known.0) known.3) held in
       subst (λ z. Fine (image_place z (if_any (declared_attribute (denoted s name.token.0)) (place_of_attribute s (line_at s name.token.0) (close s m i a) es (close_all s m i es)) Unbuilt)) (Some (AddressOf h))) (sym (value_no_stream s ok o m store i t todo from at a (Refers known.0) known.3))
       (subst (λ z. Fine (if_any (declared_attribute z) (place_of_attribute s (line_at s name.token.0) (close s m i a) es (close_all s m i es)) Unbuilt) (Some (AddressOf h))) (sym e) fine)
 
@@ -172,7 +237,7 @@ module _ (s : Source) (ok : Typed s) (o : AllArrays) (m : Instances) (store : St
   pub named_held : (name : Identifier) (es : Expressions) (c : Option ℕ) (d : DeclNo) (h : Holds) → connection_at s name.token.0 ≡ c → denoted s name.token.0 ≡ Some (denotation.Declared d) → formal_by_name d (entry_of s.tables d) ≡ None → LeftHeld (KnownAt s from c d) es (AreIntegers s from es) (entry_names s (entry_of s.tables d)) h → Fine (close_place s m i (syntax.Named name es)) (Some (AddressOf h))
   named_held name es c d h in_c is other a =
       placed_at name es c (Some (denotation.Declared d)) (AddressOf h) in_c is
-      (lies_at s ok o m store i t todo from at (line_at s name.token.0) es (close_all s m i es) (λ fs. NoTerm) (AreIntegers s from es) (λ ks. ⊥) (λ fs. ⊥) (λ y. ints es y) (λ ks y. absurd y) (λ fs y. absurd y) c d h other a)
+      (lies_at s ok o m store i t todo from at (line_at s name.token.0) es (close_all s m i es) (λ fs. NoTerm) (AreIntegers s from es) ⊥ (λ ks. ⊥) (λ fs. ⊥) (λ y. ints es y) (λ y. absurd y) (λ ks y. absurd y) (λ fs y. absurd y) c d h other a)
 
   -- ---- parameters by name
 
@@ -197,10 +262,10 @@ module _ (s : Source) (ok : Typed s) (o : AllArrays) (m : Instances) (store : St
         has_type = ap (λ z. type_of_formal (entry_of s.tables z)) (sym x.same) ∙ x.has_type;
         place =
             placed_at name NoMore None (Some (denotation.Declared d)) (Whichever true (kind_of_type x.type)) in_c is
-            (named_place_lies s ok o m store i t todo from at line NoMore NoTerm (λ fs. NoTerm) (AreIntegers s from NoMore) (λ ks. ⊥) (λ fs. ⊥) (λ y. tt) (λ ks y. absurd y) (λ fs y. absurd y) d named h by x);
+            (named_place_lies s ok o m store i t todo from at line NoMore NoTerm (λ fs. NoTerm) (AreIntegers s from NoMore) ⊥ (λ ks. ⊥) (λ fs. ⊥) (λ y. tt) (λ y. absurd y) (λ ks y. absurd y) (λ fs y. absurd y) d named h by x);
         used = λ value_too at_line.
             subst (λ z. Fine (name_term s m i z NoMore (ForPlace value_too at_line)) (Some (Whichever value_too (kind_of_type x.type)))) x.same
-            (named_lies s ok o m store i t todo from at line NoMore NoTerm (λ fs. NoTerm) (AreIntegers s from NoMore) (λ ks. ⊥) (λ fs. ⊥) (λ y. tt) (λ ks y. absurd y) (λ fs y. absurd y) value_too d named at_line h by x);
+            (named_lies s ok o m store i t todo from at line NoMore NoTerm (λ fs. NoTerm) (AreIntegers s from NoMore) ⊥ (λ ks. ⊥) (λ fs. ⊥) (λ y. tt) (λ y. absurd y) (λ ks y. absurd y) (λ fs y. absurd y) value_too d named at_line h by x);
       }
 
   -- which expressions are one
@@ -264,10 +329,29 @@ module _ (s : Source) (ok : Typed s) (o : AllArrays) (m : Instances) (store : St
   no_address : (q : ℕ) (g : Holds) (y : Kinds) → ReferenceAddress q ≡ y → Some y ≡ Some (AddressOf g) → ⊥
   no_address q g y e f = cc
 
-  got_no : (k : Kind) (wanted : Use) (x : Kinds) (g : Holds) → Gets s k wanted x → Some x ≡ Some (AddressOf g) → ⊥
-  got_no k (ForValue None line) x g y e = value_no y.0 g (y.2 ∙ e)
-  got_no k (ForValue (Some c) line) x g y e = let z = y.1 in value_no z.0 g (z.2 ∙ e)
-  got_no k (ForPlace value_too line) x g y e = cc
+  kind_no : (k : Kind) (wanted : Use) (x : Kinds) (g : Holds) → GetsKind s k wanted x → Some x ≡ Some (AddressOf g) → ⊥
+  kind_no k (ForValue None line) x g y e = value_no y.0 g (y.2 ∙ e)
+  kind_no k (ForValue (Some c) line) x g y e = let z = y.1 in value_no z.0 g (z.2 ∙ e)
+  kind_no k (ForPlace value_too line) x g y e = cc
+  kind_no k (ForParameter number line) x g y e = y
+
+  got_no : (h : Holds) (wanted : Use) (x : Kinds) (g : Holds) → Gets s h wanted x → Some x ≡ Some (AddressOf g) → ⊥
+  got_no (Simply k) wanted x g y e = kind_no k wanted x g y e
+  got_no (ArrayOf q) (ForValue None line) x g y e = value_no (ArrayOf q) g (ap Some (sym y) ∙ e)
+  got_no (ArrayOf q) (ForValue (Some c) line) x g y e = y
+  got_no (ArrayOf q) (ForPlace value_too line) x g y e = y
+  got_no (ArrayOf q) (ForParameter number line) x g y e = y
+  got_no (Procedure q) (ForValue None line) x g y e = value_no y.0 g (y.2 ∙ e)
+  got_no (Procedure q) (ForValue (Some c) line) x g y e = y
+  got_no (Procedure q) (ForPlace value_too line) x g y e = y
+  got_no (Procedure q) (ForParameter number line) x g y e = y
+  got_no (Refers q) wanted x g y e = y
+  got_no (ByName q) wanted x g y e = y
+
+  made_no : (k : ℕ) (x : Kinds) → Makes s k x → (g : Holds) → Some x ≡ Some (AddressOf g) → ⊥
+  made_no k (Value h) is g e = value_no h g e
+  made_no k (NewObject c) is g e = cc
+  made_no k _ is g e = is
 
   -- a place with its qualification
   pub qualified_fine : (c : ℕ) (x : Term) → NoChoice x → TermFine s m i t todo x (Some (AddressOf (Refers c))) → TermFine s m i t todo (qualified c x) (Some (ReferenceAddress c))
@@ -289,7 +373,12 @@ module _ (s : Source) (ok : Typed s) (o : AllArrays) (m : Instances) (store : St
   qualified_fine c (CopyOf line x) n a = absurd (copy_no a.0 (Refers c) a.1)
   qualified_fine c (CallOf e k ts line) n a = let y = a.gives in absurd (held_no y.0 (Refers c) y.2)
   qualified_fine c (StandardOf name ts line) n a = absurd (held_no (some_holds (standard_kind (row_of name).result)) (Refers c) a.1)
-  qualified_fine c (NewOf e k ts line) n a = absurd (value_no a.holds (Refers c) a.gives)
+  qualified_fine c (NewOf e k ts line) n a = absurd (made_no k a.kinds a.made (Refers c) a.gives)
+  qualified_fine c (OriginOf k token line x) n a = absurd (value_no a.0 (Refers c) a.2)
+  qualified_fine c (ProcedureOf e k) n a = let y = a.4 in absurd (value_no (Procedure y.0) (Refers c) y.2)
+  qualified_fine c (RemoteProcedureOf x k line) n a = let y = a.5 in absurd (value_no (Procedure y.0) (Refers c) y.2)
+  qualified_fine c (MatchOf x v line) n a = absurd (value_no (Procedure a.1) (Refers c) a.3)
+  qualified_fine c (CheckedOf x leaves home es line) n a = absurd (held_no a.1 (Refers c) a.3)
   qualified_fine c (RemoteCallOf x k ts line) n a = let y = a.5 in absurd (held_no y.0 (Refers c) y.2)
   qualified_fine c (QualifiedPlaceOf e key k) n a = absurd (reference_no k (Refers c) a.0)
   qualified_fine c (QualifiedElementOf line k x ts) n a = absurd (reference_no k (Refers c) a.0)
@@ -301,9 +390,8 @@ module _ (s : Source) (ok : Typed s) (o : AllArrays) (m : Instances) (store : St
   qualified_fine c (SetOf name ts) n a = absurd (held_no a.1 (Refers c) a.3)
   qualified_fine c (ProcessOf name line x) n a = absurd (held_no a.1 (Refers c) a.3)
   qualified_fine c (SimulationOf e name ts line) n a = absurd (held_no a.1 (Refers c) a.3)
-  qualified_fine c (VirtualOf x v k line) n a = absurd (held_no a.1 (Refers c) a.3)
   qualified_fine c (TransferOf y line x) n a = absurd (none_no (Refers c) a.0)
-  qualified_fine c (ActualOf e x) n a = absurd (value_no (ByName a.0) (Refers c) a.3)
+  qualified_fine c (ActualOf e p x) n a = absurd (value_no (ByName a.0) (Refers c) a.3)
   qualified_fine c (NamedOf e key wanted) n a = absurd (got_no a.0 wanted a.1 (Refers c) a.2 a.3)
 
   -- ---- where an expression lies
@@ -342,39 +430,46 @@ module _ (s : Source) (ok : Typed s) (o : AllArrays) (m : Instances) (store : St
   named_place_is _ h named by a = absurd a
 
   -- a text that a parameter by name means
-  declared_text : (d named : DeclNo) (e : Option Entry) (Known : Type 0) (Indices : Type 0) (Actuals : List Formal → Type 0) → formal_by_name d e ≡ Some named → DeclaredGives s Known d NoMore Indices Actuals e (Some (Simply kind.Text)) → LeftHeld Known NoMore Indices (entry_names s e) (Simply kind.Text)
-  declared_text d named (Some (entry.Formal f)) Known Indices Actuals by a = text_left s Known d NoMore Indices (formal_names s f.mode f.kind f.ty) a
-  declared_text d named None Known Indices Actuals by a = absurd (cc)
-  declared_text d named (Some _) Known Indices Actuals by a = absurd (cc)
+  declared_text : (d named : DeclNo) (e : Option Entry) (Known : Type 0) (Indices Checked : Type 0) (Actuals : List Formal → Type 0) → formal_by_name d e ≡ Some named → DeclaredGives s Known d NoMore Indices Checked Actuals e (Some (Simply kind.Text)) → LeftHeld Known NoMore Indices (entry_names s e) (Simply kind.Text)
+  declared_text d named (Some (entry.Formal f)) Known Indices Checked Actuals by a = text_left s Known d NoMore Indices Checked (formal_means s f.kind f.ty) (no_procedure f.mode f.kind by) a
+    where
+      no_procedure : (q : Mode) (g : FormalKind) → named_formal q g d ≡ Some named → IsNoProcedure (formal_means s g f.ty)
+      no_procedure mode.ByName shape.Simple by = formal_no_procedure s shape.Simple f.ty NoMore refl
+      no_procedure mode.ByName shape.Array by = absurd (cc)
+      no_procedure mode.ByName shape.Procedure by = absurd (cc)
+      no_procedure mode.ByValue g by = absurd (cc)
+      no_procedure mode.ByReference g by = absurd (cc)
+  declared_text d named None Known Indices Checked Actuals by a = absurd (cc)
+  declared_text d named (Some _) Known Indices Checked Actuals by a = absurd (cc)
 
   no_attribute : (d named : DeclNo) (e : Option Entry) → formal_by_name d e ≡ Some named → is_standard_attribute e ≡ true → ⊥
   no_attribute d named (Some (entry.Formal f)) by is = cc
   no_attribute d named None by is = cc
   no_attribute d named (Some _) by is = cc
 
-  text_named : (name : Identifier) (named : DeclNo) → by_name s (syntax.Named name NoMore) ≡ Some named → (c : Option ℕ) (own : Option DeclNo) (x : Option Denotation) (Operands : List Kind → Type 0) (Actuals : List Formal → Type 0) → connection_at s name.token.0 ≡ c → own_attribute s name.token.0 ≡ own → denoted s name.token.0 ≡ x
-      → IdentifierGives s from name.token.0 c own NoMore (AreIntegers s from NoMore) Operands Actuals (Some (Simply kind.Text)) → NamedUse name named (Simply kind.Text)
-  text_named name named by c None (Some (denotation.Declared d)) Operands Actuals in_c own is a =
+  text_named : (name : Identifier) (named : DeclNo) → by_name s (syntax.Named name NoMore) ≡ Some named → (c : Option ℕ) (own : Option DeclNo) (x : Option Denotation) (Checked : Type 0) (Operands : List Kind → Type 0) (Actuals : List Formal → Type 0) → connection_at s name.token.0 ≡ c → own_attribute s name.token.0 ≡ own → denoted s name.token.0 ≡ x
+      → IdentifierGives s from name.token.0 c own NoMore (AreIntegers s from NoMore) Checked Operands Actuals (Some (Simply kind.Text)) → NamedUse name named (Simply kind.Text)
+  text_named name named by c None (Some (denotation.Declared d)) Checked Operands Actuals in_c own is a =
       let formal = named_alone name d named is by in
-      name_used name c d named (Simply kind.Text) in_c is formal (declared_text d named (entry_of s.tables d) (KnownAt s from c d) (AreIntegers s from NoMore) Actuals formal (by_connection c a))
+      name_used name c d named (Simply kind.Text) in_c is formal (declared_text d named (entry_of s.tables d) (KnownAt s from c d) (AreIntegers s from NoMore) Checked Actuals formal (by_connection c a))
     where
-      by_connection : (c : Option ℕ) → IdentifierGives s from name.token.0 c None NoMore (AreIntegers s from NoMore) Operands Actuals (Some (Simply kind.Text)) → DeclaredGives s (KnownAt s from c d) d NoMore (AreIntegers s from NoMore) Actuals (entry_of s.tables d) (Some (Simply kind.Text))
-      by_connection None a = subst (λ z. NamedGives s from None z NoMore (AreIntegers s from NoMore) Operands Actuals (Some (Simply kind.Text))) is a
-      by_connection (Some k) a = subst (λ z. NamedGives s from (Some k) z NoMore (AreIntegers s from NoMore) Operands Actuals (Some (Simply kind.Text))) is a
-  text_named name named by (Some k) (Some e) (Some (denotation.Declared d)) Operands Actuals in_c own is a =
+      by_connection : (c : Option ℕ) → IdentifierGives s from name.token.0 c None NoMore (AreIntegers s from NoMore) Checked Operands Actuals (Some (Simply kind.Text)) → DeclaredGives s (KnownAt s from c d) d NoMore (AreIntegers s from NoMore) Checked Actuals (entry_of s.tables d) (Some (Simply kind.Text))
+      by_connection None a = subst (λ z. NamedGives s from None z NoMore (AreIntegers s from NoMore) Checked Operands Actuals (Some (Simply kind.Text))) is a
+      by_connection (Some k) a = subst (λ z. NamedGives s from (Some k) z NoMore (AreIntegers s from NoMore) Checked Operands Actuals (Some (Simply kind.Text))) is a
+  text_named name named by (Some k) (Some e) (Some (denotation.Declared d)) Checked Operands Actuals in_c own is a =
       let formal = named_alone name d named is by in
-      name_used name (Some k) d named (Simply kind.Text) in_c is formal (declared_text d named (entry_of s.tables d) (KnownAt s from (Some k) d) (AreIntegers s from NoMore) Actuals formal (subst (λ z. NamedGives s from (Some k) z NoMore (AreIntegers s from NoMore) Operands Actuals (Some (Simply kind.Text))) is a))
-  text_named name named by None (Some e) x Operands Actuals in_c own is a =
+      name_used name (Some k) d named (Simply kind.Text) in_c is formal (declared_text d named (entry_of s.tables d) (KnownAt s from (Some k) d) (AreIntegers s from NoMore) Checked Actuals formal (subst (λ z. NamedGives s from (Some k) z NoMore (AreIntegers s from NoMore) Checked Operands Actuals (Some (Simply kind.Text))) is a))
+  text_named name named by None (Some e) x Checked Operands Actuals in_c own is a =
       let formal = named_alone name e named (own_denoted s name.token.0 e own) by in
       absurd (no_attribute e named (entry_of s.tables e) formal (own_is_attribute s name.token.0 e own))
-  text_named name named by c None (Some (denotation.Standard n)) Operands Actuals in_c own is a = absurd (no_denotation name named by (Some (denotation.Standard n)) is refl)
-  text_named name named by c None None Operands Actuals in_c own is a = absurd (no_denotation name named by None is refl)
-  text_named name named by (Some k) (Some e) (Some (denotation.Standard n)) Operands Actuals in_c own is a = absurd (no_denotation name named by (Some (denotation.Standard n)) is refl)
-  text_named name named by (Some k) (Some e) None Operands Actuals in_c own is a = absurd (no_denotation name named by None is refl)
+  text_named name named by c None (Some (denotation.Standard n)) Checked Operands Actuals in_c own is a = absurd (no_denotation name named by (Some (denotation.Standard n)) is refl)
+  text_named name named by c None None Checked Operands Actuals in_c own is a = absurd (no_denotation name named by None is refl)
+  text_named name named by (Some k) (Some e) (Some (denotation.Standard n)) Checked Operands Actuals in_c own is a = absurd (no_denotation name named by (Some (denotation.Standard n)) is refl)
+  text_named name named by (Some k) (Some e) None Checked Operands Actuals in_c own is a = absurd (no_denotation name named by None is refl)
 
   pub text_used : (e : Expression) (named : DeclNo) → by_name s e ≡ Some named → ExprIs s from e (Simply kind.Text) → UseOf e named (Simply kind.Text)
   unfolding by_name
-  text_used (syntax.Named name NoMore) named by a = (text_named name named by (connection_at s name.token.0) (own_attribute s name.token.0) (denoted s name.token.0) (λ ks. AreOf s from NoMore ks) (λ fs. ActualsFit s from NoMore fs) refl refl refl a, refl)
+  text_used (syntax.Named name NoMore) named by a = (text_named name named by (connection_at s name.token.0) (own_attribute s name.token.0) (denoted s name.token.0) (ParametersAre s from NoMore) (λ ks. AreOf s from NoMore ks) (λ fs. ActualsFit s from NoMore fs) refl refl refl a, refl)
   text_used (syntax.Named name (Then x es)) named by a = absurd (cc)
   text_used _ named by a = absurd (cc)
 
@@ -396,9 +491,29 @@ module _ (s : Source) (ok : Typed s) (o : AllArrays) (m : Instances) (store : St
   variable_passed e k None (Some named) by a = handed_on e (Simply k) named k by a.1 (λ ty held. held_of_kind s ty k held)
   variable_passed e k (Some c) (Some named) by a = handed_on e (Refers c) named k by a.1 (λ ty held. let q = held_qualified s ty c held in q.0 ∙ sym a.0)
 
-  pub actual_closed : (e : Expression) (k : Kind) → ActualIs s from e k → Fine (close_actual s m i e) (Some (actual_gives s e k))
+  actual_closed : (e : Expression) (k : Kind) → NamedIs s from e k → Fine (close_actual s m i e) (Some (actual_gives s false e (Simply k)))
   actual_closed e k a = by_place (is_placed s e) a
     where
       by_place : (placed : Bool) → ActualPassed placed (qualification s (type_at s (typed_token e))) (ExprIs s from e) (PlaceIs s from e) k → Fine (close_actual_by placed s m i e) (Some (actual_gives_by placed s e k))
       by_place true p = variable_passed e k (qualification s (type_at s (typed_token e))) (by_name s e) refl p
       by_place false p = expr_fine s ok o m store i t todo from at e (Simply k) p
+
+  array_closed : (e : Expression) (h : Holds) → ExprIs s from e (ArrayOf h) → Fine (close_actual s m i e) (Some (Value (ArrayOf h)))
+  array_closed e h a = by_place (is_placed s e) refl
+    where
+      by_place : (placed : Bool) → is_placed s e ≡ placed → Fine (close_actual_by placed s m i e) (Some (Value (ArrayOf h)))
+      by_place true is = absurd (no_array_placed s from e h a is)
+      by_place false is = expr_fine s ok o m store i t todo from at e (ArrayOf h) a
+
+  -- what is passed for a formal parameter, as it is closed
+  pub passed_closed : (p : Bool) (e : Expression) (h : Holds) → ActualIs s from p e h → Fine (close_passed p s m i e) (Some (actual_gives s p e h))
+  passed_closed true e (Procedure q) a = alone_fine s ok o m store i t todo from at e q a
+  passed_closed false e (Simply k) a = actual_closed e k a
+  passed_closed false e (ArrayOf h) a = array_closed e h a
+  passed_closed true e (Simply k) a = absurd a
+  passed_closed true e (Refers c) a = absurd a
+  passed_closed true e (ArrayOf h) a = absurd a
+  passed_closed true e (ByName h) a = absurd a
+  passed_closed false e (Refers c) a = absurd a
+  passed_closed false e (Procedure q) a = absurd a
+  passed_closed false e (ByName h) a = absurd a

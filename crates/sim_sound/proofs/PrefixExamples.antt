@@ -11,7 +11,7 @@ use Rattle.sim_meaning.specs.ClassExamples.{class_in_class}
 use Rattle.sim_meaning.specs.Entries.{numbers_of}
 use Rattle.sim_sound.specs.Held.{Among, ArrayOf, Holds, IsFormal, Seen, Simply, entry_holds, first, further, itself, later}
 use Rattle.sim_sound.specs.Typed.{ClassThere, ConstantHas, Ends, PrefixTyped, ProcedureThere, Typed, as_block, outermost, prefixed, stands}
-use Rattle.sim_sound.proofs.Examples.{integer_apart, none_named, NoSetProcedure, NoSetText, RowHolds, TextHolds, no_set_procedure, no_set_text, none_among, number, row_holds, text_holds, true_never, no_virtual}
+use Rattle.sim_sound.proofs.Examples.{integer_apart, none_named, no_procedures, NoSetProcedure, NoSetText, RowHolds, TextHolds, no_set_procedure, no_set_text, none_among, number, row_holds, text_holds, true_never, no_virtual}
 use Rattle.std.specs.Fmt.{digits}
 use Rattle.sim_code.specs.Arrays.{element_place, making_array, copying_array, keeping_array, finding_element, giving_back, handed_over}
 use Rattle.sim_code.specs.Events.{pop_object, qualifying, referring, stopping, no_rule, ticking, taking, entering, having, when, computing, choosing, popping, pop_many, pop_plain, pop_truth, pop_integers, pop_operands, pop_text, answering, applying_one, applying_two, testing_step, performing, putting_back, assigning, making_text, joining}
@@ -100,7 +100,7 @@ q_block = record {
   made = q_made;
   own = λ d a. absurd (none_among d a);
   statements = (
-    (kind.Reference, ((refl, record { class = 1; qualified = refl; at = (refl, q_in_block) }), tt), (record { declaration = number 6; denotes = refl; class = 3; declares = refl; made = refl; single = refl; seen = q_in_block; actuals = (refl, tt) }, refl)),
+    (kind.Reference, ((refl, record { class = 1; qualified = refl; at = (refl, q_in_block) }), tt), (record { declaration = number 6; denotes = refl; class = 3; declares = refl; single = refl; process = λ e. absurd (cc); seen = q_in_block; actuals = (refl, tt) }, refl)),
     (((refl, record { class = 3; is = refl }, (refl, q_in_block)), (None, (((refl, refl, refl), refl), (refl, (refl, tt))), refl), tt), ((None, (((refl, refl, refl), refl), tt), refl), tt)),
   );
 }
@@ -141,13 +141,14 @@ q_outer = record {
   parameters = q_outer_parameters;
   different = (q_apart_two, (q_apart_one, ((λ a. none_among (number 5) a), tt)));
   not_by_name = λ d k a e. none_named class_in_class d k (numbers_of class_in_class 1) (tt, (tt, (tt, tt))) a e;
+  no_procedure = λ d r a e. no_procedures class_in_class d r (numbers_of class_in_class 1) (tt, (tt, (tt, tt))) a e;
   constants = q_outer_constants;
   arrays = tt;
   distinct = tt;
   made = q_outer_arrays;
   own = λ d a. absurd (none_among d a);
   statements = (
-    (kind.Reference, ((refl, record { class = 2; qualified = refl; at = (refl, q_in_outer) }), tt), (record { declaration = number 2; denotes = refl; class = 2; declares = refl; made = refl; single = refl; seen = q_in_outer; actuals = (refl, tt) }, refl)),
+    (kind.Reference, ((refl, record { class = 2; qualified = refl; at = (refl, q_in_outer) }), tt), (record { declaration = number 2; denotes = refl; class = 2; declares = refl; single = refl; process = λ e. absurd (cc); seen = q_in_outer; actuals = (refl, tt) }, refl)),
     ((None, (((refl, refl, refl), refl), ((refl, (2, refl, refl, (refl, (2, refl, refl, (refl, q_in_outer))))), (refl, tt))), refl), ((refl, refl), tt)),
   );
   stays = refl;
@@ -183,6 +184,7 @@ q_cell = record {
   parameters = q_cell_parameters;
   different = (q_apart, ((λ a. none_among (number 4) a), tt));
   not_by_name = λ d k a e. none_named class_in_class d k (numbers_of class_in_class 2) (tt, (tt, tt)) a e;
+  no_procedure = λ d r a e. no_procedures class_in_class d r (numbers_of class_in_class 2) (tt, (tt, tt)) a e;
   constants = q_cell_constants;
   arrays = tt;
   distinct = tt;
@@ -208,6 +210,7 @@ q_more = record {
   parameters = λ d a f. absurd (q_more_none d a);
   different = tt;
   not_by_name = λ d k a e. q_more_none d a;
+  no_procedure = λ d r a e. q_more_none d a;
   constants = λ d type a e. absurd (q_more_none d a);
   arrays = tt;
   distinct = tt;
@@ -216,7 +219,7 @@ q_more = record {
   statements = (
     (kind.Integer, ((integer_apart, (refl, q_in_prefix)), tt), refl),
     (
-      (kind.Reference, ((refl, record { class = 2; qualified = refl; at = (refl, q_in_prefix) }), tt), (record { declaration = number 2; denotes = refl; class = 2; declares = refl; made = refl; single = refl; seen = q_in_prefix; actuals = (refl, tt) }, refl)),
+      (kind.Reference, ((refl, record { class = 2; qualified = refl; at = (refl, q_in_prefix) }), tt), (record { declaration = number 2; denotes = refl; class = 2; declares = refl; single = refl; process = λ e. absurd (cc); seen = q_in_prefix; actuals = (refl, tt) }, refl)),
       ((None, (((refl, refl, refl), refl), ((refl, (2, refl, refl, (refl, q_in_prefix))), (refl, tt))), refl), ((kind.Reference, ((refl, record { class = 2; qualified = refl; at = (refl, q_in_prefix) }), tt), (refl, (2, refl, refl, (refl, q_in_prefix)))), tt)),
     ),
   );

@@ -1,14 +1,16 @@
 -- The class `process` of a simulation block: how it is found, and what is a level of it.
-use Rattle.std.proofs.Common.{◌≡◌, ◌≢◌, ℕ, zero, suc, Bool, true, false, List, [], ◌∷◌, ◌++◌, length, Option, Some, None, refl, ap, ◌∙◌, subst, arith}
+use Rattle.std.proofs.Common.{◌≡◌, ◌≢◌, ℕ, zero, suc, Bool, true, false, List, [], ◌∷◌, ◌++◌, length, Option, Some, None, refl, ap, ◌∙◌, ⊎_elim, subst, arith}
+use Rattle.std.proofs.lemmas.Bool.{cases_eq}
 use Rattle.std.specs.Prelude.{◌+◌, ◌||◌, is_some}
 use Rattle.sim_scope.specs.declared.types.StandardClass.{StandardClass}
 use Rattle.sim_scope.specs.declared.types.StandardClass.TheVariants as standard
 use Rattle.sim_scope.specs.Levels.{base, holds, is_for_prefixing, is_simulation_block, some_level_of}
 use Rattle.sim_scope.specs.Source.{Source}
-use Rattle.sim_meaning.specs.Attributes.{is_bare_process, is_connection}
-use Rattle.sim_meaning.specs.Levels.{has_levels, is_process_class, is_process_text, is_simulation_text, is_standard_text, levels_beyond, levels_from, levels_of, or_else, process_among, process_behind, process_class, process_if}
+use Rattle.sim_meaning.specs.Attributes.{is_connection}
+use Rattle.sim_meaning.specs.Levels.{has_levels, is_process_class, is_process_itself, is_process_text, is_simulation_text, is_standard_text, levels_beyond, levels_from, levels_of, or_else, process_among, process_behind, process_class, process_if}
 use Rattle.sim_meaning.specs.Texts.{BlockText, ClassText, ConnectionText, PrefixedText, ProcedureText, StandardText, Text, text}
-use Rattle.sim_sound.specs.Typed.{Ends, ProcessClassThere, Typed, outermost, prefixed}
+use Rattle.sim_sound.specs.Expressions.{ProcessClassThere}
+use Rattle.sim_sound.specs.Typed.{Ends, Typed, outermost, prefixed}
 use Rattle.sim_sound.proofs.Lists.{no_some, same_some}
 use Rattle.sim_sound.proofs.Members.{NoSimulation, level_among, level_counted}
 use Rattle.sim_sound.proofs.Prefixes.{LevelOf, level_has, level_solid, only_level, prefix_level, same_level}
@@ -131,16 +133,15 @@ above_level s same_level differ = absurd (differ refl)
 above_level s (prefix_level e at) differ = level_above s e at
 
 module _ (s : Source) (ok : Typed s) (t : ℕ) (solid : is_connection (text s t) ≡ false) where
-  -- a class `process` that is a level of another class was brought by `simulation`
-  pub process_there : (u : ℕ) → is_bare_process (text s t) ≡ false → text s u ≡ Some (StandardText standard.Process) → LevelOf s t u → ProcessClassThere s u
-  process_there u made is at =
-      let r = above_level s at (λ same. not_bare (ap (text s) same ∙ is)) in
-      ok.processes r.0 u (level_solid s ok solid r.1) r.2 is
-    where
-      not_bare : text s t ≡ Some (StandardText standard.Process) → ⊥
-      not_bare e = let yes : is_bare_process (text s t) ≡ true = ap is_bare_process e in cc
+  -- a class `process` that is a level of a class was brought by `simulation`, if it is where it is that class
+  pub process_there : (u : ℕ) → (text s t ≡ Some (StandardText standard.Process) → ProcessClassThere s t) → text s u ≡ Some (StandardText standard.Process) → LevelOf s t u → ProcessClassThere s u
+  process_there u itself is at =
+      ⊎_elim
+      (λ same. subst (ProcessClassThere s) same (itself (ap (text s) same ∙ is)))
+      (λ differ. let r = above_level s at differ in ok.processes r.0 u (level_solid s ok solid r.1) r.2 is)
+      (cases_eq t u)
 
-  process_text : (u : ℕ) (x : Option Text) → text s u ≡ x → is_standard_text is_process_class x ≡ true → text s u ≡ Some (StandardText standard.Process)
+  pub process_text : (u : ℕ) (x : Option Text) → text s u ≡ x → is_standard_text is_process_class x ≡ true → text s u ≡ Some (StandardText standard.Process)
   process_text u (Some (StandardText standard.Process)) e is = e
   process_text u (Some (StandardText standard.Linkage)) e is = absurd (cc)
   process_text u (Some (StandardText standard.Link)) e is = absurd (cc)
@@ -164,6 +165,10 @@ module _ (s : Source) (ok : Typed s) (t : ℕ) (solid : is_connection (text s t)
   no_process none u is at =
       let yes = level_counted s (λ u. is_standard_text is_process_class (text s u)) (length s.tables.blocks) t u ((ok.prefixes).ends t solid) at (ap (is_standard_text is_process_class) is) in
       cc
+
+pub itself_process : (s : Source) (ok : Typed s) (k : ℕ) → is_connection (text s k) ≡ false → is_process_itself s k ≡ true → text s k ≡ Some (StandardText standard.Process)
+unfolding is_process_itself
+itself_process s ok k solid is = process_text s ok k solid k (text s k) refl is
 
 -- what has no levels is no process, and neither is a block
 pub plain_no_process : (s : Source) → Typed s → (k : ℕ) → is_connection (text s k) ≡ false → has_levels (text s k) ≡ false → NoProcess s k

@@ -1,5 +1,5 @@
 -- What processes tell, and how they begin and end.
-use Rattle.std.proofs.Common.{◌≡◌, ℕ, zero, suc, true, List, ◌∷◌, length, Option, Some, None, Result, Ok, Err, refl, sym, ap, ◌∙◌, subst}
+use Rattle.std.proofs.Common.{◌≡◌, ℕ, zero, suc, true, List, ◌∷◌, length, Option, Some, None, Result, Ok, Err, refl, sym, ap, ◌∙◌, subst, Bool, false}
 use Rattle.std.specs.List.{position}
 use Rattle.std.specs.Option.{option_map}
 use Rattle.std.specs.Prelude.{◌+◌, ◌==◌, slice_get}
@@ -17,14 +17,14 @@ use Rattle.sim_values.specs.declared.standard.StandardType.TheVariants as of
 use Rattle.sim_values.specs.Plain.{Character, Integer, MainOf, Nothing, Object, Plain, Text, Truth}
 use Rattle.sim_values.specs.Standard.{row_of}
 use Rattle.sim_code.specs.Events.{computing, having, pop_plain}
-use Rattle.sim_code.specs.Instances.{encloser_in, encloser_of, live}
+use Rattle.sim_code.specs.Instances.{encloser_in, encloser_of, live, Instance}
 use Rattle.sim_code.specs.Outcome.{Run, Simulation, World}
 use Rattle.sim_code.specs.Scheduling.{block_around, performing_process}
 use Rattle.sim_code.specs.Simulations.{current_process, ended_at, integer_or_error, located, number_in, object_numbered, process_after, process_first, process_numbered, process_tells, with_ended}
-use Rattle.sim_meaning.specs.Levels.{end_line, has_levels}
+use Rattle.sim_meaning.specs.Levels.{end_line, has_levels, end_line_if, end_line_of, is_class, is_process_itself, last_line, line_of_origin, origin_line}
 use Rattle.sim_meaning.specs.Meaning.{do_op}
 use Rattle.sim_meaning.specs.Objects.{decided}
-use Rattle.sim_meaning.specs.Pending.{Activation, Address, ArrayValue, BlockOp, Configuration, EndProcessOp, Instances, Item, Link, Of, Op, ProcedureValue, ProcessOp, SelfOp, Actual, Val, plain}
+use Rattle.sim_meaning.specs.Pending.{Activation, Address, ArrayValue, BlockOp, Configuration, EndProcessOp, Instances, Item, Link, Of, Op, ProcedureValue, ProcessOp, SelfOp, Actual, Val, plain, Origin, Held, cell}
 use Rattle.sim_meaning.specs.Steps.{go}
 use Rattle.sim_meaning.specs.Texts.{text}
 use Rattle.sim_sound.specs.Held.{FitsIn, Holds, Refers, Simply, given_by}
@@ -33,22 +33,23 @@ use Rattle.sim_sound.proofs.Attributes.{process_place}
 use Rattle.sim_sound.proofs.Deciding.{decides}
 use Rattle.sim_sound.proofs.Ends.{object_here}
 use Rattle.sim_sound.proofs.Evals.{IsFine, Work, goes_on}
-use Rattle.sim_sound.proofs.Fitting.{plain_fits, plain_val}
+use Rattle.sim_sound.proofs.Fitting.{plain_fits, plain_val, text_there}
 use Rattle.sim_sound.proofs.Heads.{headed_as}
 use Rattle.sim_sound.proofs.Lifts.{Goes, any_popped, computed, had}
 use Rattle.sim_sound.proofs.Lists.{equal_numbers, if_true, same_some}
 use Rattle.sim_sound.proofs.Moves.{instance_there, placed_as}
 use Rattle.sim_sound.proofs.NoticeLists.{first_is, next_is, passivated_all}
-use Rattle.sim_sound.proofs.Prefixes.{LevelOf, level_is, level_of_levels}
-use Rattle.sim_sound.proofs.ProcessClasses.{only_process}
+use Rattle.sim_sound.proofs.Prefixes.{LevelOf, level_is, level_of_levels, same_level}
+use Rattle.sim_sound.proofs.ProcessClasses.{only_process, itself_process}
 use Rattle.sim_sound.proofs.Reach.{has_itself}
 use Rattle.sim_sound.proofs.Running.{Begun, Operates, StoreFine, idle}
 use Rattle.sim_sound.proofs.SetWork.{gives_integer, gives_truth}
 use Rattle.sim_sound.proofs.Simulated.{EachNotice, NumberFine, Processes, SimulationsFine}
 use Rattle.sim_sound.proofs.SimulatedLists.{located_at, some_place}
-use Rattle.sim_sound.proofs.Sound.{OpFine, ProcessIs, ProcessText, given, held_kinds}
-use Rattle.sim_sound.proofs.Values.{Component, DeepFine, HandsFine, Kinds, LinkTo, MainIn, Marks, ObjectIn, ObjectOf, PlainFine, ReferenceFine, Simulates, Value, see}
+use Rattle.sim_sound.proofs.Sound.{OpFine, ProcessIs, ProcessText, given}
+use Rattle.sim_sound.proofs.Values.{Component, DeepFine, HandsFine, Kinds, LinkTo, MainIn, Marks, ObjectIn, ObjectOf, PlainFine, ReferenceFine, Simulates, Value, see, held_kinds, InstanceFine, ValFine}
 use Rattle.sim_sound.proofs.Transfers.{own_then, Chain, waits_fine}
+use Rattle.sim_sound.proofs.Cells.{own_cell}
 
 -- ---- the simulation of a block
 
@@ -203,7 +204,7 @@ module _ (s : Source) (ok : Typed s) (l : Limits) (o : World) (g : Marks) (long 
       next : Wk todo (given (held_kinds a.1) a.2)
       next = works (given (held_kinds a.1) a.2) a.5 a.6
 
-      by_value : (v : Val) (vs : List Val) → DeepFine s (see g o) m i (length vs) (ObjectIn (((a.0).there).linkage + 3)) v → Hd a.2 vs → Goes (IsFine s) (having (plain v) o (λ p. telling n line p vs))
+      by_value : (v : Val) (vs : List Val) → DeepFine s (see g o) m i vs (ObjectIn (((a.0).there).linkage + 3)) v → Hd a.2 vs → Goes (IsFine s) (having (plain v) o (λ p. telling n line p vs))
       by_value (Of (Object j)) vs f more = had (IsFine s) (Some (Object j)) (Object j) o (λ p. telling n line p vs) refl (object_told n line a.0 a.1 a.2 a.3 next j vs more f)
       by_value (Of (MainOf j)) vs f more = had (IsFine s) (Some (MainOf j)) (MainOf j) o (λ p. telling n line p vs) refl (main_told n line a.0 a.1 a.2 a.3 next j vs more f)
       by_value (Of Nothing) vs f more = absurd f
@@ -215,7 +216,7 @@ module _ (s : Source) (ok : Typed s) (l : Limits) (o : World) (g : Marks) (long 
       by_value (Address z) vs f more = absurd f
       by_value (ArrayValue z) vs f more = absurd f
       by_value (ProcedureValue z y) vs f more = absurd f
-      by_value (Actual home z) vs f more = absurd f
+      by_value (Actual home pr z) vs f more = absurd f
 
   -- ---- a process that begins, and one that ends
 
@@ -238,10 +239,49 @@ module _ (s : Source) (ok : Typed s) (l : Limits) (o : World) (g : Marks) (long 
       let x = home_is s o.simulations m b.store.simulations c.block c.level c.home in
       let old = (x.entry).1 in
       let same = ended_same old (position (λ e. e == i) old.processes) in
-      had (IsFine s) (encloser_of m i) c.block o (λ b. having (located o.simulations b) o (λ x. decided m i w rest (end_line s m i) o (x.0, with_ended i x.1) (Ok (passivated (x.1).notices)) vals)) (ap encloser_in (instance_there (slice_get m.instances i) y (b.here).lives).0 ∙ c.encloser)
-      (had (IsFine s) (located o.simulations c.block) x.entry o (λ x. decided m i w rest (end_line s m i) o (x.0, with_ended i x.1) (Ok (passivated (x.1).notices)) vals) x.found
-      (decides_on (a.1 ∙ sym a.0) (end_line s m i) c.level ((x.entry).0, with_ended i old) old x.at same.0 same.1 x.home (Ok (passivated old.notices)) vals (subst (λ z. Hd z vals) (sym a.2) h) (λ ns e. left ns old c.level e (x.processes).notices)))
+      had (IsFine s) (encloser_of m i) c.block o (λ b. having (located o.simulations b) o (λ x. having (end_line s m i) o (λ line. decided m i w rest line o (x.0, with_ended i x.1) (Ok (passivated (x.1).notices)) vals))) (ap encloser_in (instance_there (slice_get m.instances i) y (b.here).lives).0 ∙ c.encloser)
+      (had (IsFine s) (located o.simulations c.block) x.entry o (λ x. having (end_line s m i) o (λ line. decided m i w rest line o (x.0, with_ended i x.1) (Ok (passivated (x.1).notices)) vals)) x.found
+      (had (IsFine s) (end_line s m i) ends.0 o (λ line. decided m i w rest line o ((x.entry).0, with_ended i old) (Ok (passivated old.notices)) vals) ends.1
+      (decides_on (a.1 ∙ sym a.0) ends.0 c.level ((x.entry).0, with_ended i old) old x.at same.0 same.1 x.home (Ok (passivated old.notices)) vals (subst (λ z. Hd z vals) (sym a.2) h) (λ ns e. left ns old c.level e (x.processes).notices))))
     where
+      integer_line : (k : ℕ) (v : Val) → ValFine s (see g o) m i (Simply kind.Integer) v → (n : ℕ) × (line_of_origin s k (Some v) ≡ Some n)
+      integer_line k (Of (Integer z)) e = (origin_line s k z, refl)
+      integer_line k (Of (Truth z)) e = let f = e.0 in absurd (cc)
+      integer_line k (Of (Character z)) e = let f = e.0 in absurd (cc)
+      integer_line k (Of (Text z)) e = let f = e.0 in absurd (cc)
+      integer_line k (Of (Object z)) e = let f = e.0 in absurd (cc)
+      integer_line k (Of (MainOf z)) e = let f = e.0 in absurd (cc)
+      integer_line k (Of Nothing) e = let f = e.0 in absurd (cc)
+      integer_line k (Link z) e = absurd e
+      integer_line k (Address z) e = absurd e
+      integer_line k (ArrayValue z) e = absurd e
+      integer_line k (ProcedureValue z y) e = absurd e
+      integer_line k (Actual z pr y) e = absurd e
+
+      -- one of `process` itself keeps where it was generated
+      ends : (n : ℕ) × (end_line s m i ≡ Some n)
+      ends = by_class (is_process_itself s k) refl
+        where
+          y : Instance (List Held)
+          y = (b.here).now
+
+          k : ℕ
+          k = y.text
+
+          f : InstanceFine s (see g o) m i y
+          f = b.store.instances i y (b.here).lives
+
+          at : end_line s m i ≡ end_line_of s (Some k) (cell m i Origin)
+          at = ap (λ z. end_line_of s z (cell m i Origin)) (text_there s m i y (b.here).lives)
+
+          by_class : (c : Bool) → is_process_itself s k ≡ c → (n : ℕ) × (end_line s m i ≡ Some n)
+          by_class false is = (last_line s k, at ∙ ap (λ z. end_line_if z s k (cell m i Origin)) is)
+          by_class true is =
+              let text_is = itself_process s ok k f.solid is in
+              let c = own_cell s (see g o) m i y Origin (Simply kind.Integer) (b.here).lives f (λ q e. absurd (cc)) refl (f.origins (ap is_class text_is) k same_level text_is) in
+              let n = integer_line k c.0 c.2 in
+              (n.0, at ∙ ap (λ z. end_line_if z s k (cell m i Origin)) is ∙ ap (line_of_origin s k) c.1 ∙ n.1)
+
       left : (ns : _) (old : Simulation) (k : ℕ) → ◌≡◌ {A = Result _ RunError} (Ok (passivated old.notices)) (Ok ns) → EachNotice (NumberFine s m old k) old.notices → EachNotice (NumberFine s m old k) ns
       left ns old k e f = subst (EachNotice (NumberFine s m old k)) (let same : passivated old.notices ≡ ns = cc in same) (passivated_all (NumberFine s m old k) old.notices f)
 

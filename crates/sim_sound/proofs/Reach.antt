@@ -18,7 +18,7 @@ use Rattle.sim_meaning.specs.Entries.{cells_from, first_cells, numbers_of, with_
 use Rattle.sim_meaning.specs.Objects.{attributes_from, with_attribute}
 use Rattle.sim_meaning.specs.Pending.{Declared, Held, Instances, Key, Result}
 use Rattle.sim_meaning.specs.Texts.{BlockText, ClassText, ConnectionText, PrefixedText, ProcedureText, StandardText, Text, text}
-use Rattle.sim_sound.specs.Held.{Among, Around, Holds, In, InBound, IsFixed, Place, Seen, Sees, StandsAround, entry_holds, first, from_around, further, itself, later, own_fixed}
+use Rattle.sim_sound.specs.Held.{Among, Around, Holds, In, InBound, IsFixed, Place, Seen, Sees, StandsAround, entry_holds, first, from_around, further, itself, later, own_fixed, text_of}
 use Rattle.sim_sound.specs.Typed.{Home, TextTyped, Typed, connected as past, stands}
 use Rattle.sim_sound.proofs.Running.{StoreFine}
 use Rattle.sim_sound.proofs.Values.{AllArrays, Enclosed, InstanceFine, KeyAmong, Knows, Present, Stands, StandsFor, Whole, alone, connected, first_key, in_bound, in_text, key_of, keys_in, later_key, no_further, one_out, outward as knows_outward, own_cells, own_text, within}
@@ -224,6 +224,19 @@ reaches_from s ok o m store i (InBound u) (in_bound {t = t} {todo = todo} p own 
 pub text_from : (s : Source) → Typed s → (o : AllArrays) (m : Instances) → StoreFine s o m → (i : ℕ) (from : Place) → Stands s m i from → ReachesText s m i from
 text_from s ok o m store i (In u) (in_text whole) = text_in s ok o m store i u whole
 text_from s ok o m store i (InBound u) (in_bound {t = t} {todo = todo} p own at ready solid) = text_bound s ok o m store i t u todo p own at
+
+-- the instance of a text around where an expression stands, or of that text itself
+pub instance_from : (s : Source) → Typed s → (o : AllArrays) (m : Instances) → StoreFine s o m → (i : ℕ) (from : Place) → Stands s m i from → (k : ℕ) → Around s.tables (text_of from) k → (j : ℕ) × (at_level m (level_of s k) i ≡ Some j)
+unfolding at_level
+instance_from s ok o m store i (In u) (in_text whole) k around = let x = text_in s ok o m store i u whole k around in (x.instance, x.found)
+instance_from s ok o m store i (InBound u) (in_bound {t = t} {todo = todo} p own at ready solid) k around = go around
+  where
+    go : {k : ℕ} → Around s.tables u k → (j : ℕ) × (at_level m (level_of s k) i ≡ Some j)
+    go itself =
+        let f = fine_at s o m i t todo store p in
+        let from : LevelOf s (p.now).text u = subst (λ y. LevelOf s y u) (sym own) at in
+        (i, here_found s ok o m i (level_of s u) i p.now p.lives (f.level ∙ level_number s ok f.solid from))
+    go (further {u = v} out way) = let x = text_bound s ok o m store i t u todo p own at _ (record { next = v; stands_in = out; around = way }) in (x.instance, x.found)
 
 -- ---- the keys of a text are those of its declarations
 

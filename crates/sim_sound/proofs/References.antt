@@ -13,7 +13,7 @@ use Rattle.sim_meaning.specs.Levels.{stands_in}
 use Rattle.sim_sound.specs.Typed.{Typed}
 use Rattle.sim_sound.proofs.Fitting.{main_of_class, of_class}
 use Rattle.sim_sound.proofs.Lifts.{Goes, any_popped, had, known_popped, stops}
-use Rattle.sim_sound.proofs.Values.{AllArrays, HandsFine, Kinds, MainIn, ObjectOf, PlainFine, ReferenceFine, ValFine, Value}
+use Rattle.sim_sound.proofs.Values.{AllArrays, HandsFine, Kinds, MainIn, ObjectOf, PlainFine, ReferenceFine, ValFine, Value, NewObject, MadeOf, HandFine}
 
 module _ {S : Type 0} (P : World → S → Type 0) where
   by_test : (b : Bool) (line : ℕ) (o : World) (r : Run S) → (b ≡ true → Goes P r) → Goes P (if b then r else stopping (RunFault OutsideQualification line) o)
@@ -69,7 +69,7 @@ module _ {S : Type 0} (P : World → S → Type 0) where
     reference_is c (Address z) o f h x = absurd h
     reference_is c (ArrayValue z) o f h x = absurd h
     reference_is c (ProcedureValue z y) o f h x = absurd h
-    reference_is c (Actual home z) o f h x = absurd h
+    reference_is c (Actual home pr z) o f h x = absurd h
 
     -- a reference of a class
     pub reference_popped : (c : ℕ) (ks : List Kinds) (vals : List Val) (o : World) (f : Plain → List Val → Run S) → HandsFine s a m i (Value (Refers c) ∷ ks) vals → ((p : Plain) (rest : List Val) → ReferenceFine s m c p → HandsFine s a m i ks rest → Goes P (f p rest)) → Goes P (pop_plain plain vals o f)
@@ -82,6 +82,25 @@ module _ {S : Type 0} (P : World → S → Type 0) where
     object_popped c line ks vals o f other h x =
         reference_popped c ks vals o (λ p rest. referring line p o (λ j. f j rest)) h (λ p rest e more.
         referred_goes line p o (λ j. f j rest) (reference_kind c p e) (λ j is. x j rest (subst (ReferenceFine s m c) is e) more) (λ b is. other b (subst (ReferenceFine s m c) is e)))
+
+    -- a new object of a class
+    pub new_popped : (c line : ℕ) (ks : List Kinds) (vals : List Val) (o : World) (f : ℕ → List Val → Run S) → HandsFine s a m i (NewObject c ∷ ks) vals → ((j : ℕ) (rest : List Val) → MadeOf s m j c → HandsFine s a m i ks rest → Goes P (f j rest)) → Goes P (pop_object plain line vals o f)
+    unfolding pop_object pop_plain
+    new_popped c line ks vals o f h x = any_popped P s a m i (NewObject c) ks vals o (λ v rest. having (plain v) o (λ p. referring line p o (λ j. f j rest))) h (λ v rest is here more. by_value v rest here more)
+      where
+        by_value : (v : Val) (rest : List Val) → HandFine s a m i (NewObject c) v → HandsFine s a m i ks rest → Goes P (having (plain v) o (λ p. referring line p o (λ j. f j rest)))
+        by_value (Of (Object j)) rest e more = had P (Some (Object j)) (Object j) o (λ p. referring line p o (λ j. f j rest)) refl (referred_goes line (Object j) o (λ j. f j rest) refl (λ n is. x n rest (subst (λ z. MadeOf s m z c) (let same : j ≡ n = cc in same) e) more) (λ b is. cc))
+        by_value (Of Nothing) rest e more = absurd e
+        by_value (Of (MainOf b)) rest e more = absurd e
+        by_value (Of (Integer z)) rest e more = absurd e
+        by_value (Of (Truth z)) rest e more = absurd e
+        by_value (Of (Character z)) rest e more = absurd e
+        by_value (Of (Text z)) rest e more = absurd e
+        by_value (Link z) rest e more = absurd e
+        by_value (Address z) rest e more = absurd e
+        by_value (ArrayValue z) rest e more = absurd e
+        by_value (ProcedureValue z y) rest e more = absurd e
+        by_value (Actual z pr y) rest e more = absurd e
 
     -- a reference of a class, and any one, that is not none
     pub some_popped : (c line : ℕ) (ks : List Kinds) (vals : List Val) (o : World) (f : Plain → List Val → Run S) → HandsFine s a m i (Value (Refers c) ∷ ks) vals → ((p : Plain) (rest : List Val) → ReferenceFine s m c p → (p ≡ Nothing → ⊥) → HandsFine s a m i ks rest → Goes P (f p rest)) → Goes P (pop_reference plain line vals o f)

@@ -5,6 +5,7 @@ use Rattle.sim_base.specs.declared.numbering.DeclNo.{DeclNo}
 use Rattle.sim_chains.specs.Chains.{outermost, times_on}
 use Rattle.sim_chains.specs.Components.{AttachedObject, Components, DetachedObject, NoObject, ResumedObject, Standing, TerminatedObject, standing_of}
 use Rattle.sim_chains.specs.WellFormed.{HasResumed, IsInPlace, over_kept}
+use Rattle.sim_scope.specs.declared.types.Formal.{Formal}
 use Rattle.sim_scope.specs.Source.{Source}
 use Rattle.sim_tree.specs.declared.stmt.TypeName.{TypeName}
 use Rattle.sim_tree.specs.Syntax.{Heading, Statement}
@@ -14,14 +15,14 @@ use Rattle.sim_code.specs.Outcome.{ArrayOf as OneArray}
 use Rattle.sim_code.specs.Arrays.{unless_given}
 use Rattle.sim_code.specs.Instances.{Instance, is_given_at_end, is_object_at, live, system_head}
 use Rattle.sim_meaning.specs.Levels.{has_levels}
-use Rattle.sim_meaning.specs.Meaning.{has_result}
-use Rattle.sim_meaning.specs.Pending.{Activation, Configuration, Do, EndBlock, EndEvaluation, EndLevel, ForPlace, EndObject, EndPrefixed, EndProcedure, EndProgram, Held, Instances, Item, Of, Val, owner}
+use Rattle.sim_meaning.specs.Meaning.{formal_in_hand, has_result, is_by_name}
+use Rattle.sim_meaning.specs.Pending.{Activation, Configuration, Do, EndBlock, EndEvaluation, EndLevel, ForParameter, ForPlace, EndObject, EndPrefixed, EndProcedure, EndProgram, Held, Instances, Item, Of, Use, Val, owner}
 use Rattle.sim_meaning.specs.Texts.{ProcedureText, is_class_free, text}
-use Rattle.sim_sound.specs.Held.{Fits, Holds, Refers}
+use Rattle.sim_sound.specs.Held.{Holds, actual_means}
 use Rattle.sim_sound.proofs.Members.{MembersFine, no_members}
 use Rattle.sim_sound.proofs.Simulated.{SimulationsFine}
-use Rattle.sim_sound.proofs.Sound.{Gets, Gives, GivesResult, OpFine, given}
-use Rattle.sim_sound.proofs.Values.{AllArrays, Generated, HandsFine, InstanceFine, Kinds, Near, PlainFine, Present, Seat, Sight, Stays, at_seat, Suspended, Takes, Value, Waits, elements_of}
+use Rattle.sim_sound.proofs.Sound.{Gets, Gives, GivesResult, Makes, OpFine, given}
+use Rattle.sim_sound.proofs.Values.{AllArrays, ForFormal, Generated, HandsFine, InstanceFine, Kinds, Near, Passes, PlainFine, Present, Seat, Sight, Stays, at_seat, Suspended, Takes, Value, Waits, elements_of}
 
 -- an instance that is an object's
 abbrev pub IsObject : Standing Activation → Type 0
@@ -51,8 +52,10 @@ resumes m j = is_resumed (slice_get m.standings j)
 abbrev pub IsRelease : (resumed : Bool) → (object class : ℕ) → Waits → Type 0
 IsRelease true j t Suspended = Unit {0}
 IsRelease true j t (Takes g) = ⊥
+IsRelease true j t (Passes number formal) = ⊥
 IsRelease true j t (Generated i u) = ⊥
 IsRelease false j t Suspended = ⊥
+IsRelease false j t (Passes number formal) = ⊥
 IsRelease false j t (Takes None) = Unit {0}
 IsRelease false j t (Takes (Some k)) = ⊥
 IsRelease false j t (Generated i u) = (i ≡ j) × (u ≡ t)
@@ -60,6 +63,20 @@ IsRelease false j t (Generated i u) = (i ≡ j) × (u ≡ t)
 -- the end of an instance's own work
 abbrev pub Last : AllArrays → List Item → Type 0
 Last o w = (w ≡ []) × ((o.seat).evaluations ≡ 0)
+
+-- what a formal parameter takes of the evaluation of its actual one, when a call is done that is checked
+pub record TakesFor (s : Source) (Below : Waits → Type 0) (number : ℕ) (x : Kinds) : Type 0 where
+  pub formal : Formal
+  pub by_value : is_by_name formal.mode ≡ false
+  pub means : Holds
+  pub is : actual_means s formal.kind formal.ty ≡ Some means
+  pub gives : Gives means x
+  pub below : Below (Passes number formal)
+
+-- what an evaluation gave serves for what is below
+abbrev pub Serves : Source → (Below : Waits → Type 0) → Use → Kinds → Type 0
+Serves s Below (ForParameter number line) x = TakesFor s Below number x
+Serves s Below wanted x = (h : Holds) × Gives h x × (g : Kinds) × Gets s h wanted g × Below (Takes (Some g))
 
 -- The pending work of an activation: of an instance's own, or of an evaluation. `Below` tells what is below on the chain where it waits for this;
 -- `Outermost` that nothing is.
@@ -76,8 +93,7 @@ WorkFine s o m Below Outermost j t (EndObject ∷ w) todo before =
 WorkFine s o m Below Outermost j t (EndPrefixed ∷ w) todo before = NoObjectStands m j × Below (Takes None) × Last o w
 WorkFine s o m Below Outermost j t (EndProgram ∷ w) todo before = NoObjectStands m j × Outermost × Last o w
 -- what it gave is in hand alone
-WorkFine s o m Below Outermost j t (EndEvaluation wanted ∷ w) todo before =
-    (w ≡ []) × (0 < (o.seat).evaluations) × (k : Kind) × (x : Kinds) × Gives k x × (before ≡ x ∷ []) × (g : Kinds) × Gets s k wanted g × Below (Takes (Some g))
+WorkFine s o m Below Outermost j t (EndEvaluation wanted ∷ w) todo before = (w ≡ []) × (0 < (o.seat).evaluations) × (x : Kinds) × (before ≡ x ∷ []) × Serves s Below wanted x
 
 -- ---- chains
 
@@ -86,18 +102,21 @@ abbrev pub awaited : (waiting : ℕ → Waits) → (owner : Option ℕ) → Wait
 awaited waiting (Some j) Suspended = waiting j
 awaited waiting None Suspended = Suspended
 awaited waiting owner (Takes g) = Takes g
+awaited waiting owner (Passes number formal) = Passes number formal
 awaited waiting owner (Generated i u) = Generated i u
 
 -- the values in hand but for the reference to an object that was generated
-abbrev pub Shown : Waits → (all vals : List Val) → Type 0
-Shown (Takes g) all vals = all ≡ vals
-Shown (Generated j class) all vals = all ≡ Of (Object j) ∷ vals
-Shown Suspended all vals = ⊥
+abbrev pub Shown : Source → Waits → (all vals : List Val) → Type 0
+Shown s (Takes g) all vals = all ≡ vals
+Shown s (Passes number formal) all vals = (all ≡ vals) × (formal_in_hand s number vals ≡ Some formal)
+Shown s (Generated j class) all vals = all ≡ Of (Object j) ∷ vals
+Shown s Suspended all vals = ⊥
 
 -- what is in hand when what is waited for comes
 abbrev pub Expected : Source → Waits → (kinds then : List Kinds) → Type 0
 Expected s (Takes g) ks xs = given g ks ≡ xs
-Expected s (Generated j class) ks xs = (h : Holds) × Fits s (Refers class) h × (Value h ∷ ks ≡ xs)
+Expected s (Passes number formal) ks xs = ForFormal number ∷ ks ≡ xs
+Expected s (Generated j class) ks xs = (x : Kinds) × Makes s class x × (x ∷ ks ≡ xs)
 Expected s Suspended ks xs = ⊥
 
 abbrev pub or_below : Option ℕ → (under : Option ℕ) → Option ℕ
@@ -150,7 +169,7 @@ pub record ActFine (s : Source) (o : AllArrays) (m : Instances) (a : Activation)
   pub seated : seat_on (owner a) on ≡ Some seat
   pub works : SeatedFor o m seat a.instance
   pub vals : List Val
-  pub shown : Shown waits a.values vals
+  pub shown : Shown s waits a.values vals
   pub kinds : List Kinds
   pub hands : HandsFine s (at_seat o seat) m a.instance kinds vals
   pub expected : List Kinds

@@ -17,7 +17,7 @@ use Rattle.sim_sound.specs.Held.{Among, Holds, IsFormal, Seen, entry_holds, firs
 use Rattle.sim_sound.specs.SetProgram.{link_in_set}
 use Rattle.sim_sound.specs.Typed.{ClassThere, Distinct, IsAttribute, PrefixTyped, Prefixes, SetClassThere, SetClasses, SetProcedureThere, Typed, as_prefixed, stands}
 use Rattle.sim_sound.proofs.Acyclic.{prefixes_from}
-use Rattle.sim_sound.proofs.Examples.{none_named, TextHolds, none_among, number, text_holds, true_never}
+use Rattle.sim_sound.proofs.Examples.{none_named, no_procedures, TextHolds, none_among, number, text_holds, true_never}
 use Rattle.sim_sound.proofs.Lists.{no_some}
 use Rattle.sim_sound.proofs.Prefixes.{LevelOf, level_is, prefix_level, same_level}
 use Rattle.sim_meaning.specs.Entries.{numbers_of}
@@ -188,15 +188,16 @@ y_block = record {
   parameters = λ d a f. absurd (not_formal (entry_of link_in_set.tables d) (simple_among link_in_set d (numbers_of link_in_set 0) (tt, (tt, tt)) a) f);
   different = rising_distinct (numbers_of link_in_set 0) ((omega arith, tt), (tt, tt));
   not_by_name = λ d k a e. none_named link_in_set d k (numbers_of link_in_set 0) (tt, (tt, tt)) a e;
+  no_procedure = λ d r a e. no_procedures link_in_set d r (numbers_of link_in_set 0) (tt, (tt, tt)) a e;
   constants = λ d type a e. absurd (subst IsSimple e (simple_among link_in_set d (numbers_of link_in_set 0) (tt, (tt, tt)) a));
   arrays = tt;
   distinct = tt;
   made = λ d element dimensions a e. absurd (subst IsSimple e (simple_among link_in_set d (numbers_of link_in_set 0) (tt, (tt, tt)) a));
   own = λ d a. absurd (none_among d a);
   statements = (
-    (kind.Reference, ((refl, record { class = 3; qualified = refl; at = (refl, y_seen) }), tt), (record { declaration = number 2; denotes = refl; class = 3; declares = refl; made = refl; single = refl; seen = y_seen; actuals = tt }, refl)),
+    (kind.Reference, ((refl, record { class = 3; qualified = refl; at = (refl, y_seen) }), tt), (record { declaration = number 2; denotes = refl; class = 3; declares = refl; single = refl; process = λ e. absurd (cc); seen = y_seen; actuals = tt }, refl)),
     (
-      (kind.Reference, ((refl, record { class = 2; qualified = refl; at = (refl, y_seen) }), tt), (record { declaration = number 1; denotes = refl; class = 2; declares = refl; made = refl; single = refl; seen = y_seen; actuals = tt }, refl)),
+      (kind.Reference, ((refl, record { class = 2; qualified = refl; at = (refl, y_seen) }), tt), (record { declaration = number 1; denotes = refl; class = 2; declares = refl; single = refl; process = λ e. absurd (cc); seen = y_seen; actuals = tt }, refl)),
       ((None, (refl, tt, (2, refl, refl, (refl, y_seen)), ((refl, y_seen), tt)), refl), ((kind.Reference, ((refl, record { class = 2; qualified = refl; at = (refl, y_seen) }), tt), (refl, refl, (3, refl, refl, (refl, y_seen)), tt)), tt)),
     ),
   );
@@ -210,6 +211,7 @@ y_linkage = record {
   parameters = λ d a f. absurd (not_formal (entry_of link_in_set.tables d) (simple_among link_in_set d (numbers_of link_in_set 1) (tt, (tt, (tt, tt))) a) f);
   different = rising_distinct (numbers_of link_in_set 1) ((omega arith, (omega arith, tt)), ((omega arith, tt), (tt, tt)));
   not_by_name = λ d k a e. none_named link_in_set d k (numbers_of link_in_set 1) (tt, (tt, (tt, tt))) a e;
+  no_procedure = λ d r a e. no_procedures link_in_set d r (numbers_of link_in_set 1) (tt, (tt, (tt, tt))) a e;
   constants = λ d type a e. absurd (subst IsSimple e (simple_among link_in_set d (numbers_of link_in_set 1) (tt, (tt, (tt, tt))) a));
   arrays = tt;
   distinct = tt;
@@ -226,6 +228,7 @@ y_link = record {
   parameters = λ d a f. absurd (not_formal (entry_of link_in_set.tables d) (simple_among link_in_set d (numbers_of link_in_set 2) (tt, (tt, (tt, (tt, tt)))) a) f);
   different = rising_distinct (numbers_of link_in_set 2) ((omega arith, (omega arith, (omega arith, tt))), ((omega arith, (omega arith, tt)), ((omega arith, tt), (tt, tt))));
   not_by_name = λ d k a e. none_named link_in_set d k (numbers_of link_in_set 2) (tt, (tt, (tt, (tt, tt)))) a e;
+  no_procedure = λ d r a e. no_procedures link_in_set d r (numbers_of link_in_set 2) (tt, (tt, (tt, (tt, tt)))) a e;
   constants = λ d type a e. absurd (subst IsSimple e (simple_among link_in_set d (numbers_of link_in_set 2) (tt, (tt, (tt, (tt, tt)))) a));
   arrays = tt;
   distinct = tt;
@@ -242,6 +245,7 @@ y_head = record {
   parameters = λ d a f. absurd (not_formal (entry_of link_in_set.tables d) (simple_among link_in_set d (numbers_of link_in_set 3) (tt, (tt, (tt, (tt, (tt, tt))))) a) f);
   different = rising_distinct (numbers_of link_in_set 3) ((omega arith, (omega arith, (omega arith, (omega arith, tt)))), ((omega arith, (omega arith, (omega arith, tt))), ((omega arith, (omega arith, tt)), ((omega arith, tt), (tt, tt)))));
   not_by_name = λ d k a e. none_named link_in_set d k (numbers_of link_in_set 3) (tt, (tt, (tt, (tt, (tt, tt))))) a e;
+  no_procedure = λ d r a e. no_procedures link_in_set d r (numbers_of link_in_set 3) (tt, (tt, (tt, (tt, (tt, tt))))) a e;
   constants = λ d type a e. absurd (subst IsSimple e (simple_among link_in_set d (numbers_of link_in_set 3) (tt, (tt, (tt, (tt, (tt, tt))))) a));
   arrays = tt;
   distinct = tt;

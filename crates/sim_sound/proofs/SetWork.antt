@@ -33,8 +33,8 @@ use Rattle.sim_sound.proofs.Moves.{later_instances, same_ones, still_copies}
 use Rattle.sim_sound.proofs.Ops.{later_hands, later_with, store_with}
 use Rattle.sim_sound.proofs.Running.{Begun, Operates}
 use Rattle.sim_sound.proofs.Simulated.{SimulationsFine}
-use Rattle.sim_sound.proofs.Sound.{OpFine, SetIs, formal_kinds, given, held_kinds, onto, set_class, set_operands}
-use Rattle.sim_sound.proofs.Values.{DeepFine, HandsFine, Kinds, Marks, ObjectIn, PlainFine, Value, see}
+use Rattle.sim_sound.proofs.Sound.{OpFine, SetIs, formal_kinds, given, onto, set_class, set_operands}
+use Rattle.sim_sound.proofs.Values.{DeepFine, HandsFine, Kinds, Marks, ObjectIn, PlainFine, Value, see, held_kinds}
 
 -- ---- what is declared of them
 
@@ -144,7 +144,7 @@ module _ (s : Source) (ok : Typed s) (l : Limits) (o : World) (g : Marks) (long 
           (had (IsFine s) (linkage_named o.members p) r.0 o (λ x. having (set_effect n (named_in o.simulations) o.members x given') o (λ effect. next (record o { members = effect.members }) effect.value vs)) (same ∙ r.1)
           (had (IsFine s) (set_effect n (named_in o.simulations) o.members r.0 given') d.effect o (λ effect. next (record o { members = effect.members }) effect.value vs) d.is (goes_then (d.effect).members (d.effect).value q vs left d.fine d.value more y)))
 
-      by_value : (v : Val) (vs : List Val) → DeepFine s (see g o) m i (length vs) (ObjectIn c) v → Hd left vs → Goes (IsFine s) (having (plain v) o (λ p. having (linkage_named o.members p) o (λ x. having (set_effect n (named_in o.simulations) o.members x given') o (λ effect. next (record o { members = effect.members }) effect.value vs))))
+      by_value : (v : Val) (vs : List Val) → DeepFine s (see g o) m i vs (ObjectIn c) v → Hd left vs → Goes (IsFine s) (having (plain v) o (λ p. having (linkage_named o.members p) o (λ x. having (set_effect n (named_in o.simulations) o.members x given') o (λ effect. next (record o { members = effect.members }) effect.value vs))))
       by_value (Of (Object j)) vs a more = of_linked vs more (Object j) j refl (by_object a)
       by_value (Of (MainOf j)) vs a more = of_linked vs more (MainOf j) j refl (by_main a)
       by_value (Of Nothing) vs a more = absurd a
@@ -156,7 +156,7 @@ module _ (s : Source) (ok : Typed s) (l : Limits) (o : World) (g : Marks) (long 
       by_value (Address z) vs a more = absurd a
       by_value (ArrayValue z) vs a more = absurd a
       by_value (ProcedureValue z y) vs a more = absurd a
-      by_value (Actual home z) vs a more = absurd a
+      by_value (Actual home pr z) vs a more = absurd a
 
   -- the linkage that is given, with what it is that of
   abbrev GivenFine : (class : ℕ) → Option ℕ → Type 0
@@ -174,7 +174,7 @@ module _ (s : Source) (ok : Typed s) (l : Limits) (o : World) (g : Marks) (long 
           had (IsFine s) (Some p) p o (λ p. having (linkage_given o.members p) o (λ x. done_with n x stack)) refl
           (had (IsFine s) (linkage_given o.members p) (Some r.0) o (λ x. done_with n x stack) (same ∙ ap some_linkage r.1) (go' (Some r.0) stack (j, r.1, link) more))
 
-      by_value : (v : Val) (stack : List Val) → DeepFine s (see g o) m i (length stack) (Value (Refers k)) v → Hd left stack → Goes (IsFine s) (having (plain v) o (λ p. having (linkage_given o.members p) o (λ x. done_with n x stack)))
+      by_value : (v : Val) (stack : List Val) → DeepFine s (see g o) m i stack (Value (Refers k)) v → Hd left stack → Goes (IsFine s) (having (plain v) o (λ p. having (linkage_given o.members p) o (λ x. done_with n x stack)))
       by_value (Of (Object j)) stack a more = of_linked stack more (Object j) j refl (by_object a)
       by_value (Of (MainOf j)) stack a more = of_linked stack more (MainOf j) j refl (by_main a)
       by_value (Of Nothing) stack a more =
@@ -188,7 +188,7 @@ module _ (s : Source) (ok : Typed s) (l : Limits) (o : World) (g : Marks) (long 
       by_value (Address z) stack a more = absurd a
       by_value (ArrayValue z) stack a more = absurd a
       by_value (ProcedureValue z y) stack a more = absurd a
-      by_value (Actual home z) stack a more = absurd a
+      by_value (Actual home pr z) stack a more = absurd a
 
   -- ---- each procedure
 

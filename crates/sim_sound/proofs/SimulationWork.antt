@@ -55,8 +55,8 @@ use Rattle.sim_sound.proofs.Running.{Begun, Operates, StoreFine}
 use Rattle.sim_sound.proofs.SetWork.{gives_head, gives_integer, gives_nothing}
 use Rattle.sim_sound.proofs.Simulated.{EachNotice, NumberFine, SimulationsFine}
 use Rattle.sim_sound.proofs.SimulatedLists.{found_in}
-use Rattle.sim_sound.proofs.Sound.{OpFine, SimulationIs, formal_kinds, given, held_kinds, onto}
-use Rattle.sim_sound.proofs.Values.{DeepFine, HandsFine, Kinds, Lasts, LinkTo, Marks, ObjectOf, PlainFine, ReferenceFine, Simulates, Value, Whole, see}
+use Rattle.sim_sound.proofs.Sound.{OpFine, SimulationIs, formal_kinds, given, onto}
+use Rattle.sim_sound.proofs.Values.{DeepFine, HandsFine, Kinds, Lasts, LinkTo, Marks, ObjectOf, PlainFine, ReferenceFine, Simulates, Value, Whole, see, held_kinds}
 
 -- ---- what is in hand
 
@@ -199,7 +199,7 @@ module _ (s : Source) (ok : Typed s) (l : Limits) (o : World) (g : Marks) (long 
   block_popped k left stack f is hands go' =
       any_popped (IsFine s) s (see g o) m i (LinkTo k) left stack o (λ v vs. having (instance_in v) o (λ e. having (located o.simulations e) o (λ x. f e x vs))) hands (λ v vs same here more. by_value v vs here more)
     where
-      by_value : (v : Val) (vs : List Val) → DeepFine s (see g o) m i (length vs) (LinkTo k) v → Hd left vs → Goes (IsFine s) (having (instance_in v) o (λ e. having (located o.simulations e) o (λ x. f e x vs)))
+      by_value : (v : Val) (vs : List Val) → DeepFine s (see g o) m i vs (LinkTo k) v → Hd left vs → Goes (IsFine s) (having (instance_in v) o (λ e. having (located o.simulations e) o (λ x. f e x vs)))
       by_value (Link e) vs a more =
           let x = home_is s o.simulations m b.store.simulations e k (block_whole s ok o g m b.store e k is a.1) in
           had (IsFine s) (Some e) e o (λ e. having (located o.simulations e) o (λ x. f e x vs)) refl
@@ -208,7 +208,7 @@ module _ (s : Source) (ok : Typed s) (l : Limits) (o : World) (g : Marks) (long 
       by_value (Address z) vs a more = absurd a
       by_value (ArrayValue z) vs a more = absurd a
       by_value (ProcedureValue z y) vs a more = absurd a
-      by_value (Actual home z) vs a more = absurd a
+      by_value (Actual home pr z) vs a more = absurd a
 
   -- what is left decides
   abbrev Leaves : (block k : ℕ) → Home block k → Result (List Notice) RunError → Type 0

@@ -10,12 +10,13 @@ use Rattle.sim_scope.specs.declared.types.Mode.TheVariants as mode
 use Rattle.sim_scope.specs.declared.types.Entry.TheVariants as entry
 use Rattle.sim_scope.specs.declared.types.SimType.{SimType}
 use Rattle.sim_scope.specs.declared.types.StandardClass.{StandardClass}
+use Rattle.sim_scope.specs.declared.types.StandardClass.TheVariants as standard
 use Rattle.sim_scope.specs.Access.{encloser}
 use Rattle.sim_scope.specs.Levels.{base, has_level, is_for_prefixing, is_simulation_block}
 use Rattle.sim_scope.specs.Scopes.{entry_of}
 use Rattle.sim_scope.specs.Source.{Source, block_of, type_at}
 use Rattle.sim_tree.specs.declared.expr.Identifier.{Identifier}
-use Rattle.sim_tree.specs.Syntax.{Declarations, Expression, Expressions, Statements}
+use Rattle.sim_tree.specs.Syntax.{Declarations, Expression, Expressions, NoMore, Statements, Then}
 use Rattle.sim_values.specs.declared.kind.Kind.{Kind}
 use Rattle.sim_values.specs.declared.kind.Kind.TheVariants as kind
 use Rattle.sim_values.specs.declared.operators.Monadic.{Monadic}
@@ -28,27 +29,24 @@ use Rattle.sim_code.specs.Scheduling.{AtTime, Beside, Directly, Timing, WithDela
 use Rattle.sim_code.specs.Sets.{is_set_name}
 use Rattle.sim_code.specs.Simulations.{is_process_name, is_simulation_name}
 use Rattle.sim_code.specs.Transfers.{Calling, Detaching, Resuming, Transfer}
-use Rattle.sim_meaning.specs.Attributes.{attribute_formals, cell_of_connection, is_bare_process, is_connection}
+use Rattle.sim_meaning.specs.Attributes.{attribute_formals, cell_of_connection, has_type, is_connection}
 use Rattle.sim_meaning.specs.Closing.{by_name, class_parameters, is_placed, typed_token}
-use Rattle.sim_meaning.specs.Entries.{formals_of, is_array_by_value, numbers_of}
+use Rattle.sim_meaning.specs.Entries.{formals_of, numbers_of}
 use Rattle.sim_meaning.specs.Levels.{has_levels, is_class, qualification}
-use Rattle.sim_meaning.specs.Pending.{ActualOf, CloseOp, ForPlace, ForValue, NamedOf, NamedOp, ToNamed, Use, ActivateOp, AgainOp, ArrayOp, AttributeOf, AttributeOp, BackOp, BlockOp, BranchOp, CallOf, CallOp, Cell, ChooseOp, ConnectOp, CopyOf, CopyOp, Declared, DeclareOp, DropOp, Either, ElementOf, ElementOp, ElementsOp, EndProcessOp, EnterOp, Eval, Exec, Execs, FetchOp, FitsOf, FitsOp, Further, Given, GiveOp, Held, IfOp, ImageOf, InnerOp, Instances, JoinOp, Joined, KeepOp, KeptOf, Key, Level, LevelOp, MemberOf, MemberOp, NewOf, NewOp, NoTerm, NotNoneOf, NotNoneOp, ObjectOp, One, OneOp, Op, PastOp, PlaceOf, PrefixedOp, ProcessOf, ProcessOp, QuaOf, QuaOp, QualifiedElementOf, QualifiedElementOp, QualifiedPlaceOf, RaiseOp, ReferOp, RemoteCallOf, SelfOp, SetOf, SetOp, ShareOp, SimulationOf, SimulationOp, StandardOf, StandardOp, StepOp, StepTestOp, StoreOp, SwapOp, Target, Term, Terms, TestOp, ToAddress, ToCell, ToPlace, ToReference, ToReferenceAt, ToText, ToTextAt, ToTextOf, TransferOf, TransferOp, Two, TwoOp, Unbuilt, ValueAt, WhenOp, WhileElementOp, VirtualOf, VirtualOp, CheckOp, CallValueOp}
+use Rattle.sim_meaning.specs.Pending.{ActualOf, CheckedOf, CloseOp, ForParameter, ForPlace, ForValue, MatchOf, OriginOf, OriginOp, ParameterOp, ProcedureOf, ProcedureOp, RemoteProcedureOf, NamedOf, NamedOp, ToNamed, Use, ActivateOp, AgainOp, ArrayOp, AttributeOf, AttributeOp, BackOp, BlockOp, BranchOp, CallOf, CallOp, Cell, ChooseOp, ConnectOp, CopyOf, CopyOp, Declared, DeclareOp, DropOp, Either, ElementOf, ElementOp, ElementsOp, EndProcessOp, EnterOp, Eval, Exec, Execs, FetchOp, FitsOf, FitsOp, Further, Given, GiveOp, Held, IfOp, ImageOf, InnerOp, Instances, JoinOp, Joined, KeepOp, KeptOf, Key, Level, LevelOp, MemberOf, MemberOp, NewOf, NewOp, NoTerm, NotNoneOf, NotNoneOp, ObjectOp, One, OneOp, Op, PastOp, PlaceOf, PrefixedOp, ProcessOf, ProcessOp, QuaOf, QuaOp, QualifiedElementOf, QualifiedElementOp, QualifiedPlaceOf, RaiseOp, ReferOp, RemoteCallOf, SelfOp, SetOf, SetOp, ShareOp, SimulationOf, SimulationOp, StandardOf, StandardOp, StepOp, StepTestOp, StoreOp, SwapOp, Target, Term, Terms, TestOp, ToAddress, ToCell, ToPlace, ToReference, ToReferenceAt, ToText, ToTextAt, ToTextOf, TransferOf, TransferOp, Two, TwoOp, Unbuilt, ValueAt, WhenOp, WhileElementOp, VirtualOp, CheckOp, CallValueOp}
+use Rattle.sim_meaning.specs.Steps.{count_of}
 use Rattle.sim_meaning.specs.Texts.{BlockText, PrefixedText, StandardText, Text, is_class_free, text}
-use Rattle.sim_sound.specs.Expressions.{ActualIs, DoneAlone, ExprIs, TwoKinds, some_holds, standard_kind}
-use Rattle.sim_sound.specs.Held.{Among, ArrayOf, ByName, Fits, FitsIn, Holds, In, InBound, IsOfKind, Place, Refers, Simply, formal_holds, given_by, key_holds, reference_to, result_holds}
+use Rattle.sim_sound.specs.Expressions.{ActualIs, DoneAlone, ExprIs, ParameterIs, ParametersAre, TwoKinds, some_holds, standard_kind, ProcessClassThere}
+use Rattle.sim_sound.specs.Held.{Among, ArrayOf, ByName, Fits, FitsIn, Holds, In, InBound, IsOfKind, Place, Procedure, Refers, ResultFits, Simply, formal_holds, given_by, key_holds, reference_to, result_holds}
 use Rattle.sim_sound.specs.Statements.{ArmsAre, ConnectionIs, ElementsAre, StatementIs, StatementsAre}
 use Rattle.sim_sound.specs.Typed.{ArraysTyped, Distinct, SetProcedureThere, SimulationProcedureThere, arrays_of_block}
 use Rattle.sim_sound.proofs.Prefixes.{LevelOf}
-use Rattle.sim_sound.proofs.Values.{Knows, Kinds, Value, AddressOf, ReferenceAddress, ImageAddress, LinkTo, Copied, Lasting, Component, ObjectIn, MatchFor, Whichever, AllArrays, keys_in, KeyAmong, StandsFor, Whole, Stands, PlainFine, ValFine, CellTarget, IsImage, ProcedureIn}
+use Rattle.sim_sound.proofs.Values.{Checked, ForFormal, Knows, Kinds, Value, AddressOf, ReferenceAddress, ImageAddress, LinkTo, Copied, Lasting, Component, NewObject, ObjectIn, Whichever, hand_of, held_kinds, AllArrays, keys_in, KeyAmong, StandsFor, Whole, Stands, PlainFine, ValFine, CellTarget, IsImage, ProcedureIn}
 
 -- ---- closed trees
 
 abbrev pub simple : Kind → Option Kinds
 simple k = Some (Value (Simply k))
-
-abbrev pub held_kinds : Option Holds → Option Kinds
-held_kinds None = None
-held_kinds (Some h) = Some (Value h)
 
 abbrev pub given : Option Kinds → List Kinds → List Kinds
 given None ks = ks
@@ -64,22 +62,14 @@ pub data CellIs (s : Source) (m : Instances) (j t : ℕ) (todo : List DeclNo) (e
   own_made : {d : DeclNo} {u : ℕ} → e ≡ j → key ≡ Declared d.0 → LevelOf s t u → key_holds s u key ≡ Some h → KeyAmong key (keys_in s u (text s u)) → (Among d todo → ⊥) → CellIs s m j t todo e key h
   in_connection : {c : ℕ} → Knows m j e → Whole s m e c → is_connection (text s c) ≡ true → key ≡ cell_of_connection s c → h ≡ reference_to (base s.tables c) → CellIs s m j t todo e key h
 
--- what the cells of formal parameters hold, and what is in hand for them: of an array by value a copy
+-- what the cells of formal parameters hold, and what is in hand for them
 abbrev pub holds_of : Source → List Formal → List (Option Holds)
 holds_of s [] = []
 holds_of s (f ∷ fs) = formal_holds s f.mode f.kind f.ty ∷ holds_of s fs
 
-abbrev pub in_hand : (by_value : Bool) → Option Holds → Option Kinds
-in_hand true (Some (ArrayOf k)) = Some (Copied k)
-in_hand true (Some (Simply k)) = Some (Value (Simply k))
-in_hand true (Some (Refers c)) = Some (Value (Refers c))
-in_hand true (Some (ByName k)) = Some (Value (ByName k))
-in_hand true None = None
-in_hand false h = held_kinds h
-
 abbrev pub formal_kinds : Source → List Formal → List (Option Kinds)
 formal_kinds s [] = []
-formal_kinds s (f ∷ fs) = in_hand (is_array_by_value f.mode f.kind) (formal_holds s f.mode f.kind f.ty) ∷ formal_kinds s fs
+formal_kinds s (f ∷ fs) = hand_of s f ∷ formal_kinds s fs
 
 -- of a class: an array by reference is kept
 abbrev pub kept_kinds : Mode → FormalKind → Option Kinds → Option Kinds
@@ -88,7 +78,7 @@ kept_kinds _ _ k = k
 
 abbrev pub class_kinds : Source → List Formal → List (Option Kinds)
 class_kinds s [] = []
-class_kinds s (f ∷ fs) = kept_kinds f.mode f.kind (in_hand (is_array_by_value f.mode f.kind) (formal_holds s f.mode f.kind f.ty)) ∷ class_kinds s fs
+class_kinds s (f ∷ fs) = kept_kinds f.mode f.kind (hand_of s f) ∷ class_kinds s fs
 
 -- a call gives what its procedure's result fits
 abbrev pub GivesResult : Source → (procedure : ℕ) → Option Kinds → Type 0
@@ -99,7 +89,13 @@ pub record ClassIn (s : Source) (k around : ℕ) : Type 0 where
   pub stands_in : encloser s.tables k ≡ Some around
   pub is : is_class (text s k) ≡ true
   pub single : is_for_prefixing s.tables k ≡ false
-  pub made : is_bare_process (text s k) ≡ false
+  pub process : text s k ≡ Some (StandardText standard.Process) → ProcessClassThere s k
+
+-- what stands for a new object of a class
+abbrev pub Makes : Source → (class : ℕ) → Kinds → Type 0
+Makes s k (Value h) = Fits s (Refers k) h
+Makes s k (NewObject c) = (has_level s.tables k c ≡ true) × (is_class (text s k) ≡ true)
+Makes s k _ = ⊥
 
 pub record CallFine (s : Source) (m : Instances) (j e k : ℕ) (g : Option Kinds) (Actuals : List (Option Kinds) → Type 0) : Type 0 where
   pub around : ℕ
@@ -114,9 +110,9 @@ pub record NewFine (s : Source) (m : Instances) (j e k : ℕ) (g : Option Kinds)
   pub near : Knows m j e
   pub whole : Whole s m e around
   pub class : ClassIn s k around
-  pub holds : Holds
-  pub fits : Fits s (Refers k) holds
-  pub gives : Some (Value holds) ≡ g
+  pub kinds : Kinds
+  pub made : Makes s k kinds
+  pub gives : Some kinds ≡ g
   pub actuals : Actuals (class_kinds s (class_parameters s (Some k)))
 
 -- what is declared there is no attribute of a main program, which has none but those of its standard classes
@@ -168,23 +164,38 @@ TakesReference (ReferenceAddress c) = Unit {0}
 TakesReference (Whichever false k) = k ≡ kind.Reference
 TakesReference _ = ⊥
 
--- what the evaluation of an actual by name gives: a value of the kind, or where a variable lies
-abbrev pub Gives : Kind → Kinds → Type 0
-Gives k (Value h) = IsOfKind h k
-Gives k (AddressOf h) = (h ≡ Simply k) × (k ≡ kind.Reference → ⊥)
-Gives k (ReferenceAddress c) = k ≡ kind.Reference
-Gives k (Whichever value_too k') = k' ≡ k
-Gives k _ = ⊥
+-- what the evaluation of an actual parameter gives: a value of the kind, or where a variable lies; an array; or a procedure
+abbrev pub GivesKind : Kind → Kinds → Type 0
+GivesKind k (Value h) = IsOfKind h k
+GivesKind k (AddressOf h) = (h ≡ Simply k) × (k ≡ kind.Reference → ⊥)
+GivesKind k (ReferenceAddress c) = k ≡ kind.Reference
+GivesKind k (Whichever value_too k') = k' ≡ k
+GivesKind k _ = ⊥
+
+abbrev pub Gives : Holds → Kinds → Type 0
+Gives (Simply k) x = GivesKind k x
+Gives (ArrayOf h) x = x ≡ Value (ArrayOf h)
+Gives (Procedure result) x = x ≡ Value (Procedure result)
+Gives (Refers c) x = ⊥
+Gives (ByName h) x = ⊥
 
 -- a value that comes to be held, which fits in what is wanted
 abbrev pub Comes : Source → Holds → Option Kinds → Type 0
 Comes s h g = (h' : Holds) × Fits s h h' × (Some (Value h') ≡ g)
 
 -- and what a use of the parameter gets of it
-abbrev pub Gets : Source → Kind → Use → Kinds → Type 0
-Gets s k (ForValue None line) x = Comes s (Simply k) (Some x)
-Gets s k (ForValue (Some c) line) x = (k ≡ kind.Reference) × Comes s (Refers c) (Some x)
-Gets s k (ForPlace value_too line) x = x ≡ Whichever value_too k
+abbrev pub GetsKind : Source → Kind → Use → Kinds → Type 0
+GetsKind s k (ForValue None line) x = Comes s (Simply k) (Some x)
+GetsKind s k (ForValue (Some c) line) x = (k ≡ kind.Reference) × Comes s (Refers c) (Some x)
+GetsKind s k (ForPlace value_too line) x = x ≡ Whichever value_too k
+GetsKind s k (ForParameter number line) x = ⊥
+
+-- an array or a procedure is used as it is
+abbrev pub Gets : Source → Holds → Use → Kinds → Type 0
+Gets s (Simply k) wanted x = GetsKind s k wanted x
+Gets s (ArrayOf h) (ForValue None line) x = x ≡ Value (ArrayOf h)
+Gets s (Procedure result) (ForValue None line) x = Comes s (Procedure result) (Some x)
+Gets s h wanted x = ⊥
 
 -- what the closed expression gives
 abbrev pub place_gives : Kind → (class : Option ℕ) → (by_name : Option DeclNo) → Kinds
@@ -196,8 +207,9 @@ abbrev pub actual_gives_by : Bool → Source → Expression → Kind → Kinds
 actual_gives_by true s e k = place_gives k (qualification s (type_at s (typed_token e))) (by_name s e)
 actual_gives_by false s e k = Value (Simply k)
 
-abbrev pub actual_gives : Source → Expression → Kind → Kinds
-actual_gives s e k = actual_gives_by (is_placed s e) s e k
+abbrev pub actual_gives : Source → (as_procedure : Bool) → Expression → Holds → Kinds
+actual_gives s false e (Simply k) = actual_gives_by (is_placed s e) s e k
+actual_gives s as_procedure e h = Value h
 
 -- what `detach` and `call` take: an object, and any reference
 abbrev pub component_kind : Transfer → Kinds
@@ -240,14 +252,14 @@ pub record BlockIn (s : Source) (m : Instances) (j e k : ℕ) : Type 0 where
   pub whole : Whole s m e k
   pub simulates : is_simulation_block s.tables k ≡ true
 
--- a virtual of a class, which gives this
-pub record VirtualIn (s : Source) (v c : ℕ) (h : Option Holds) : Type 0 where
+-- a virtual of a class, which gives what a type says
+pub record VirtualIn (s : Source) (v c : ℕ) (wanted : Option SimType) : Type 0 where
   pub result : Option SimType
   pub own : Option DeclNo
   pub declares : entry_of s.tables (record { 0 = v }) ≡ Some (entry.Virtual result own)
   pub level : has_level s.tables c (block_of s (record { 0 = v })) ≡ true
   pub not_standard : NotStandard s (block_of s (record { 0 = v }))
-  pub fits : FitsIn s (given_by s result) h
+  pub fits : ResultFits s (given_by s result) (given_by s wanted)
 
 -- the object of a procedure of SIMSET, and its actual parameter
 abbrev pub set_class : (s : Source) (name : Standard) → SetIs s name → ℕ
@@ -255,6 +267,15 @@ set_class s name x = (x.there).linkage + (x.there).place
 
 abbrev pub set_operands : (s : Source) (name : Standard) → SetIs s name → List (Option Kinds)
 set_operands s name x = Some (ObjectIn (set_class s name x)) ∷ formal_kinds s (attribute_formals x.parameter)
+
+-- a procedure of a text as a value
+abbrev pub GivesProcedure : Source → (procedure : ℕ) → Option Kinds → Type 0
+GivesProcedure s k g = (r : Option SimType) × ResultFits s (result_holds s k) (given_by s r) × (Some (Value (Procedure r)) ≡ g)
+
+-- the class `process` itself, of which an object keeps where it was generated
+pub record OriginFine (s : Source) (k : ℕ) (h : Holds) : Type 0 where
+  pub process : text s k ≡ Some (StandardText standard.Process)
+  pub fits : Fits s (Refers k) h
 
 abbrev mutual
   -- in an instance j of the text t
@@ -288,10 +309,16 @@ abbrev mutual
   TermFine s m j t todo (ProcessOf name line a) g = (x : ProcessIs s name) × (h : Option Holds) × FitsIn s (given_by s x.result) h × (held_kinds h ≡ g) × TermFine s m j t todo a (Some (ObjectIn ((x.there).linkage + 3)))
   TermFine s m j t todo (SimulationOf b name ts line) g =
       (x : SimulationIs s name) × (h : Option Holds) × FitsIn s (given_by s x.result) h × (held_kinds h ≡ g) × BlockIn s m j b (block_of s x.declaration) × TermsFine s m j t todo ts (formal_kinds s (attribute_formals x.parameter))
-  TermFine s m j t todo (VirtualOf a v n line) g = (c : ℕ) × (h : Option Holds) × VirtualIn s v c h × (held_kinds h ≡ g) × TermFine s m j t todo a (Some (Value (Refers c)))
+  TermFine s m j t todo (OriginOf k token line a) g = (h : Holds) × OriginFine s k h × (Some (Value h) ≡ g) × TermFine s m j t todo a (Some (NewObject k))
+  -- procedures as values, and their calls, which stand in the operating instance
+  TermFine s m j t todo (ProcedureOf e k) g = (around : ℕ) × Knows m j e × Whole s m e around × ProcedureIn s k around × GivesProcedure s k g
+  TermFine s m j t todo (RemoteProcedureOf a k line) g = (c : ℕ) × (u : ℕ) × (has_level s.tables c u ≡ true) × NotStandard s u × ProcedureIn s k u × GivesProcedure s k g × TermFine s m j t todo a (Some (Value (Refers c)))
+  TermFine s m j t todo (MatchOf a v line) g = (c : ℕ) × (r : Option SimType) × VirtualIn s v c r × (Some (Value (Procedure r)) ≡ g) × TermFine s m j t todo a (Some (Value (Refers c)))
+  TermFine s m j t todo (CheckedOf a leaves home es line) g =
+      (r : Option SimType) × (h : Option Holds) × FitsIn s (given_by s r) h × (held_kinds h ≡ g) × (leaves ≡ has_type r) × (home ≡ j) × TermFine s m j t todo a (Some (Value (Procedure r))) × (from : Place) × Stands s m j from × ParametersAre s from es
   -- parameters by name: an actual one stands for the operating instance
-  TermFine s m j t todo (ActualOf home e) g = (k : Kind) × (from : Place) × (home ≡ j) × (Some (Value (ByName k)) ≡ g) × Stands s m j from × ActualIs s from e k
-  TermFine s m j t todo (NamedOf e key wanted) g = (k : Kind) × (x : Kinds) × Gets s k wanted x × (Some x ≡ g) × CellIs s m j t todo e key (ByName k)
+  TermFine s m j t todo (ActualOf home p e) g = (h : Holds) × (from : Place) × (home ≡ j) × (Some (Value (ByName h)) ≡ g) × Stands s m j from × ActualIs s from p e h
+  TermFine s m j t todo (NamedOf e key wanted) g = (h : Holds) × (x : Kinds) × Gets s h wanted x × (Some x ≡ g) × CellIs s m j t todo e key (ByName h)
   TermFine s m j t todo Unbuilt g = ⊥
 
   pub IntegersFine : Source → Instances → (j t : ℕ) → List DeclNo → Terms → Type 0
@@ -360,15 +387,37 @@ pub record CallOpFine (s : Source) (k n : ℕ) (before behind : List Kinds) : Ty
   pub result : GivesResult s k gives
   pub out : behind ≡ given gives left
 
+-- what is passed for the formal parameters of the numbers below one
+abbrev pub for_formals : ℕ → List Kinds → List Kinds
+for_formals zero ks = ks
+for_formals (suc n) ks = ForFormal n ∷ for_formals n ks
+
+abbrev pub parameter_of : ℕ → Expressions → Option Expression
+parameter_of n NoMore = None
+parameter_of zero (Then e es) = Some e
+parameter_of (suc n) (Then e es) = parameter_of n es
+
+-- an actual parameter of a procedure that conforms to them
+pub record ParameterOpFine (s : Source) (m : Instances) (j n : ℕ) (e : Expression) (before behind : List Kinds) : Type 0 where
+  pub actuals : Expressions
+  pub result : Option SimType
+  pub left : List Kinds
+  pub is : parameter_of n actuals ≡ Some e
+  pub from : Place
+  pub stands : Stands s m j from
+  pub typed : ParameterIs s from e
+  pub «in» : before ≡ for_formals n (Checked actuals result ∷ left)
+  pub out : behind ≡ ForFormal n ∷ before
+
 pub record NewOpFine (s : Source) (k n : ℕ) (before behind : List Kinds) : Type 0 where
   pub around : ℕ
   pub class : ClassIn s k around
   pub left : List Kinds
   pub «in» : before ≡ onto (class_kinds s (class_parameters s (Some k))) (LinkTo around ∷ left)
   pub count : n ≡ length (class_parameters s (Some k))
-  pub holds : Holds
-  pub fits : Fits s (Refers k) holds
-  pub out : behind ≡ Value holds ∷ left
+  pub kinds : Kinds
+  pub made : Makes s k kinds
+  pub out : behind ≡ kinds ∷ left
 
 -- an instance that stands for a text
 pub record Site (s : Source) (m : Instances) (j t : ℕ) : Type 0 where
@@ -494,13 +543,20 @@ OpFine s o m j t (ProcessOp name line) todo todo' before behind =
     (x : ProcessIs s name) × (h : Option Holds) × (left : List Kinds) × FitsIn s (given_by s x.result) h × (before ≡ ObjectIn ((x.there).linkage + 3) ∷ left) × (behind ≡ given (held_kinds h) left) × (todo' ≡ todo)
 OpFine s o m j t (SimulationOp name line) todo todo' before behind =
     (x : SimulationIs s name) × (h : Option Holds) × (left : List Kinds) × FitsIn s (given_by s x.result) h × (is_simulation_block s.tables (block_of s x.declaration) ≡ true) × (before ≡ onto (formal_kinds s (attribute_formals x.parameter)) (LinkTo (block_of s x.declaration) ∷ left)) × (behind ≡ given (held_kinds h) left) × (todo' ≡ todo)
+OpFine s o m j t (OriginOp k token line) todo todo' before behind = (h : Holds) × (left : List Kinds) × OriginFine s k h × (before ≡ NewObject k ∷ left) × (behind ≡ Value h ∷ left) × (todo' ≡ todo)
+-- procedures as values, and calls that are checked
+OpFine s o m j t (ProcedureOp k) todo todo' before behind =
+    (around : ℕ) × (x : Kinds) × (left : List Kinds) × ProcedureIn s k around × GivesProcedure s k (Some x) × (before ≡ LinkTo around ∷ left) × (behind ≡ x ∷ left) × (todo' ≡ todo)
 OpFine s o m j t (VirtualOp v line) todo todo' before behind =
-    (c : ℕ) × (h : Option Holds) × (left : List Kinds) × VirtualIn s v c h × (before ≡ Value (Refers c) ∷ left) × (behind ≡ MatchFor h ∷ left) × (todo' ≡ todo)
-OpFine s o m j t (CheckOp n line) todo todo' before behind = (h : Option Holds) × (left : List Kinds) × (before ≡ MatchFor h ∷ left) × (behind ≡ before) × (todo' ≡ todo)
-OpFine s o m j t (CallValueOp line) todo todo' before behind = (h : Option Holds) × (left : List Kinds) × (before ≡ MatchFor h ∷ left) × (behind ≡ given (held_kinds h) left) × (todo' ≡ todo)
+    (c : ℕ) × (r : Option SimType) × (left : List Kinds) × VirtualIn s v c r × (before ≡ Value (Refers c) ∷ left) × (behind ≡ Value (Procedure r) ∷ left) × (todo' ≡ todo)
+OpFine s o m j t (CheckOp es line) todo todo' before behind =
+    (r : Option SimType) × (left : List Kinds) × (from : Place) × Stands s m j from × ParametersAre s from es × (before ≡ Value (Procedure r) ∷ left) × (behind ≡ Checked es r ∷ left) × (todo' ≡ todo)
+OpFine s o m j t (ParameterOp n e line) todo todo' before behind = ParameterOpFine s m j n e before behind × (todo' ≡ todo)
+OpFine s o m j t (CallValueOp n leaves line) todo todo' before behind =
+    (es : Expressions) × (r : Option SimType) × (h : Option Holds) × (left : List Kinds) × FitsIn s (given_by s r) h × (leaves ≡ has_type r) × (n ≡ count_of es) × (before ≡ for_formals n (Checked es r ∷ left)) × (behind ≡ given (held_kinds h) left) × (todo' ≡ todo)
 -- parameters by name
-OpFine s o m j t (NamedOp e key wanted) todo todo' before behind = (k : Kind) × (x : Kinds) × Gets s k wanted x × CellIs s m j t todo e key (ByName k) × (behind ≡ x ∷ before) × (todo' ≡ todo)
-OpFine s o m j t (CloseOp e) todo todo' before behind = (k : Kind) × (from : Place) × Stands s m j from × ActualIs s from e k × (behind ≡ actual_gives s e k ∷ before) × (todo' ≡ todo)
+OpFine s o m j t (NamedOp e key wanted) todo todo' before behind = (h : Holds) × (x : Kinds) × Gets s h wanted x × CellIs s m j t todo e key (ByName h) × (behind ≡ x ∷ before) × (todo' ≡ todo)
+OpFine s o m j t (CloseOp p e) todo todo' before behind = (h : Holds) × (from : Place) × Stands s m j from × ActualIs s from p e h × (behind ≡ actual_gives s p e h ∷ before) × (todo' ≡ todo)
 OpFine s o m j t KeepOp todo todo' before behind = (h : Holds) × (left : List Kinds) × (before ≡ Value (ArrayOf h) ∷ left) × (behind ≡ Lasting h ∷ left) × (todo' ≡ todo)
 -- values in hand, and assignments
 OpFine s o m j t DropOp todo todo' before behind = (k : Kinds) × (before ≡ k ∷ behind) × (todo' ≡ todo)

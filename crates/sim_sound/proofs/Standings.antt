@@ -10,7 +10,7 @@ use Rattle.sim_chains.proofs.Counts.{outermost-append, times-append}
 use Rattle.sim_scope.specs.Source.{Source}
 use Rattle.sim_code.specs.Arrays.{unless_given}
 use Rattle.sim_code.specs.Instances.{is_given_at_end, is_object_at}
-use Rattle.sim_meaning.specs.Pending.{Activation, Do, EndBlock, EndEvaluation, EndLevel, EndObject, EndPrefixed, EndProcedure, EndProgram, Instances, Item, owner}
+use Rattle.sim_meaning.specs.Pending.{Activation, Do, EndBlock, EndEvaluation, EndLevel, EndObject, EndPrefixed, EndProcedure, EndProgram, Instances, Item, owner, ForParameter, ForPlace, ForValue, Use}
 use Rattle.sim_meaning.specs.Sane.{Other, OwnerOf, OwnersOf}
 use Rattle.sim_sound.proofs.Chains.{OwnOther, counted_none, ends_with, kept_counted, last_counted, none_own, none_own_kept, none_there, own_once, seats_are}
 use Rattle.sim_sound.proofs.Heads.{at_is, at_same}
@@ -20,8 +20,8 @@ use Rattle.sim_sound.proofs.Simulating.{simulations_later}
 use Rattle.sim_sound.proofs.Later.{All, AllCopies, AnySeat, Copies, Later, Steady, act_later, all_apart, all_seats, as_it_was, awaited_same, chain_later, fine_later, instance_later, kept_seats_map, lasts_later, later_seat, object_later, op_later, owner_is, plain_later, present_later, hands_later, own_later, seated_later, standing_apart, standing_later, stays_later}
 use Rattle.sim_sound.proofs.Lists.{if_false, if_true, equal_numbers, other_numbers, same_some, set_len, set_other, set_same}
 use Rattle.sim_sound.proofs.Moves.{kept_set, later_instances, stays_not, still_copies}
-use Rattle.sim_sound.proofs.Running.{ActFine, AllSeats, ChainFine, ChainOn, ChainOver, Expected, Footing, IsObject, IsRelease, KeptChain, KeptSeats, NoObjectStands, ObjectStands, Placed, Shown, StandsFine, StoreFine, WorkFine, awaited, footing, is_resumed, or_below, own_seat, places, resumes, seat_on}
-use Rattle.sim_sound.proofs.Values.{AllArrays, Generated, Kinds, Present, Seat, Stays, Suspended, Takes, Waits, at_seat, elements_of}
+use Rattle.sim_sound.proofs.Running.{ActFine, AllSeats, ChainFine, ChainOn, ChainOver, Expected, Footing, IsObject, IsRelease, KeptChain, KeptSeats, NoObjectStands, ObjectStands, Placed, Shown, StandsFine, StoreFine, WorkFine, awaited, footing, is_resumed, or_below, own_seat, places, resumes, seat_on, Serves}
+use Rattle.sim_sound.proofs.Values.{AllArrays, Generated, Kinds, Present, Seat, Stays, Suspended, Takes, Waits, at_seat, elements_of, Passes}
 
 -- ---- objects, and what is none
 
@@ -77,6 +77,11 @@ ends_in_one (a ∷ b ∷ chain) j e = let r = ends_in_one (b ∷ chain) j e in r
 
 -- ---- what is pending, where it ends otherwise
 
+serves_split : (s : Source) (Below : Waits → Type 0) (P : Waits → Type 0) (Q : Waits → Waits → Type 0) → ((w : Waits) → Below w → (v : Waits) × P v × Q v w) → (wanted : Use) (x : Kinds) → Serves s Below wanted x → (v : Waits) × P v × Serves s (Q v) wanted x
+serves_split s Below P Q f (ForParameter number line) x a = let r = f _ a.below in (r.0, r.1, record { formal = a.formal; by_value = a.by_value; means = a.means; is = a.is; gives = a.gives; below = r.2 })
+serves_split s Below P Q f (ForValue class line) x a = let r = f _ a.4 in (r.0, r.1, (a.0, a.1, a.2, a.3, r.2))
+serves_split s Below P Q f (ForPlace value_too line) x a = let r = f _ a.4 in (r.0, r.1, (a.0, a.1, a.2, a.3, r.2))
+
 work_split : (s : Source) (o : AllArrays) (m : Instances) (Below : Waits → Type 0) (Outermost : Type 0) (P : Waits → Type 0) (Q : Waits → Waits → Type 0) → ((w : Waits) → Below w → (v : Waits) × P v × Q v w) → (Outermost → ⊥) → (j t : ℕ) (w : List Item) (todo : List DeclNo) (before : List Kinds) → WorkFine s o m Below Outermost j t w todo before → (v : Waits) × P v × WorkFine s o m (Q v) ⊥ j t w todo before
 work_split s o m Below Outermost P Q f h j t [] todo before a = absurd a
 work_split s o m Below Outermost P Q f h j t (Do op ∷ w) todo before a = let r = work_split s o m Below Outermost P Q f h j t w a.0 a.1 a.3 in (r.0, r.1, (a.0, a.1, a.2, r.2))
@@ -86,7 +91,7 @@ work_split s o m Below Outermost P Q f h j t (EndLevel k ∷ w) todo before a = 
 work_split s o m Below Outermost P Q f h j t (EndObject ∷ w) todo before a = let r = f a.4 a.6 in (r.0, r.1, (a.0, a.1, a.2, a.3, a.4, a.5, r.2, a.7))
 work_split s o m Below Outermost P Q f h j t (EndPrefixed ∷ w) todo before a = let r = f _ a.1 in (r.0, r.1, (a.0, r.2, a.2))
 work_split s o m Below Outermost P Q f h j t (EndProgram ∷ w) todo before a = absurd (h a.1)
-work_split s o m Below Outermost P Q f h j t (EndEvaluation wanted ∷ w) todo before a = let r = f _ a.8 in (r.0, r.1, (a.0, a.1, a.2, a.3, a.4, a.5, a.6, a.7, r.2))
+work_split s o m Below Outermost P Q f h j t (EndEvaluation wanted ∷ w) todo before a = let r = serves_split s Below P Q f wanted a.2 a.4 in (r.0, r.1, (a.0, a.1, a.2, a.3, r.2))
 
 -- what a chain stands on, above others
 pub footing_onto : (floor floor' : Option ℕ) (end end' : List Activation) → footing floor end ≡ footing floor' end' → (above : List Activation) → footing floor (above ++ end) ≡ footing floor' (above ++ end')
@@ -191,7 +196,7 @@ module _ (s : Source) (o : AllArrays) (m : Instances) (o' : AllArrays) (m' : Ins
         seated = ap (λ u. seat_on u on') own ∙ ap Some is;
         works = seated_later s o m o' m' All e q a.instance tt f.works;
         vals = f.vals;
-        shown = subst (λ z. Shown z a.values f.vals) same f.shown;
+        shown = subst (λ z. Shown s z a.values f.vals) same f.shown;
         kinds = f.kinds;
         hands = hands_later s (at_seat o q) m (at_seat o' q) m' All (later_seat s o m o' m' All e q) a.instance tt f.kinds f.vals (copies q a.instance (length f.vals)) f.hands;
         expected = f.expected;
@@ -481,6 +486,7 @@ module _ (s : Source) (o : AllArrays) (m : Instances) (y : ℕ) (u : List Activa
 -- what a main chain may end with
 ground_is : (f g : ℕ → Waits) (j : ℕ) (w v : Waits) → g j ≡ awaited f (Some j) w → v ≡ w → awaited g (Some j) v ≡ g j
 ground_is f g j (Takes k) v e is = ap (λ q. awaited g (Some j) q) is ∙ sym e
+ground_is f g j (Passes number formal) v e is = ap (λ q. awaited g (Some j) q) is ∙ sym e
 ground_is f g j (Generated i u) v e is = ap (λ q. awaited g (Some j) q) is ∙ sym e
 ground_is f g j Suspended v e is = ap (λ q. awaited g (Some j) q) is
 

@@ -38,7 +38,7 @@ use Rattle.sim_meaning.specs.Statements.{activated, is_again, operand_work, simu
 use Rattle.sim_meaning.specs.Texts.{text}
 use Rattle.sim_meaning.specs.Virtuals.{text_of_procedure}
 use Rattle.sim_sound.specs.Held.{Fits, Holds, In, Refers, Simply, reference_to}
-use Rattle.sim_sound.specs.Expressions.{ActualsFit, AreIntegers, AreOf, DotGives, ExprIs, IdentifierGives}
+use Rattle.sim_sound.specs.Expressions.{ActualsFit, AreIntegers, AreOf, DotGives, ExprIs, IdentifierGives, ParametersAre}
 use Rattle.sim_sound.specs.Statements.{CallIs, CompoundIs, ControlIs, ElementsAre, InnerIs, OrTransferIs, PrefixedIs, SimulationIs, StatementIs, StatementsAre, TimingIs, TransferIs, is_given}
 use Rattle.sim_sound.specs.Typed.{Typed}
 use Rattle.sim_sound.proofs.Assigns.{Found, assigning_fine, lefts_found}
@@ -55,8 +55,8 @@ use Rattle.sim_sound.proofs.Lifts.{Goes, chosen, had, ran, ticked, truth_popped}
 use Rattle.sim_sound.proofs.Prefixes.{LevelOf, class_has, class_solid, level_is, level_number, level_of_levels}
 use Rattle.sim_sound.proofs.Reach.{Reaches, ReachesText, reaches_in, text_in}
 use Rattle.sim_sound.proofs.Running.{Begun, Operates}
-use Rattle.sim_sound.proofs.Sound.{BlockIn, Leads, LevelsFine, TakesValue, OpFine, Site, TermFine, TermsFine, VariableFine, class_kinds, given, held_kinds, in_instance as at_cell, simple, timed, value_stored}
-use Rattle.sim_sound.proofs.Values.{AddressOf, HandsFine, Kinds, LinkTo, Marks, Whichever, in_text, Value, Whole, see}
+use Rattle.sim_sound.proofs.Sound.{BlockIn, Leads, LevelsFine, TakesValue, OpFine, Site, TermFine, TermsFine, VariableFine, class_kinds, given, in_instance as at_cell, simple, timed, value_stored}
+use Rattle.sim_sound.proofs.Values.{AddressOf, HandsFine, Kinds, LinkTo, Marks, Whichever, in_text, Value, Whole, see, held_kinds}
 
 -- ---- a variable as a left side is a cell, or is found by a tree
 
@@ -77,7 +77,9 @@ in_cell None key = tt
 in_cell (Some j) key = tt
 
 formal_cell : (s : Source) (m : Instances) (i line : ℕ) (d : DeclNo) (f : Mode) (g : FormalKind) → IsCell (formal_left s m i line d f g NoMore)
-formal_cell s m i line d mode.ByName g = tt
+formal_cell s m i line d mode.ByName shape.Simple = tt
+formal_cell s m i line d mode.ByName shape.Array = tt
+formal_cell s m i line d mode.ByName shape.Procedure = tt
 formal_cell s m i line d mode.ByValue shape.Simple = in_cell (home_of s m i d) _
 formal_cell s m i line d mode.ByReference shape.Simple = in_cell (home_of s m i d) _
 formal_cell s m i line d mode.ByValue shape.Array = tt
@@ -132,10 +134,10 @@ module _ (s : Source) (ok : Typed s) (l : Limits) (o : World) (marks : Marks) (l
   -- ---- calls
 
   abbrev NamedIs : Identifier → Expressions → Type 0
-  NamedIs name es = (h : Option Holds) × IdentifierGives s (In u) name.token.0 (connection_at s name.token.0) (own_attribute s name.token.0) es (AreIntegers s (In u) es) (λ ks. AreOf s (In u) es ks) (λ fs. ActualsFit s (In u) es fs) h × (leaves s (syntax.Named name es) ≡ is_given h)
+  NamedIs name es = (h : Option Holds) × IdentifierGives s (In u) name.token.0 (connection_at s name.token.0) (own_attribute s name.token.0) es (AreIntegers s (In u) es) (ParametersAre s (In u) es) (λ ks. AreOf s (In u) es ks) (λ fs. ActualsFit s (In u) es fs) h × (leaves s (syntax.Named name es) ≡ is_given h)
 
   abbrev DotIs : Expression → Identifier → Expressions → Bool → Type 0
-  DotIs x name es left = (h : Option Holds) × DotGives s (denoted s name.token.0) (stream_of s x) (ExprIs s (In u) x (Simply kind.Text)) (λ c. ExprIs s (In u) x (Refers c)) es (AreIntegers s (In u) es) (λ ks. AreOf s (In u) es ks) (λ fs. ActualsFit s (In u) es fs) h × (left ≡ is_given h)
+  DotIs x name es left = (h : Option Holds) × DotGives s (denoted s name.token.0) (stream_of s x) (ExprIs s (In u) x (Simply kind.Text)) (λ c. ExprIs s (In u) x (Refers c)) es (AreIntegers s (In u) es) (ParametersAre s (In u) es) (λ ks. AreOf s (In u) es ks) (λ fs. ActualsFit s (In u) es fs) h × (left ≡ is_given h)
 
   -- ---- statements
 

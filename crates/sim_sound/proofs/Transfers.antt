@@ -251,6 +251,9 @@ module _ (s : Source) (ok : Typed s) (o : World) (g : Marks) (long : length g.si
           made = object.made;
         }
 
+    own_text_is : (t : ℕ) (todo : List DeclNo) (i : ℕ) → i ≡ y → (p : Present s m i t todo) → (p.now).text ≡ t → (object.now).text ≡ t
+    own_text_is t todo i at p own = ap (λ z. z.text) (sym (same_some (live m y) p.now object.now (ap (live m) (sym at) ∙ p.lives) object.lives)) ∙ own
+
     left_on : slice_get m.standings y ≡ Some AttachedObject → (k : Cut Activation) → IsCut owner y chain k → (d : Components Activation) → with_standing y (DetachedObject (upper k)) (with_operating k.below c) ≡ d → IsWellFormed owner head d → Goes (IsFine s) (After d)
     left_on is k cut d same w =
         let v = see g o in
@@ -264,7 +267,7 @@ module _ (s : Source) (ok : Typed s) (o : World) (g : Marks) (long : length g.si
         let release : IsRelease false y b.of_text b.waits = subst (λ q. IsRelease false q b.of_text b.waits) at (subst (λ q. IsRelease q (k.here).instance b.of_text b.waits) unresumed b.release) in
         let e : Later s v m v n All = later_changed s v v m y AttachedObject (DetachedObject (upper k)) is refl refl refl refl in
         goes_then g long (with_standing y (DetachedObject (upper k)) (with_operating k.below c)) d same w (kinds_same s v v m y AttachedObject (DetachedObject (upper k)) is refl refl refl refl)
-        (record { store = a.store; placed = a.placed; fine = released s ok v n a.store k.below b.waits y b.of_text release (object_later s v m v n All e y b.of_text (own_class b.of_text b.todo (k.here).instance at b.here b.own)) a.fine })
+        (record { store = a.store; placed = a.placed; fine = released s ok v n a.store k.below b.waits y b.of_text release (object_later s v m v n All e y b.of_text (own_class b.of_text b.todo (k.here).instance at b.here b.own)) object.now object.lives (own_text_is b.of_text b.todo (k.here).instance at b.here b.own) a.fine })
 
     detach_on : (d : Components Activation) → detach owner head c y ≡ Ok d → Goes (IsFine s) (After d)
     detach_on d e = by_standing (standing_of c y) refl e
@@ -329,7 +332,7 @@ module _ (s : Source) (ok : Typed s) (l : Limits) (o : World) (g : Marks) (long 
   main_leaves_not line vs z = stops (IsFine s) (RunFault (refused_of_main Detaching) line) o (λ q. cc)
 
   -- the value in hand is an object or a main program
-  object_in_hand : todo' ≡ todo → (line : ℕ) (vs : List Val) → HandsFine s (see g o) m i behind vs → (v : Val) → DeepFine s (see g o) m i (length vs) Component v → Goes (IsFine s) (having (plain v) o (λ p. transferring owner Detaching line o (Chain vs) m p))
+  object_in_hand : todo' ≡ todo → (line : ℕ) (vs : List Val) → HandsFine s (see g o) m i behind vs → (v : Val) → DeepFine s (see g o) m i vs Component v → Goes (IsFine s) (having (plain v) o (λ p. transferring owner Detaching line o (Chain vs) m p))
   object_in_hand same line vs more (Of (Object j)) a = had (IsFine s) (Some (Object j)) (Object j) o (λ p. transferring owner Detaching line o (Chain vs) m p) refl (leaves same line vs more j a.0 a.1)
   object_in_hand same line vs more (Of (MainOf z)) a = had (IsFine s) (Some (MainOf z)) (MainOf z) o (λ p. transferring owner Detaching line o (Chain vs) m p) refl (main_leaves_not line vs z)
   object_in_hand same line vs more (Of Nothing) a = absurd a
@@ -341,7 +344,7 @@ module _ (s : Source) (ok : Typed s) (l : Limits) (o : World) (g : Marks) (long 
   object_in_hand same line vs more (Address z) a = absurd a
   object_in_hand same line vs more (ArrayValue z) a = absurd a
   object_in_hand same line vs more (ProcedureValue z y) a = absurd a
-  object_in_hand same line vs more (Actual home z) a = absurd a
+  object_in_hand same line vs more (Actual home pr z) a = absurd a
 
   pub transfer_op : (x : Transfer) (line : ℕ) → (before ≡ component_kind x ∷ behind) × (todo' ≡ todo) → Goes (IsFine s) (do_op s l o m i w vals rest (TransferOp x line))
   unfolding pop_plain

@@ -5,25 +5,27 @@ use Rattle.sim_scope.specs.Source.{Source}
 use Rattle.sim_values.specs.declared.kind.Kind.{Kind}
 use Rattle.sim_values.specs.declared.kind.Kind.TheVariants as kind
 use Rattle.sim_values.specs.Plain.{Plain}
-use Rattle.sim_code.specs.Events.{qualifying, having}
+use Rattle.sim_code.specs.Events.{qualifying, having, no_rule}
 use Rattle.sim_code.specs.Instances.{CellPlace, ElementPlace, ImagePlace}
 use Rattle.sim_code.specs.Outcome.{Run, RunFault, World}
 use Rattle.sim_code.specs.Thunks.{locating}
 use Rattle.sim_meaning.specs.Levels.{stands_in}
 use Rattle.sim_meaning.specs.Meaning.{admitted, is_place, value_given}
-use Rattle.sim_meaning.specs.Pending.{Configuration, Use, Address, ForPlace, ForValue, Instances, Key, Of, Val, plain}
+use Rattle.sim_meaning.specs.Pending.{Configuration, Use, Address, ForPlace, ForValue, Instances, Key, Of, Val, plain, Actual, ArrayValue, ForParameter, Link, ProcedureValue}
 use Rattle.sim_meaning.specs.Steps.{of_plain}
-use Rattle.sim_sound.specs.Held.{ArrayOf, ByName, Fits, Holds, IsOfKind, Refers, Simply}
+use Rattle.sim_sound.specs.Held.{ArrayOf, ByName, Fits, Holds, IsOfKind, Refers, Simply, Procedure, result_type}
 use Rattle.sim_sound.specs.Typed.{Typed}
-use Rattle.sim_sound.proofs.Cells.{lies_cell}
+use Rattle.sim_sound.proofs.Cells.{lies_cell, val_up}
 use Rattle.sim_sound.proofs.Fitting.{plain_fits, val_fits}
 use Rattle.sim_sound.proofs.Lifts.{Goes, had, stops}
 use Rattle.sim_sound.proofs.Moves.{near_then}
 use Rattle.sim_sound.proofs.Names.{element_there}
 use Rattle.sim_sound.proofs.References.{held_reference_goes}
 use Rattle.sim_sound.proofs.Running.{StoreFine}
-use Rattle.sim_sound.proofs.Sound.{Gets, Gives}
-use Rattle.sim_sound.proofs.Values.{IsPlain, AddressOf, AllArrays, ArrayFine, CellLies, ElementFine, HandFine, Kinds, Marks, Near, PlainFine, ReferenceAddress, ValFine, Value, Whichever, see}
+use Rattle.sim_sound.proofs.Sound.{Gets, Gives, Comes, GetsKind, GivesKind}
+use Rattle.sim_sound.proofs.Values.{IsPlain, AddressOf, AllArrays, ArrayFine, CellLies, ElementFine, HandFine, Kinds, Marks, Near, PlainFine, ReferenceAddress, ValFine, Value, Whichever, see, ProcedureFine}
+use Rattle.sim_scope.specs.declared.types.SimType.{SimType}
+use Rattle.sim_sound.proofs.Results.{results_then}
 
 -- ---- what was given, for the instance that uses it
 
@@ -57,6 +59,7 @@ plain_held s o m i (Refers c) (Of p) is a = (p, refl, a)
 plain_held s o m i (Simply k) _ is a = absurd a
 plain_held s o m i (Refers c) _ is a = absurd a
 plain_held s o m i (ArrayOf h) v is a = absurd is
+plain_held s o m i (Procedure k) v is a = absurd is
 plain_held s o m i (ByName k) v is a = absurd is
 
 module _ (s : Source) (ok : Typed s) (o : World) (g : Marks) (m : Instances) (store : StoreFine s (see g o) m) (j : ℕ) where
@@ -82,6 +85,7 @@ module _ (s : Source) (ok : Typed s) (o : World) (g : Marks) (m : Instances) (st
   value_held (Simply k') k _ is a = absurd a
   value_held (Refers c) k _ is a = absurd a
   value_held (ArrayOf h) k v is a = absurd is
+  value_held (Procedure k') k v is a = absurd is
   value_held (ByName k') k v is a = absurd is
 
   place_given : (k : Kind) (v : Val) → HandFine s (see g o) m j (Whichever true k) v → Given k v
@@ -101,6 +105,7 @@ module _ (s : Source) (ok : Typed s) (o : World) (g : Marks) (m : Instances) (st
   value_whichever (Simply k') k _ is a = absurd a
   value_whichever (Refers c) k _ is a = absurd a
   value_whichever (ArrayOf h) k v is a = absurd is
+  value_whichever (Procedure k') k v is a = absurd is
   value_whichever (ByName k') k v is a = absurd is
 
   address_whichever : (h : Holds) (k : Kind) (v : Val) → h ≡ Simply k → (k ≡ kind.Reference → ⊥) → HandFine s (see g o) m j (AddressOf h) v → HandFine s (see g o) m j (Whichever true k) v
@@ -124,12 +129,15 @@ module _ (s : Source) (ok : Typed s) (o : World) (g : Marks) (m : Instances) (st
   value_enough false k (Address p) f = f
   value_enough false k _ f = absurd f
 
-  given_whichever : (k : Kind) (x : Kinds) (v : Val) → Gives k x → HandFine s (see g o) m j x v → HandFine s (see g o) m j (Whichever true k) v
+  given_whichever : (k : Kind) (x : Kinds) (v : Val) → GivesKind k x → HandFine s (see g o) m j x v → HandFine s (see g o) m j (Whichever true k) v
   given_whichever k (Value h) v is f = value_whichever h k v is f
   given_whichever k (AddressOf h) v is f = address_whichever h k v is.0 is.1 f
   given_whichever k (ReferenceAddress c) v is f = reference_whichever c k v is f
   given_whichever k (Whichever value_too k') v is f = subst (λ z. HandFine s (see g o) m j (Whichever true z) v) is (value_enough value_too k' v f)
   given_whichever k _ v is f = absurd is
+
+  pub kind_given : (k : Kind) (x : Kinds) (v : Val) → GivesKind k x → HandFine s (see g o) m j x v → Given k v
+  kind_given k x v is f = place_given k v (given_whichever k x v is f)
 
   place_alone : (k : Kind) (v : Val) → is_place v ≡ true → HandFine s (see g o) m j (Whichever true k) v → HandFine s (see g o) m j (Whichever false k) v
   place_alone k (Address p) is f = f
@@ -142,7 +150,7 @@ module _ (s : Source) (ok : Typed s) (o : World) (g : Marks) (m : Instances) (st
     abbrev GoesOn : Kinds → Type 0
     GoesOn y = (v : Val) → HandFine s (see g o) m i y v → Goes P (r v)
 
-    value_admitted : (class : Option ℕ) (line : ℕ) (y : Kinds) (p : Plain) → Gets s k (ForValue class line) y → PlainFine s m (Simply k) p → GoesOn y → Goes P (admitted s m class line (Of p) o (r (Of p)))
+    value_admitted : (class : Option ℕ) (line : ℕ) (y : Kinds) (p : Plain) → GetsKind s k (ForValue class line) y → PlainFine s m (Simply k) p → GoesOn y → Goes P (admitted s m class line (Of p) o (r (Of p)))
     value_admitted None line y p gets fine go =
         let same : Value gets.0 ≡ y = let e = gets.2 in cc in
         go (Of p) (subst (λ z. HandFine s (see g o) m i z (Of p)) same (val_fits s ok (see g o) m store i (Simply k) gets.0 (Of p) gets.1 fine))
@@ -164,9 +172,63 @@ module _ (s : Source) (ok : Typed s) (o : World) (g : Marks) (m : Instances) (st
     abbrev pub used : Use → Run Configuration
     used (ForValue class line) = having (value_given o m v) o (λ v. admitted s m class line v o (r v))
     used (ForPlace value_too line) = locating line (is_place v) value_too o (r v)
+    used (ForParameter number line) = no_rule o
 
-    pub use_goes : (x : Kinds) (wanted : Use) (y : Kinds) → Gives k x → Gets s k wanted y → HandFine s (see g o) m j x v → GoesOn y → Goes P (used wanted)
-    use_goes x (ForValue class line) y gives gets f go =
+    kind_goes : (x : Kinds) (wanted : Use) (y : Kinds) → GivesKind k x → GetsKind s k wanted y → HandFine s (see g o) m j x v → GoesOn y → Goes P (used wanted)
+    kind_goes x (ForValue class line) y gives gets f go =
         let w = place_given k v (given_whichever k x v gives f) in
         had P (value_given o m v) (Of w.0) o (λ v. admitted s m class line v o (r v)) w.1 (value_admitted class line y w.0 gets w.2 go)
-    use_goes x (ForPlace value_too line) y gives gets f go = place_located value_too line (is_place v) refl (given_whichever k x v gives f) (λ v f. go v (subst (λ z. HandFine s (see g o) m i z v) (sym gets) f))
+    kind_goes x (ForPlace value_too line) y gives gets f go = place_located value_too line (is_place v) refl (given_whichever k x v gives f) (λ v f. go v (subst (λ z. HandFine s (see g o) m i z v) (sym gets) f))
+    kind_goes x (ForParameter number line) y gives gets f go = absurd gets
+
+  -- and so of an array or a procedure, which is used as it is
+  module _ (P : World → Configuration → Type 0) (i : ℕ) (near : Near (see g o) m i j) (r : Val → Run Configuration) where
+    abbrev Going_on : Kinds → Type 0
+    Going_on y = (v : Val) → HandFine s (see g o) m i y v → Goes P (r v)
+
+    abbrev pub used_as : Val → Use → Run Configuration
+    used_as v (ForValue class line) = having (value_given o m v) o (λ v. admitted s m class line v o (r v))
+    used_as v (ForPlace value_too line) = locating line (is_place v) value_too o (r v)
+    used_as v (ForParameter number line) = no_rule o
+
+    array_used : (h : Holds) (v : Val) (y : Kinds) → y ≡ Value (ArrayOf h) → ValFine s (see g o) m j (ArrayOf h) v → Going_on y → Goes P (having (value_given o m v) o r)
+    array_used h (ArrayValue n) y is f go = had P (Some (ArrayValue n)) (ArrayValue n) o r refl (go (ArrayValue n) (subst (λ z. HandFine s (see g o) m i z (ArrayValue n)) (sym is) (val_up s (see g o) m i j near (ArrayOf h) (ArrayValue n) f)))
+    array_used h (Of z) y is f go = absurd f
+    array_used h (Link z) y is f go = absurd f
+    array_used h (Address z) y is f go = absurd f
+    array_used h (ProcedureValue z q) y is f go = absurd f
+    array_used h (Actual z p q) y is f go = absurd f
+
+    -- one that gives what fits
+    procedure_fits : (q : Option SimType) (h : Holds) (k e : ℕ) → Fits s (Procedure q) h → ProcedureFine s (see g o) m i q k e → ValFine s (see g o) m i h (ProcedureValue k e)
+    procedure_fits q (Procedure q') k e fits f = record { around = f.around; near = f.near; whole = f.whole; procedure = f.procedure; gives = results_then s ok (result_type s k) q q' f.gives fits }
+    procedure_fits q (Simply z) k e fits f = absurd fits
+    procedure_fits q (Refers z) k e fits f = absurd fits
+    procedure_fits q (ArrayOf z) k e fits f = absurd fits
+    procedure_fits q (ByName z) k e fits f = absurd fits
+
+    procedure_used : (q : Option SimType) (v : Val) (y : Kinds) → Comes s (Procedure q) (Some y) → ValFine s (see g o) m j (Procedure q) v → Going_on y → Goes P (having (value_given o m v) o r)
+    procedure_used q (ProcedureValue k e) y gets f go =
+        let same : Value gets.0 ≡ y = let z = gets.2 in cc in
+        had P (Some (ProcedureValue k e)) (ProcedureValue k e) o r refl
+        (go (ProcedureValue k e) (subst (λ z. HandFine s (see g o) m i z (ProcedureValue k e)) same (procedure_fits q gets.0 k e gets.1 (val_up s (see g o) m i j near (Procedure q) (ProcedureValue k e) f))))
+    procedure_used q (Of z) y gets f go = absurd f
+    procedure_used q (Link z) y gets f go = absurd f
+    procedure_used q (Address z) y gets f go = absurd f
+    procedure_used q (ArrayValue z) y gets f go = absurd f
+    procedure_used q (Actual z p x) y gets f go = absurd f
+
+    pub use_goes : (h : Holds) (v : Val) (x : Kinds) (wanted : Use) (y : Kinds) → Gives h x → Gets s h wanted y → HandFine s (see g o) m j x v → Going_on y → Goes P (used_as v wanted)
+    use_goes (Simply k) v x (ForValue class line) y gives gets f go = kind_goes P i near k v r x (ForValue class line) y gives gets f go
+    use_goes (Simply k) v x (ForPlace value_too line) y gives gets f go = kind_goes P i near k v r x (ForPlace value_too line) y gives gets f go
+    use_goes (Simply k) v x (ForParameter number line) y gives gets f go = absurd gets
+    use_goes (ArrayOf h) v x (ForValue None line) y gives gets f go = array_used h v y gets (subst (λ z. HandFine s (see g o) m j z v) gives f) go
+    use_goes (ArrayOf h) v x (ForValue (Some c) line) y gives gets f go = absurd gets
+    use_goes (ArrayOf h) v x (ForPlace value_too line) y gives gets f go = absurd gets
+    use_goes (ArrayOf h) v x (ForParameter number line) y gives gets f go = absurd gets
+    use_goes (Procedure q) v x (ForValue None line) y gives gets f go = procedure_used q v y gets (subst (λ z. HandFine s (see g o) m j z v) gives f) go
+    use_goes (Procedure q) v x (ForValue (Some c) line) y gives gets f go = absurd gets
+    use_goes (Procedure q) v x (ForPlace value_too line) y gives gets f go = absurd gets
+    use_goes (Procedure q) v x (ForParameter number line) y gives gets f go = absurd gets
+    use_goes (Refers c) v x wanted y gives gets f go = absurd gives
+    use_goes (ByName h) v x wanted y gives gets f go = absurd gives

@@ -2,15 +2,15 @@
 use Rattle.std.proofs.Common.{◌≡◌, ◌<◌, ℕ, zero, suc, Bool, true, false, List, [], ◌∷◌, length, map, Option, Some, None, ◌⊎◌}
 use Rattle.std.specs.Prelude.{slice_get, ◌+◌, ◌&&◌, not}
 use Rattle.sim_base.specs.declared.numbering.DeclNo.{DeclNo}
-use Rattle.sim_scope.specs.declared.types.FormalKind.TheVariants as shape
-use Rattle.sim_scope.specs.declared.types.Mode.TheVariants as mode
-use Rattle.sim_scope.specs.declared.types.Entry.TheVariants as entry
+use Rattle.sim_scope.specs.declared.types.Formal.{Formal}
+use Rattle.sim_scope.specs.declared.types.SimType.{SimType}
 use Rattle.sim_scope.specs.Access.{encloser}
 use Rattle.sim_scope.specs.Levels.{has_level, is_simulation_block}
 use Rattle.sim_scope.specs.Scopes.{entry_of}
+use Rattle.sim_scope.specs.declared.types.StandardClass.TheVariants as standard
 use Rattle.sim_scope.specs.Source.{Source, level_of}
 use Rattle.sim_tree.specs.declared.stmt.TypeName.{TypeName}
-use Rattle.sim_tree.specs.Syntax.{Expression, Heading, Statement}
+use Rattle.sim_tree.specs.Syntax.{Expression, Expressions, Heading, Statement}
 use Rattle.sim_values.specs.declared.kind.Kind.{Kind}
 use Rattle.sim_values.specs.declared.kind.Kind.TheVariants as kind
 use Rattle.sim_values.specs.declared.operators.Monadic.TheVariants as monadic
@@ -22,13 +22,16 @@ use Rattle.sim_code.specs.Arrays.{unless_given}
 use Rattle.sim_code.specs.Instances.{CellPlace, ElementPlace, ImagePlace, Instance, is_given_at_end, live}
 use Rattle.sim_code.specs.Instances as instances
 use Rattle.sim_meaning.specs.Attributes.{cell_of_connection, is_connection}
-use Rattle.sim_meaning.specs.Entries.{first_cells, formals_of, numbers_of}
-use Rattle.sim_meaning.specs.Levels.{has_levels}
+use Rattle.sim_meaning.specs.Checks.{all_fit, all_passed}
+use Rattle.sim_meaning.specs.Entries.{first_cells, formals_of, is_array_by_value, numbers_of}
+use Rattle.sim_meaning.specs.Levels.{has_levels, is_class}
+use Rattle.sim_meaning.specs.Meaning.{formal_in_hand}
 use Rattle.sim_meaning.specs.Objects.{attributes_from}
-use Rattle.sim_meaning.specs.Pending.{Actual, Address, ArrayValue, Declared, Held, Instances, Key, Link, Of, Val, held, ProcedureValue}
+use Rattle.sim_meaning.specs.Pending.{Actual, Address, ArrayValue, Declared, Held, Instances, Key, Link, Of, Origin, ProcedureValue, Val, held}
+use Rattle.sim_meaning.specs.Steps.{count_of}
 use Rattle.sim_meaning.specs.Texts.{ClassText, PrefixedText, ProcedureText, StandardText, Text, is_class_free, text}
 use Rattle.sim_sound.specs.Expressions.{ActualIs}
-use Rattle.sim_sound.specs.Held.{Among, ArrayOf, ByName, FitsIn, Holds, In, InBound, IsFixed, Place, Refers, Simply, key_holds, result_holds}
+use Rattle.sim_sound.specs.Held.{Among, ArrayOf, ByName, Holds, In, InBound, IsFixed, Place, Procedure, Refers, ResultFits, Simply, formal_holds, given_by, key_holds, result_holds}
 use Rattle.sim_sound.proofs.Prefixes.{LevelOf}
 
 -- ---- what stays
@@ -69,8 +72,9 @@ elements_of (Open h) = h
 elements_of (Hidden h seat depth) = h
 
 -- a value; where a variable or an element lies; where a reference lies, with its qualification; where an image lies; an instance of a text; a
--- copy for a parameter by value; an array that is kept; an object or a main program, and one of a class; what matches a virtual that gives this;
--- where a variable lies that a parameter by name means, of a reference with its qualification, or else a value where that is enough
+-- copy for a parameter by value; an array that is kept; an object or a main program, and one of a class; where a variable lies that a parameter by
+-- name means, of a reference with its qualification, or else a value where that is enough; an object of a class, no prefixed block; a procedure that conforms to its actual parameters; and what
+-- is passed for the formal parameter of a number, of the procedure that lies below as many values
 pub data Kinds : Type 0 where
   Value : Holds → Kinds
   AddressOf : Holds → Kinds
@@ -81,14 +85,17 @@ pub data Kinds : Type 0 where
   Lasting : Holds → Kinds
   Component : Kinds
   ObjectIn : (class : ℕ) → Kinds
-  MatchFor : Option Holds → Kinds
   Whichever : (value_too : Bool) → Kind → Kinds
+  NewObject : (class : ℕ) → Kinds
+  Checked : (actuals : Expressions) → (result : Option SimType) → Kinds
+  ForFormal : (number : ℕ) → Kinds
 
--- What an activation waits for: a value or none, which is put in its hand; that the object ends, or lets go, that it generated, whose
--- reference it has in hand already; or that the resumed object above it gives control to the main component that it keeps, and then what
--- is noted of it.
+-- What an activation waits for: a value or none, which is put in its hand; what is passed for a formal parameter, of a number, of the procedure in
+-- its hand; that the object ends, or lets go, that it generated, whose reference it has in hand already; or that the resumed object above it
+-- gives control to the main component that it keeps, and then what is noted of it.
 pub data Waits : Type 0 where
   Takes : Option Kinds → Waits
+  Passes : (number : ℕ) → Formal → Waits
   Generated : (object class : ℕ) → Waits
   Suspended : Waits
 
@@ -198,11 +205,32 @@ pub data Stands (s : Source) (m : Instances) (j : ℕ) : Place → Type 0 where
   in_bound : {t u : ℕ} {todo : List DeclNo} → (p : Present s m j t todo) → (p.now).text ≡ t → LevelOf s t u → ((d : DeclNo) → IsFixed (entry_of s.tables d) → Among d todo → ⊥) → is_connection (text s t) ≡ false → Stands s m j (InBound u)
 
 -- An actual parameter by name, as an instance has it: the instance for which the expression stands is there for as long.
-pub record ActualFine (s : Source) (o : AllArrays) (m : Instances) (j : ℕ) (k : Kind) (home : ℕ) (e : Expression) : Type 0 where
+pub record ActualFine (s : Source) (o : AllArrays) (m : Instances) (j : ℕ) (h : Holds) (home : ℕ) (as_procedure : Bool) (e : Expression) : Type 0 where
   pub near : Near o m j home
   pub from : Place
   pub stands : Stands s m home from
-  pub typed : ActualIs s from e k
+  pub typed : ActualIs s from as_procedure e h
+
+-- a procedure that is declared in a text
+pub record ProcedureIn (s : Source) (k around : ℕ) : Type 0 where
+  pub stands_in : encloser s.tables k ≡ Some around
+  pub result : Option TypeName
+  pub heading : Heading
+  pub body : Statement
+  pub is : text s k ≡ Some (ProcedureText result heading body)
+
+-- A procedure as an instance has it, with the instance in which it is declared, which is there for as long. It gives what a type says.
+pub record ProcedureFine (s : Source) (o : AllArrays) (m : Instances) (j : ℕ) (result : Option SimType) (k e : ℕ) : Type 0 where
+  pub around : ℕ
+  pub near : Near o m j e
+  pub whole : Whole s m e around
+  pub procedure : ProcedureIn s k around
+  pub gives : ResultFits s (result_holds s k) (given_by s result)
+
+-- a procedure that these actual parameters fit, but for the instances of their classes
+pub record Conforms (s : Source) (es : Expressions) (k : ℕ) : Type 0 where
+  pub count : length (formals_of s k) ≡ count_of es
+  pub fit : all_fit s (formals_of s k) (all_passed s es) ≡ true
 
 -- ---- values
 
@@ -216,6 +244,11 @@ pub record ObjectOf (s : Source) (m : Instances) (j class : ℕ) : Type 0 where
   pub words : Text
   pub has_text : text s now.text ≡ Some words
   pub made : Made s now.text [] now.cells
+
+-- one that is no prefixed block
+pub record MadeOf (s : Source) (m : Instances) (j class : ℕ) : Type 0 where
+  pub object : ObjectOf s m j class
+  pub proper : is_class (text s (object.now).text) ≡ true
 
 -- what has a text among its levels, and is not given back at its end
 pub record Lasts (s : Source) (m : Instances) (j u : ℕ) : Type 0 where
@@ -253,13 +286,15 @@ abbrev pub PlainFine : Source → Instances → Holds → Plain → Type 0
 PlainFine s m (Simply k) p = (kind_of p ≡ k) × NamesObject s m p
 PlainFine s m (Refers c) p = ReferenceFine s m c p
 PlainFine s m (ArrayOf h) p = ⊥
-PlainFine s m (ByName k) p = ⊥
+PlainFine s m (Procedure result) p = ⊥
+PlainFine s m (ByName h) p = ⊥
 
 abbrev pub ValFine : Source → AllArrays → Instances → ℕ → Holds → Val → Type 0
 ValFine s o m j (Simply k) (Of p) = (kind_of p ≡ k) × NamesObject s m p
 ValFine s o m j (Refers c) (Of p) = ReferenceFine s m c p
 ValFine s o m j (ArrayOf h) (ArrayValue a) = ArrayFine o m j h a
-ValFine s o m j (ByName k) (Actual home e) = ActualFine s o m j k home e
+ValFine s o m j (Procedure result) (ProcedureValue k e) = ProcedureFine s o m j result k e
+ValFine s o m j (ByName h) (Actual home as_procedure e) = ActualFine s o m j h home as_procedure e
 ValFine s o m j _ _ = ⊥
 
 -- what a variable may hold
@@ -267,14 +302,16 @@ abbrev pub IsPlain : Holds → Type 0
 IsPlain (Simply k) = Unit {0}
 IsPlain (Refers c) = Unit {0}
 IsPlain (ArrayOf k) = ⊥
-IsPlain (ByName k) = ⊥
+IsPlain (Procedure result) = ⊥
+IsPlain (ByName h) = ⊥
 
 -- A cell has what it holds; one of an array may have nothing yet.
 abbrev pub CellFine : Source → AllArrays → Instances → ℕ → Option Holds → Option Val → Type 0
 CellFine s o m j None v = Unit {0}
 CellFine s o m j (Some (Simply k)) None = ⊥
 CellFine s o m j (Some (Refers c)) None = ⊥
-CellFine s o m j (Some (ByName k)) None = ⊥
+CellFine s o m j (Some (Procedure result)) None = ⊥
+CellFine s o m j (Some (ByName h)) None = ⊥
 CellFine s o m j (Some (ArrayOf k)) None = Unit {0}
 CellFine s o m j (Some h) (Some v) = ValFine s o m j h v
 
@@ -289,6 +326,10 @@ pub data Enclosed (s : Source) (o : AllArrays) (m : Instances) (j t : ℕ) (out 
   alone : out ≡ None → encloser s.tables t ≡ None → Enclosed s o m j t out
   within : {e u : ℕ} → out ≡ Some e → encloser s.tables t ≡ Some u → e < j → Near o m j e → Whole s m e u → Enclosed s o m j t out
 
+-- a process has a cell in which one of `process` itself keeps where it was generated
+abbrev pub HasOrigin : Source → (text : ℕ) → List Held → Type 0
+HasOrigin s t hs = is_class (text s t) ≡ true → (u : ℕ) → LevelOf s t u → text s u ≡ Some (StandardText standard.Process) → KeyAmong Origin (map key_of hs)
+
 -- An instance is as its text says: it has the cells of all its levels, each holds what it should, and it is given back at its end if the text is class-free.
 pub record InstanceFine (s : Source) (o : AllArrays) (m : Instances) (j : ℕ) (x : Instance (List Held)) : Type 0 where
   pub level : x.level ≡ level_of s x.text
@@ -297,6 +338,7 @@ pub record InstanceFine (s : Source) (o : AllArrays) (m : Instances) (j : ℕ) (
   pub holds : (u : ℕ) → LevelOf s x.text u → (key : Key) → KeyAmong key (keys_in s u (text s u)) → key_holds s x.text key ≡ key_holds s u key
   pub cells : CellsFine s o m j x.text x.cells
   pub ends : x.passing ≡ is_class_free s x.text
+  pub origins : HasOrigin s x.text x.cells
   pub out : Enclosed s o m j x.text x.encloser
 
 -- ---- values in hand
@@ -330,23 +372,6 @@ IsImage zero = Unit {0}
 IsImage (suc zero) = Unit {0}
 IsImage (suc (suc n)) = ⊥
 
--- a procedure that is declared in a text
-pub record ProcedureIn (s : Source) (k around : ℕ) : Type 0 where
-  pub stands_in : encloser s.tables k ≡ Some around
-  pub result : Option TypeName
-  pub heading : Heading
-  pub body : Statement
-  pub is : text s k ≡ Some (ProcedureText result heading body)
-
--- a match of a virtual, with the instance in which it is declared: a procedure without parameters, which gives this
-pub record MatchHeld (s : Source) (m : Instances) (j k e : ℕ) (h : Option Holds) : Type 0 where
-  pub around : ℕ
-  pub near : Knows m j e
-  pub whole : Whole s m e around
-  pub procedure : ProcedureIn s k around
-  pub alone : formals_of s k ≡ []
-  pub fits : FitsIn s (result_holds s k) h
-
 -- where a variable of a kind lies, of a reference with its qualification
 abbrev pub PlaceFine : Source → AllArrays → Instances → ℕ → Kind → instances.Place Key (Option ℕ) → Type 0
 PlaceFine s o m j k (ElementPlace a n None) = (k ≡ kind.Reference → ⊥) × ElementFine o m j (Simply k) a n
@@ -368,28 +393,114 @@ HandFine s o m j Component (Of (Object i)) = (c : ℕ) × ObjectOf s m i c
 HandFine s o m j Component (Of (MainOf b)) = (k : ℕ) × Simulates s m b k
 HandFine s o m j (ObjectIn c) (Of (Object i)) = ObjectOf s m i c
 HandFine s o m j (ObjectIn c) (Of (MainOf b)) = MainIn s m b c
-HandFine s o m j (MatchFor h) (ProcedureValue k e) = MatchHeld s m j k e h
+HandFine s o m j (NewObject c) (Of (Object i)) = MadeOf s m i c
+HandFine s o m j (Checked es result) (ProcedureValue k e) = ProcedureFine s o m j result k e × Conforms s es k
 HandFine s o m j (Whichever value_too k) (Address p) = PlaceFine s o m j k p
 HandFine s o m j (Whichever true k) (Of p) = (kind_of p ≡ k) × NamesObject s m p
 HandFine s o m j _ _ = ⊥
 
--- with so many values below
-abbrev pub DeepFine : Source → AllArrays → Instances → (j depth : ℕ) → Kinds → Val → Type 0
-DeepFine s o m j d (Copied k) (ArrayValue a) = CopyFine o j d k a
-DeepFine s o m j d (Copied k) _ = ⊥
-DeepFine s o m j d (Value h) v = ValFine s o m j h v
-DeepFine s o m j d (AddressOf k) v = HandFine s o m j (AddressOf k) v
-DeepFine s o m j d (ReferenceAddress c) v = HandFine s o m j (ReferenceAddress c) v
-DeepFine s o m j d ImageAddress v = HandFine s o m j ImageAddress v
-DeepFine s o m j d (LinkTo u) v = HandFine s o m j (LinkTo u) v
-DeepFine s o m j d (Lasting h) v = HandFine s o m j (Lasting h) v
-DeepFine s o m j d Component v = HandFine s o m j Component v
-DeepFine s o m j d (ObjectIn c) v = HandFine s o m j (ObjectIn c) v
-DeepFine s o m j d (MatchFor h) v = HandFine s o m j (MatchFor h) v
-DeepFine s o m j d (Whichever value_too k) v = HandFine s o m j (Whichever value_too k) v
+-- what is in hand for a formal parameter: of an array by value a copy
+abbrev pub held_kinds : Option Holds → Option Kinds
+held_kinds None = None
+held_kinds (Some h) = Some (Value h)
+
+abbrev pub in_hand : (by_value : Bool) → Option Holds → Option Kinds
+in_hand true (Some (ArrayOf k)) = Some (Copied k)
+in_hand true (Some (Simply k)) = Some (Value (Simply k))
+in_hand true (Some (Refers c)) = Some (Value (Refers c))
+in_hand true (Some (Procedure result)) = Some (Value (Procedure result))
+in_hand true (Some (ByName h)) = Some (Value (ByName h))
+in_hand true None = None
+in_hand false h = held_kinds h
+
+abbrev pub hand_of : Source → Formal → Option Kinds
+hand_of s f = in_hand (is_array_by_value f.mode f.kind) (formal_holds s f.mode f.kind f.ty)
+
+-- a value or a copy, with so many values below, which is not passed for a formal parameter of a procedure in hand
+abbrev pub HeldDeep : Source → AllArrays → Instances → (j depth : ℕ) → Kinds → Val → Type 0
+HeldDeep s o m j d (Copied k) (ArrayValue a) = CopyFine o j d k a
+HeldDeep s o m j d (Copied k) _ = ⊥
+HeldDeep s o m j d (ForFormal n) v = ⊥
+HeldDeep s o m j d (Value h) v = ValFine s o m j h v
+HeldDeep s o m j d (AddressOf k) v = HandFine s o m j (AddressOf k) v
+HeldDeep s o m j d (ReferenceAddress c) v = HandFine s o m j (ReferenceAddress c) v
+HeldDeep s o m j d ImageAddress v = HandFine s o m j ImageAddress v
+HeldDeep s o m j d (LinkTo u) v = HandFine s o m j (LinkTo u) v
+HeldDeep s o m j d (Lasting h) v = HandFine s o m j (Lasting h) v
+HeldDeep s o m j d Component v = HandFine s o m j Component v
+HeldDeep s o m j d (ObjectIn c) v = HandFine s o m j (ObjectIn c) v
+HeldDeep s o m j d (Whichever value_too k) v = HandFine s o m j (Whichever value_too k) v
+HeldDeep s o m j d (NewObject c) v = HandFine s o m j (NewObject c) v
+HeldDeep s o m j d (Checked es result) v = HandFine s o m j (Checked es result) v
+
+-- what is passed for the formal parameter of a number, of the procedure that lies so deep below
+pub record PassedFine (s : Source) (o : AllArrays) (m : Instances) (j number : ℕ) (below : List Val) (v : Val) : Type 0 where
+  pub formal : Formal
+  pub is : formal_in_hand s number below ≡ Some formal
+  pub kinds : Kinds
+  pub hand : hand_of s formal ≡ Some kinds
+  pub fine : HeldDeep s o m j (length below) kinds v
+
+-- with these values below
+abbrev pub DeepFine : Source → AllArrays → Instances → (j : ℕ) → (below : List Val) → Kinds → Val → Type 0
+DeepFine s o m j vs (Copied k) (ArrayValue a) = CopyFine o j (length vs) k a
+DeepFine s o m j vs (Copied k) _ = ⊥
+DeepFine s o m j vs (ForFormal n) v = PassedFine s o m j n vs v
+DeepFine s o m j vs (Value h) v = ValFine s o m j h v
+DeepFine s o m j vs (AddressOf k) v = HandFine s o m j (AddressOf k) v
+DeepFine s o m j vs (ReferenceAddress c) v = HandFine s o m j (ReferenceAddress c) v
+DeepFine s o m j vs ImageAddress v = HandFine s o m j ImageAddress v
+DeepFine s o m j vs (LinkTo u) v = HandFine s o m j (LinkTo u) v
+DeepFine s o m j vs (Lasting h) v = HandFine s o m j (Lasting h) v
+DeepFine s o m j vs Component v = HandFine s o m j Component v
+DeepFine s o m j vs (ObjectIn c) v = HandFine s o m j (ObjectIn c) v
+DeepFine s o m j vs (Whichever value_too k) v = HandFine s o m j (Whichever value_too k) v
+DeepFine s o m j vs (NewObject c) v = HandFine s o m j (NewObject c) v
+DeepFine s o m j vs (Checked es result) v = HandFine s o m j (Checked es result) v
+
+-- what is no parameter of a procedure in hand
+abbrev pub NotFor : Kinds → Type 0
+NotFor (ForFormal n) = ⊥
+NotFor _ = Unit {0}
+
+pub by_depth : (s : Source) (o : AllArrays) (m : Instances) (j : ℕ) (vs : List Val) (k : Kinds) (v : Val) → NotFor k → DeepFine s o m j vs k v → HeldDeep s o m j (length vs) k v
+by_depth s o m j vs (Copied k) (ArrayValue a) n f = f
+by_depth s o m j vs (Copied k) (Of p) n f = f
+by_depth s o m j vs (Copied k) (Link z) n f = f
+by_depth s o m j vs (Copied k) (Address z) n f = f
+by_depth s o m j vs (Copied k) (ProcedureValue z y) n f = f
+by_depth s o m j vs (Copied k) (Actual z p y) n f = f
+by_depth s o m j vs (ForFormal number) v n f = absurd n
+by_depth s o m j vs (Value h) v n f = f
+by_depth s o m j vs (AddressOf k) v n f = f
+by_depth s o m j vs (ReferenceAddress c) v n f = f
+by_depth s o m j vs ImageAddress v n f = f
+by_depth s o m j vs (LinkTo u) v n f = f
+by_depth s o m j vs (Lasting h) v n f = f
+by_depth s o m j vs Component v n f = f
+by_depth s o m j vs (ObjectIn c) v n f = f
+by_depth s o m j vs (Whichever b k) v n f = f
+by_depth s o m j vs (NewObject c) v n f = f
+by_depth s o m j vs (Checked es result) v n f = f
+
+-- what is in hand is held as something with so many values below
+pub some_held : (s : Source) (o : AllArrays) (m : Instances) (j : ℕ) (vs : List Val) (k : Kinds) (v : Val) → DeepFine s o m j vs k v → (x : Kinds) × HeldDeep s o m j (length vs) x v
+some_held s o m j vs (ForFormal number) v f = (f.kinds, f.fine)
+some_held s o m j vs (Copied k) v f = (Copied k, by_depth s o m j vs (Copied k) v tt f)
+some_held s o m j vs (Value h) v f = (Value h, f)
+some_held s o m j vs (AddressOf k) v f = (AddressOf k, f)
+some_held s o m j vs (ReferenceAddress c) v f = (ReferenceAddress c, f)
+some_held s o m j vs ImageAddress v f = (ImageAddress, f)
+some_held s o m j vs (LinkTo u) v f = (LinkTo u, f)
+some_held s o m j vs (Lasting h) v f = (Lasting h, f)
+some_held s o m j vs Component v f = (Component, f)
+some_held s o m j vs (ObjectIn c) v f = (ObjectIn c, f)
+some_held s o m j vs (Whichever b k) v f = (Whichever b k, f)
+some_held s o m j vs (NewObject c) v f = (NewObject c, f)
+some_held s o m j vs (Checked es result) v f = (Checked es result, f)
 
 abbrev pub HandsFine : Source → AllArrays → Instances → ℕ → List Kinds → List Val → Type 0
 HandsFine s o m j [] [] = Unit {0}
 HandsFine s o m j [] (v ∷ vs) = ⊥
 HandsFine s o m j (k ∷ ks) [] = ⊥
-HandsFine s o m j (k ∷ ks) (v ∷ vs) = DeepFine s o m j (length vs) k v × HandsFine s o m j ks vs
+HandsFine s o m j (k ∷ ks) (v ∷ vs) = DeepFine s o m j vs k v × HandsFine s o m j ks vs

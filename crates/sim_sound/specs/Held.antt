@@ -18,18 +18,20 @@ use Rattle.sim_values.specs.declared.kind.Kind.{Kind}
 use Rattle.sim_values.specs.declared.kind.Kind.TheVariants as kind
 use Rattle.sim_meaning.specs.Attributes.{is_connection}
 use Rattle.sim_meaning.specs.Levels.{has_levels, is_class, qualification}
-use Rattle.sim_meaning.specs.Pending.{Connection, Declared, Key, Result}
+use Rattle.sim_meaning.specs.Pending.{Connection, Declared, Key, Origin, Result}
 use Rattle.sim_meaning.specs.Texts.{kind_of_type, text}
 
 -- ---- what is held
 
 -- What is held by a cell or named by an expression: a plain value of a kind, which of references is any reference; a reference to an object of
--- a class, by the class's text, or to none; an array of such; an actual parameter by name, which means values of a kind.
+-- a class, by the class's text, or to none; an array of such; a procedure, whose calls give what a type says; an actual parameter by name, which
+-- means values of a kind, an array or a procedure.
 pub data Holds : Type 0 where
   Simply : Kind → Holds
   Refers : (class : ℕ) → Holds
   ArrayOf : Holds → Holds
-  ByName : Kind → Holds
+  Procedure : (result : Option SimType) → Holds
+  ByName : Holds → Holds
 
 -- a reference with this qualification
 abbrev pub reference_to : (class : Option ℕ) → Holds
@@ -41,21 +43,37 @@ abbrev pub held_by : Source → SimType → Holds
 held_by s (t.Ref d) = reference_to (qualification s (Some (t.Ref d)))
 held_by s type = Simply (kind_of_type type)
 
+-- what a call gives that has a result of this type, or none
+abbrev pub given_by : Source → (result : Option SimType) → Option Holds
+given_by s None = None
+given_by s (Some type) = Some (held_by s type)
+
 -- what is held is a value of a kind
 abbrev pub IsOfKind : Holds → Kind → Type 0
 IsOfKind (Simply k) wanted = k ≡ wanted
 IsOfKind (Refers class) wanted = kind.Reference ≡ wanted
 IsOfKind (ArrayOf h) wanted = ⊥
-IsOfKind (ByName k) wanted = ⊥
+IsOfKind (Procedure result) wanted = ⊥
+IsOfKind (ByName h) wanted = ⊥
 
 -- What holds the first may stand where the second is wanted: a reference to an object of a class is one to an object of each of the class's
 -- levels, and is a reference.
+abbrev pub ValueFits : Source → (given wanted : Holds) → Type 0
+ValueFits s (Simply k) (Simply k') = k ≡ k'
+ValueFits s (Refers c) (Refers c') = has_level s.tables c c' ≡ true
+ValueFits s (Refers c) (Simply k) = kind.Reference ≡ k
+ValueFits s _ _ = ⊥
+
+-- and so is a procedure that gives such a reference
+abbrev pub ResultFits : Source → (given wanted : Option Holds) → Type 0
+ResultFits s None None = Unit {0}
+ResultFits s (Some h) (Some h') = ValueFits s h h'
+ResultFits s _ _ = ⊥
+
 abbrev pub Fits : Source → (given wanted : Holds) → Type 0
-Fits s (Simply k) (Simply k') = k ≡ k'
-Fits s (Refers c) (Refers c') = has_level s.tables c c' ≡ true
-Fits s (Refers c) (Simply k) = kind.Reference ≡ k
 Fits s (ArrayOf h) (ArrayOf h') = h ≡ h'
-Fits s _ _ = ⊥
+Fits s (Procedure r) (Procedure r') = ResultFits s (given_by s r) (given_by s r')
+Fits s h h' = ValueFits s h h'
 
 abbrev pub FitsIn : Source → (given wanted : Option Holds) → Type 0
 FitsIn s None None = Unit {0}
@@ -64,13 +82,27 @@ FitsIn s _ _ = ⊥
 
 -- ---- cells
 
+-- what a formal parameter of a kind means
+abbrev pub formal_means : Source → FormalKind → Option SimType → Option Holds
+formal_means s shape.Simple (Some type) = Some (held_by s type)
+formal_means s shape.Array (Some type) = Some (ArrayOf (held_by s type))
+formal_means s shape.Procedure type = Some (Procedure type)
+formal_means s kind None = None
+
+-- and what its actual one means, which is any value of the kind
+abbrev pub actual_means : Source → FormalKind → Option SimType → Option Holds
+actual_means s shape.Simple (Some type) = Some (Simply (kind_of_type type))
+actual_means s kind type = formal_means s kind type
+
+abbrev pub named : Option Holds → Option Holds
+named None = None
+named (Some h) = Some (ByName h)
+
+-- what its cell holds
 abbrev pub formal_holds : Source → Mode → FormalKind → Option SimType → Option Holds
-formal_holds s mode.ByValue shape.Simple (Some type) = Some (held_by s type)
-formal_holds s mode.ByReference shape.Simple (Some type) = Some (held_by s type)
-formal_holds s mode.ByValue shape.Array (Some type) = Some (ArrayOf (held_by s type))
-formal_holds s mode.ByReference shape.Array (Some type) = Some (ArrayOf (held_by s type))
-formal_holds s mode.ByName shape.Simple (Some type) = Some (ByName (kind_of_type type))
-formal_holds s _ _ _ = None
+formal_holds s mode.ByValue kind type = formal_means s kind type
+formal_holds s mode.ByReference kind type = formal_means s kind type
+formal_holds s mode.ByName kind type = named (actual_means s kind type)
 
 -- a constant of a class is read in its cell from outside, and so has one in a prefixed block
 abbrev pub constant_holds : (in_class : Bool) → SimType → Option Holds
@@ -86,21 +118,12 @@ entry_holds s c (Some (entry.Formal f)) = formal_holds s f.mode f.kind f.ty
 entry_holds s c _ = None
 
 -- What the identifier of a declaration names: of a parameter by name what the actual one means.
-abbrev pub formal_names : Source → Mode → FormalKind → Option SimType → Option Holds
-formal_names s mode.ByName shape.Simple (Some type) = Some (held_by s type)
-formal_names s mode kind type = formal_holds s mode kind type
-
 abbrev pub entry_names : Source → Option Entry → Option Holds
-entry_names s (Some (entry.Formal f)) = formal_names s f.mode f.kind f.ty
+entry_names s (Some (entry.Formal f)) = formal_means s f.kind f.ty
 entry_names s e = entry_holds s false e
 
 abbrev pub declared_holds : Source → (text : ℕ) → DeclNo → Option Holds
 declared_holds s t d = entry_holds s (has_levels (text s t)) (entry_of s.tables d)
-
--- what a call gives that has a result of this type, or none
-abbrev pub given_by : Source → (result : Option SimType) → Option Holds
-given_by s None = None
-given_by s (Some type) = Some (held_by s type)
 
 -- the type of the result of the procedure to which a text belongs
 abbrev pub result_declared : Source → Option DeclNo → Option SimType
@@ -123,6 +146,7 @@ abbrev pub key_holds : Source → (text : ℕ) → Key → Option Holds
 key_holds s t (Declared d) = declared_holds s t (record { 0 = d })
 key_holds s t Result = result_holds s t
 key_holds s t (Connection token) = connection_holds s (block_around s token)
+key_holds s t Origin = Some (Simply kind.Integer)
 
 -- ---- from where something is seen
 
@@ -155,6 +179,11 @@ pub record Connected (s : Source) (from connection declared : ℕ) : Type 0 wher
 pub data Place : Type 0 where
   In : (text : ℕ) → Place
   InBound : (text : ℕ) → Place
+
+-- the text to which it belongs
+abbrev pub text_of : Place → ℕ
+text_of (In t) = t
+text_of (InBound t) = t
 
 abbrev pub IsFormal : Option Entry → Type 0
 IsFormal (Some (entry.Formal f)) = Unit {0}

@@ -25,7 +25,7 @@ use Rattle.sim_meaning.specs.Statements.{begin_of, leaves, simulation_around}
 use Rattle.sim_meaning.specs.Texts.{BlockText, ConnectionText, PrefixedText, text}
 use Rattle.sim_meaning.specs.Virtuals.{text_of_procedure}
 use Rattle.sim_sound.specs.Held.{Around, Holds, In, Refers, Seen, Simply, entry_names, held_by, reference_to, result_holds}
-use Rattle.sim_sound.specs.Expressions.{ActualsFit, AreIntegers, AreOf, DotGives, ExprIs, IdentifierGives, KnownAt, LeftHeld, ObjectHas, PlaceIs, ThisFound}
+use Rattle.sim_sound.specs.Expressions.{ActualsFit, AreIntegers, AreOf, DotGives, ExprIs, IdentifierGives, KnownAt, LeftHeld, ObjectHas, ParametersAre, PlaceIs, ThisFound}
 
 -- ---- left sides
 
@@ -135,10 +135,10 @@ OrTransferIs (Some c) Transfers Other = Transfers c
 abbrev pub CallIs : Source → ℕ → Expression → Type 0
 CallIs s t (syntax.Named name es) =
     OrTransferIs (transfer_at s name.token.0) (λ c. TransferIs s t c (found_at s name.token.0) es)
-    ((h : Option Holds) × IdentifierGives s (In t) name.token.0 (connection_at s name.token.0) (own_attribute s name.token.0) es (AreIntegers s (In t) es) (λ ks. AreOf s (In t) es ks) (λ fs. ActualsFit s (In t) es fs) h × (leaves s (syntax.Named name es) ≡ is_given h))
+    ((h : Option Holds) × IdentifierGives s (In t) name.token.0 (connection_at s name.token.0) (own_attribute s name.token.0) es (AreIntegers s (In t) es) (ParametersAre s (In t) es) (λ ks. AreOf s (In t) es ks) (λ fs. ActualsFit s (In t) es fs) h × (leaves s (syntax.Named name es) ≡ is_given h))
 CallIs s t (syntax.Dot token a name es) =
     OrTransferIs (transfer_at s name.token.0) (λ c. ExprIs s (In t) a (Simply kind.Reference) × AreOf s (In t) es [])
-    ((h : Option Holds) × DotGives s (denoted s name.token.0) (stream_of s a) (ExprIs s (In t) a (Simply kind.Text)) (λ c. ExprIs s (In t) a (Refers c)) es (AreIntegers s (In t) es) (λ ks. AreOf s (In t) es ks) (λ fs. ActualsFit s (In t) es fs) h × (leaves s (syntax.Dot token a name es) ≡ is_given h))
+    ((h : Option Holds) × DotGives s (denoted s name.token.0) (stream_of s a) (ExprIs s (In t) a (Simply kind.Text)) (λ c. ExprIs s (In t) a (Refers c)) es (AreIntegers s (In t) es) (ParametersAre s (In t) es) (λ ks. AreOf s (In t) es ks) (λ fs. ActualsFit s (In t) es fs) h × (leaves s (syntax.Dot token a name es) ≡ is_given h))
 CallIs s t (syntax.New token class es) = ExprIs s (In t) (syntax.New token class es) (Simply kind.Reference)
 CallIs s t _ = ⊥
 

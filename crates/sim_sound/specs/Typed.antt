@@ -1,4 +1,4 @@
--- Which programs are typed: what the static rules give, as far as a run rests on it. So far for programs without arrays by name and formal procedures.
+-- Which programs are typed: what the static rules give, as far as a run rests on it.
 use Rattle.std.specs.Prelude.{◌≡◌, ◌<◌, ◌+◌, ℕ, suc, true, false, List, [], ◌∷◌, length, slice_get, Option, Some, None}
 use Rattle.sim_base.specs.declared.numbering.DeclNo.{DeclNo}
 use Rattle.sim_scope.specs.declared.scopes.Declaration.{Declaration}
@@ -34,8 +34,8 @@ use Rattle.sim_meaning.specs.Entries.{formals_of, numbers_of}
 use Rattle.sim_meaning.specs.Levels.{has_levels, is_class}
 use Rattle.sim_meaning.specs.Texts.{BlockText, ClassText, ConnectionText, PrefixedText, ProcedureText, StandardText, Text, constant_of, declared_at, is_class_free, kind_named, kind_of_type, text}
 use Rattle.sim_meaning.specs.Virtuals.{match_in_text}
-use Rattle.sim_sound.specs.Held.{Among, ArrayOf, ByName, FitsIn, Holds, InBound, IsFormal, IsOfKind, Place, Refers, Simply, entry_holds, formal_holds, given_by, held_by, result_holds}
-use Rattle.sim_sound.specs.Expressions.{ExprIs}
+use Rattle.sim_sound.specs.Held.{Among, ArrayOf, ByName, Holds, In, InBound, IsFormal, IsOfKind, Place, Procedure, Refers, ResultFits, Simply, entry_holds, formal_holds, given_by, held_by, result_holds}
+use Rattle.sim_sound.specs.Expressions.{ClassNear, ExprIs, ProcessClassThere}
 use Rattle.sim_sound.specs.Statements.{StatementIs, StatementsAre}
 
 -- ---- arrays that a text declares
@@ -130,9 +130,15 @@ ResultWritten None None = Unit {0}
 ResultWritten (Some type) (Some h) = IsOfKind h (kind_named type)
 ResultWritten _ _ = ⊥
 
+abbrev pub FormalsNear : Source → (around : ℕ) → List Formal → Type 0
+FormalsNear s k [] = Unit {0}
+FormalsNear s k (f ∷ fs) = ClassNear s (In k) f.ty × FormalsNear s k fs
+
 pub record ProcedureTyped (s : Source) (k : ℕ) (given : Option TypeName) (a : Statement) : Type 0 where
   pub result : ResultWritten given (result_holds s k)
   pub formals : FormalsAre s (numbers_of s k) (formals_of s k)
+  -- the classes of the formal parameters are declared around
+  pub near : (around : ℕ) → encloser s.tables k ≡ Some around → FormalsNear s around (formals_of s k)
   pub body : StatementIs s k a
 
 -- a constant of a class has a value, of its type
@@ -148,7 +154,9 @@ pub record ClassTyped (s : Source) (k : ℕ) (ds : Declarations) (ss : Statement
   pub parameters : (d : DeclNo) → Among d (numbers_of s k) → IsFormal (entry_of s.tables d) → Among d (class_formals s.tables k)
   pub different : Distinct (numbers_of s k)
   -- none of its parameters is by name
-  pub not_by_name : (d : DeclNo) (kind : Kind) → Among d (numbers_of s k) → entry_holds s true (entry_of s.tables d) ≡ Some (ByName kind) → ⊥
+  pub not_by_name : (d : DeclNo) (h : Holds) → Among d (numbers_of s k) → entry_holds s true (entry_of s.tables d) ≡ Some (ByName h) → ⊥
+  -- and none is a procedure
+  pub no_procedure : (d : DeclNo) (result : Option SimType) → Among d (numbers_of s k) → entry_holds s true (entry_of s.tables d) ≡ Some (Procedure result) → ⊥
   pub constants : (d : DeclNo) (type : SimType) → Among d (numbers_of s k) → entry_of s.tables d ≡ Some (entry.Constant type) → ConstantHas s d type
   pub arrays : ArraysTyped s (InBound k) ds
   pub distinct : Distinct (arrays_of_block s ds)
@@ -212,8 +220,8 @@ pub record ProcedureThere (s : Source) (d : DeclNo) (k : ℕ) : Type 0 where
   pub around : encloser s.tables k ≡ Some (block_of s d)
   pub owned : owner_of_level s.tables (Some k) ≡ Some d
 
--- What matches a virtual in the class of a text is a procedure without parameters that stands in a level of the text, and gives what the virtual gives, or
--- a reference to a subclass.
+-- What matches a virtual in the class of a text is a procedure that stands in a level of the text, and gives what the virtual gives, or a reference
+-- to a subclass.
 pub record MatchThere (s : Source) (result : Option SimType) (k match : ℕ) : Type 0 where
   pub given : Option TypeName
   pub heading : Heading
@@ -223,8 +231,7 @@ pub record MatchThere (s : Source) (result : Option SimType) (k match : ℕ) : T
   pub own : Option SimType
   pub declares : entry_of s.tables declaration ≡ Some (entry.Procedure own match)
   pub level : has_level s.tables k (block_of s declaration) ≡ true
-  pub alone : formals_of s match ≡ []
-  pub gives : FitsIn s (given_by s own) (given_by s result)
+  pub gives : ResultFits s (given_by s own) (given_by s result)
 
 -- and so does that of a class
 pub record ClassThere (s : Source) (d : DeclNo) (k : ℕ) : Type 0 where
@@ -263,12 +270,6 @@ pub record SimulationClasses (s : Source) (block : ℕ) : Type 0 where
   pub has : has_levels (text s block) ≡ true
   -- `simulation` gives no level in front
   pub first : base s.tables block ≡ None
-
--- a class `process` that a class has for its prefix is one that was brought so
-pub record ProcessClassThere (s : Source) (k : ℕ) : Type 0 where
-  pub block : ℕ
-  pub is : k ≡ block + 4
-  pub simulates : is_simulation_block s.tables block ≡ true
 
 pub record SetClassThere (s : Source) (k : ℕ) (which : StandardClass) : Type 0 where
   pub linkage : ℕ

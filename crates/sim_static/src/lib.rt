@@ -12,9 +12,5 @@ pub mod laws;
 mod prefix;
 mod rounds;
 mod statement;
-mod unbuilt_forms;
-mod unbuilt_names;
 
 pub use rounds::check;
-pub use unbuilt_forms::has_unbuilt_form;
-pub use unbuilt_names::has_unbuilt_name;

@@ -25,9 +25,9 @@ use Rattle.sim_tree.specs.declared.expr.Identifier.{Identifier}
 use Rattle.sim_tree.specs.Syntax.{Also, Begin, Heading, NoDeclaration, NoStatement, Prefix, Statement}
 use Rattle.sim_tree.specs.Syntax.{Block as BlockSyntax}
 use Rattle.sim_tree.specs.SyntaxOfProgram.{block_syntax, prefix_syntax, statement_syntax}
-use Rattle.sim_meaning.specs.Attributes.{is_bare_process, is_connection}
+use Rattle.sim_meaning.specs.Attributes.{is_connection}
 use Rattle.sim_meaning.specs.Entries.{cells_from, first_cells, numbers_of, with_cell, with_result}
-use Rattle.sim_meaning.specs.Levels.{is_class}
+use Rattle.sim_meaning.specs.Levels.{is_class, is_process_class, is_process_itself, is_standard_text}
 use Rattle.sim_meaning.specs.Pending.{Declared, Held, Key, Val, same_key}
 use Rattle.sim_meaning.specs.Texts.{ClassText, ConnectionText, ProcedureText, StandardText, Text, text}
 use Rattle.codegen_expr.specs.Built.{place_from}
@@ -477,20 +477,20 @@ connections_known b ts connections are e k = ap (λ z. truth_or_false (slice_get
     cases None = refl
     cases (Some x) = connection_of_text x
 
-process_of_text : (x : TextTree) → is_process_tree x ≡ is_bare_process (Some (text_in x))
+process_of_text : (x : TextTree) → is_process_tree x ≡ is_standard_text is_process_class (Some (text_in x))
 process_of_text (tree.Block r) = block (block_syntax r.now)
   where
-    block : (z : BlockSyntax) → false ≡ is_bare_process (Some (block_text z))
+    block : (z : BlockSyntax) → false ≡ is_standard_text is_process_class (Some (block_text z))
     block (Begin i ds ss e) = refl
 process_of_text (tree.Procedure r q) = refl
 process_of_text (tree.Class r q z) = block (block_syntax z.now)
   where
-    block : (z : BlockSyntax) → false ≡ is_bare_process (Some (class_text r.now (heading_of q.now) z))
+    block : (z : BlockSyntax) → false ≡ is_standard_text is_process_class (Some (class_text r.now (heading_of q.now) z))
     block (Begin i ds ss e) = refl
 process_of_text (tree.ClassOfStatement r q) = refl
 process_of_text (tree.Prefixed p r) = block (block_syntax r.now)
   where
-    block : (z : BlockSyntax) → false ≡ is_bare_process (Some (prefixed_text (prefix_syntax p.now) z))
+    block : (z : BlockSyntax) → false ≡ is_standard_text is_process_class (Some (prefixed_text (prefix_syntax p.now) z))
     block (Begin i ds ss e) = refl
 process_of_text tree.Connection = refl
 process_of_text (tree.Standard standard.Linkage) = refl
@@ -498,10 +498,11 @@ process_of_text (tree.Standard standard.Link) = refl
 process_of_text (tree.Standard standard.Head) = refl
 process_of_text (tree.Standard standard.Process) = refl
 
-pub processes_known : (b : Bound) (ts : List TextTree) (processes : List Bool) → AreTexts b.program ts → processes ≡ map is_process_tree ts → (k : ℕ) → truth_or_false (slice_get processes k) ≡ is_bare_process (text (source_of b) k)
-processes_known b ts processes are e k = ap (λ z. truth_or_false (slice_get z k)) e ∙ ap truth_or_false (get_map is_process_tree ts k) ∙ cases (slice_get ts k) ∙ ap is_bare_process (sym (text_at b ts k are))
+pub processes_known : (b : Bound) (ts : List TextTree) (processes : List Bool) → AreTexts b.program ts → processes ≡ map is_process_tree ts → (k : ℕ) → truth_or_false (slice_get processes k) ≡ is_process_itself (source_of b) k
+unfolding is_process_itself
+processes_known b ts processes are e k = ap (λ z. truth_or_false (slice_get z k)) e ∙ ap truth_or_false (get_map is_process_tree ts k) ∙ cases (slice_get ts k) ∙ ap (is_standard_text is_process_class) (sym (text_at b ts k are))
   where
-    cases : (o : Option TextTree) → truth_or_false (option_map is_process_tree o) ≡ is_bare_process (option_map text_in o)
+    cases : (o : Option TextTree) → truth_or_false (option_map is_process_tree o) ≡ is_standard_text is_process_class (option_map text_in o)
     cases None = refl
     cases (Some x) = process_of_text x
 

@@ -15,6 +15,7 @@ use Rattle.codegen_expr.specs.Emit.{WritesNot, WritesOperands}
 use Rattle.codegen_expr.proofs.Seen as n
 use Rattle.codegen_expr.proofs.Written as w
 use Rattle.codegen_expr.proofs.Behind as behind
+use Rattle.codegen_expr.proofs.Checked as checked
 use Rattle.codegen_expr.proofs.+emit.Goals as goal
 
 pub emit::emit_expr-returns-in_ok-end-in-If : goal.emit::emit_expr-returns-in_ok-end-in-If
@@ -141,3 +142,22 @@ standard::emit_alone-returns t c =
 
 pub standard::emit_behind-returns-then-row-eq0 : goal.standard::emit_behind-returns-then-row-eq0
 standard::emit_behind-returns-then-row-eq0 t c = behind.behind_no_operand c.args.bound.now c.args.spot c.args.depth c.args.draft.now _ c.args.token c.args.name c.args.operands.now _ c.in-Some.row c.standard_code.ensures c.in-Some.is c.if-row-eq0.true c.give_up-then-row-eq0.ensures
+
+pub actuals::emit_parameters-loop-index-init : goal.actuals::emit_parameters-loop-index-init
+actuals::emit_parameters-loop-index-init t c = checked.parameters_all c.args.bound.now c.args.spot c.args.depth c.args.draft.now c.args.token c.args.list.now
+
+pub actuals::emit_parameters-loop-index-preserved : goal.actuals::emit_parameters-loop-index-preserved
+actuals::emit_parameters-loop-index-preserved t c =
+    let i = c.loop-index.index in
+    let xs = c.args.list.now in
+    checked.parameters_next c.args.bound.now c.args.spot c.args.depth c.args.draft.now c.loop-index.draft _ c.args.token xs (drop i xs) (drop (i + 1) xs) c.loop-index.inside _ i _ _ c.loop-index.invariant (w.from_drop xs i c.index-list-index.result c.loop-index-test.true c.index-list-index.is) c.in_ok-emit_parameter.ensures c.in_ok-inside.ensures (omega arith)
+
+pub actuals::emit_parameters-returns : goal.actuals::emit_parameters-returns
+actuals::emit_parameters-returns t c =
+    let i = c.loop-index.index in
+    let xs = c.args.list.now in
+    checked.parameters_none c.args.bound.now c.args.spot c.args.depth c.args.draft.now c.loop-index.draft c.args.token xs (drop i xs) c.loop-index.inside i c.loop-index.invariant (drop_all i xs (omega (arith, c.loop-index-test.false)))
+
+pub actuals::emit_parameter-returns : goal.actuals::emit_parameter-returns
+actuals::emit_parameter-returns t c =
+    on_ok_weaker c.push.result (λ pushed. checked.parameter_written c.args.bound.now c.args.spot c.args.depth c.args.draft.now _ _ _ c.args.token c.args.number _ _ _ c.args.expr.now c.kind_of-kind.result _ _ _ c.kind_of-kind.ensures c.is_value.ensures c.in_ok-value.ensures c.is_procedure.ensures c.in_ok-procedure.ensures c.in_ok-instr.ensures c.line_at.ensures pushed) c.push.ensures

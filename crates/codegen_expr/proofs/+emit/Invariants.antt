@@ -1,6 +1,7 @@
 use Rattle.std.proofs.Common.{◌-◌, drop, length, map}
 use Rattle.sim_tree.specs.SyntaxOf.{factor_syntax, operand_syntax, term_syntax, with_operator}
 use Rattle.codegen_expr.specs.Emit.{OwesActuals, OwesList, OwesTails, Steady, WritesNot}
+use Rattle.codegen_expr.specs.EmitVirtuals.{OwesParameters}
 use Rattle.codegen_expr.proofs.Taken.{TakenOf}
 use Rattle.codegen_expr.proofs.+emit.Given as goal
 
@@ -24,3 +25,6 @@ invariant-calls::emit_actuals-loop-index l = OwesActuals l.bound l.spot l.depth 
 
 abbrev pub invariant-selectors::emit_steps-loop-done : goal.invariant-selectors::emit_steps-loop-done
 invariant-selectors::emit_steps-loop-done l = TakenOf l.bound l.spot l.depth l.fn.draft l.fn.object l.rest l.draft l.taken l.done
+
+abbrev pub invariant-actuals::emit_parameters-loop-index : goal.invariant-actuals::emit_parameters-loop-index
+invariant-actuals::emit_parameters-loop-index l = OwesParameters l.bound l.spot l.depth l.fn.draft l.token l.list l.inside l.index l.draft (drop l.index l.list)

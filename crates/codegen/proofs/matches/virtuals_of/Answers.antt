@@ -1,4 +1,4 @@
-use Rattle.std.proofs.Common.{◌<◌, ◌≤◌, length, refl, sym, ap, ◌∙◌, subst}
+use Rattle.std.proofs.Common.{◌<◌, ◌≤◌, length, refl, sym, ap, subst}
 use Rattle.codegen.proofs.Listed as w
 use Rattle.codegen.proofs.Listed.{OwesVirtuals}
 use Rattle.codegen.proofs.matches.virtuals_of.Goals as goal

@@ -20,7 +20,8 @@ pub returns : goal.returns
 returns c =
     let same : to_z w64 (of_z w64 c.in_ok-end.end) ≡ c.in_ok-end.end = search rules in
     let old = c.loop-class.draft in
+    let mid = c.emit_origin_ends.new.draft in
     let new = c.fill_all.new.draft in
     let xs = c.args.classes.now in
-    let all = subst (λ z. FillsAll old new c.loop-class.overs.items z) same (subst (λ z. FillsAll old new z (to_z w64 (of_z w64 c.in_ok-end.end))) c.deref.ensures.value c.fill_all.ensures) in
-    w.ends_put c.args.bound.now c.args.spot c.args.around c.args.draft.now old new xs (drop c.loop-class.class-index xs) c.loop-class.overs.items _ c.loop-class.invariant (drop_all c.loop-class.class-index xs c.loop-class-test.false) c.in_ok-end.ensures all
+    let all = subst (λ z. FillsAll mid new c.loop-class.overs.items z) same (subst (λ z. FillsAll mid new z (to_z w64 (of_z w64 c.in_ok-end.end))) c.deref.ensures.value c.fill_all.ensures) in
+    w.ends_put c.args.bound.now c.args.spot c.args.around c.args.place c.args.draft.now old mid new xs (drop c.loop-class.class-index xs) c.args.tokens.now c.loop-class.overs.items _ c.loop-class.invariant (drop_all c.loop-class.class-index xs c.loop-class-test.false) c.in_ok-emit_origin_ends.ensures c.in_ok-end.ensures all

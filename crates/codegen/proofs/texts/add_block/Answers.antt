@@ -2,12 +2,12 @@ use Rattle.std.proofs.Common.{◌≡◌, List, refl, sym, ap, ◌∙◌, arith}
 use Rattle.std.specs.Prelude.{slice_get}
 use Rattle.sim_code.specs.declared.code.CodeType.{CodeType}
 use Rattle.codegen_expr.specs.Drafts.{PlannedOf, planned_at, planned_or_none}
-use Rattle.codegen.specs.EmitProgram.{AddsBlock}
+use Rattle.codegen.specs.EmitProgram.{AddsBlock, FormalsGiven}
 use Rattle.codegen.proofs.Planned.{index_found}
 use Rattle.codegen.proofs.texts.add_block.Goals as goal
 
 pub returns : goal.returns
-unfolding AddsBlock
+unfolding AddsBlock FormalsGiven
 returns c =
     let plan = c.args.written.now.draft.classes in
     let number = c.block_number-block.result in

@@ -2,7 +2,7 @@ use Rattle.std.proofs.Common.{subst}
 use Rattle.object_machine.specs.Running.{Stops, StopsAtRead}
 use Rattle.object_machine.specs.Standing.{outside}
 use Rattle.object_machine.specs.Named.{InputEnds}
-use Rattle.object_machine.proofs.Closings.{cut_before, broken_jump, broken_off, broken_on, broken_write, fault_at_closing, fault_closing, normal_closing, ticks_closing, words_closing}
+use Rattle.object_machine.proofs.Closings.{cut_before, broken_jump, broken_off, broken_on, broken_write, fault_at_closing, fault_closing, normal_closing, ticks_closing, words_at_closing, words_closing}
 use Rattle.object_machine.proofs.Whole.{input_answers}
 use Rattle.object_machine.proofs.ending.answer.Goals as goal
 
@@ -20,6 +20,11 @@ pub returns-in-Exhausted-clause-ran : goal.returns-in-Exhausted-clause-ran
 returns-in-Exhausted-clause-ran g c code from r stack below before source faults faults_now s =
     c.closed-in-Exhausted.ensures.ran code c.args.limits.now from before source faults faults_now
     (words_closing code c.args.limits.now from c.args.stop.line.0 c.args.stop.at c.args.storage.now r stack below before _ faults faults_now (subst (λ f. Stops code c.args.limits.now from f c.args.stop.line.0 c.args.stop.at c.args.storage.now r stack below before (outside (g.O.Sink.written c.args.out.now) source)) c.in-Exhausted.is s.stops))
+
+pub returns-in-ExhaustedAt-clause-ran : goal.returns-in-ExhaustedAt-clause-ran
+returns-in-ExhaustedAt-clause-ran g c code from r stack below before source faults faults_now s =
+    c.closed-in-ExhaustedAt.ensures.ran code c.args.limits.now from before source faults faults_now
+    (words_at_closing code c.args.limits.now from c.args.stop.line.0 c.args.stop.at c.args.storage.now r stack below before _ c.in-ExhaustedAt.line faults faults_now (subst (λ f. Stops code c.args.limits.now from f c.args.stop.line.0 c.args.stop.at c.args.storage.now r stack below before (outside (g.O.Sink.written c.args.out.now) source)) c.in-ExhaustedAt.is s.stops))
 
 pub returns-in-Fault-clause-ran : goal.returns-in-Fault-clause-ran
 returns-in-Fault-clause-ran g c code from r stack below before source faults faults_now s =
@@ -58,6 +63,9 @@ returns-in-TickLimit-clause-input g c before now h = c.closed-in-TickLimit.ensur
 
 pub returns-in-Exhausted-clause-input : goal.returns-in-Exhausted-clause-input
 returns-in-Exhausted-clause-input g c before now h = c.closed-in-Exhausted.ensures.input before now (subst (λ f. InputEnds before now f) c.in-Exhausted.is h)
+
+pub returns-in-ExhaustedAt-clause-input : goal.returns-in-ExhaustedAt-clause-input
+returns-in-ExhaustedAt-clause-input g c before now h = c.closed-in-ExhaustedAt.ensures.input before now (subst (λ f. InputEnds before now f) c.in-ExhaustedAt.is h)
 
 pub returns-in-Fault-clause-input : goal.returns-in-Fault-clause-input
 returns-in-Fault-clause-input g c before now h = c.closed-in-Fault.ensures.input before now (subst (λ f. InputEnds before now f) c.in-Fault.is h)

@@ -199,7 +199,7 @@ returns-in-EndThunk-clause-row g c s e = (
     still_same c.without_ports-in-EndThunk.result (g.O.Sink.written c.args.out.now),
     λ code line e1 e2 e3 e4 e5 e6.
         c.without_ports-in-EndThunk.ensures.row _ _ _ _ _ _ _ _ _ _ _ _ _
-        (for_instr_in _ code c.args.limits.now line _ _ _ _ _ _ _ _ _ _ c.args.instr i.EndThunk c.in-EndThunk.is (c.end_thunk-flow.ensures.row code c.args.limits.now line (outside (g.O.Sink.written c.args.out.now) s) e1 e2 e4)),
+        (for_instr_in _ code c.args.limits.now line _ _ _ _ _ _ _ _ _ _ c.args.instr i.EndThunk c.in-EndThunk.is (c.end_thunk-flow.ensures.row code line (outside (g.O.Sink.written c.args.out.now) s) e1 e2 e4)),
   ),
 )
 
@@ -375,8 +375,32 @@ returns-in-Check-clause-row g c s e = (
         let elist : to_z w64 (of_z w64 c.in-Check.list) ≡ c.in-Check.list = search rules in
         c.without_ports-in-Check.ensures.row _ _ _ _ _ _ _ _ _ _ _ _ _
         (for_instr_in _ code l line _ _ _ _ _ _ _ _ _ _ c.args.instr (i.Check (to_z w64 (of_z w64 c.in-Check.list))) (c.in-Check.is ∙ ap i.Check (sym elist))
-        (obeys_stacks c.check_actuals-flow.result l line _ _ _ _ _ _ c.args.top.now.stack.items _ _ _ _ _ _ c.deref-in-Check.ensures.value (sym c.deref-in-Check.ensures.value)
-        (c.check_actuals-flow.ensures.row code l line c.args.storage.now c.args.below.now.items (outside (g.O.Sink.written c.args.out.now) s) e1 e5))),
+        (obeys_stacks c.check_actuals-flow.result l line _ _ _ _ _ _ c.args.top.now.stack.items _ _ _ _ _ _ c.deref-in-Check-2.ensures.value (sym c.deref-in-Check-2.ensures.value)
+        (c.check_actuals-flow.ensures.row code l line c.args.storage.now c.args.below.now.items (outside (g.O.Sink.written c.args.out.now) s) e1 e4 e5 (sym c.deref-in-Check.ensures.value)))),
+  ),
+)
+
+pub returns-in-Param-clause-ends : goal.returns-in-Param-clause-ends
+returns-in-Param-clause-ends g c = flow_still g.O.Sink.written g.O.Sink.faults c.args.out.now _ c.without_ports-in-Param.ensures.other
+
+pub returns-in-Param-clause-read : goal.returns-in-Param-clause-read
+returns-in-Param-clause-read g c = input_still (g.I.Source.faults c.args.input.now) _ c.without_ports-in-Param.ensures.read
+
+pub returns-in-Param-clause-row : goal.returns-in-Param-clause-row
+returns-in-Param-clause-row g c s e = (
+  s,
+  e,
+  (
+    still_same c.without_ports-in-Param.result (g.O.Sink.written c.args.out.now),
+    λ code line e1 e2 e3 e4 e5 e6.
+        let eformal : to_z w64 (of_z w64 c.in-Param.formal) ≡ c.in-Param.formal = search rules in
+        let ethunk : to_z w64 (of_z w64 c.in-Param.thunk) ≡ c.in-Param.thunk = search rules in
+        let eprocedure : to_z w64 (of_z w64 c.in-Param.procedure) ≡ c.in-Param.procedure = search rules in
+        c.without_ports-in-Param.ensures.row _ _ _ _ _ _ _ _ _ _ _ _ _
+        (for_instr_in _ code c.args.limits.now line _ _ _ _ _ _ _ _ _ _ c.args.instr (i.Param (to_z w64 (of_z w64 c.in-Param.formal)) (to_z w64 (of_z w64 c.in-Param.thunk)) (to_z w64 (of_z w64 c.in-Param.procedure)))
+        (c.in-Param.is ∙ ap (λ z. i.Param z c.in-Param.thunk c.in-Param.procedure) (sym eformal) ∙ ap (λ z. i.Param (to_z w64 (of_z w64 c.in-Param.formal)) z c.in-Param.procedure) (sym ethunk)
+        ∙ ap (λ z. i.Param (to_z w64 (of_z w64 c.in-Param.formal)) (to_z w64 (of_z w64 c.in-Param.thunk)) z) (sym eprocedure))
+        (c.pass_parameter-flow.ensures.row code c.args.limits.now line (outside (g.O.Sink.written c.args.out.now) s) e1 e2 e6)),
   ),
 )
 

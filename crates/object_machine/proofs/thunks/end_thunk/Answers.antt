@@ -14,14 +14,15 @@ use Rattle.object_machine.proofs.ThunkRows.{EndsWith, ends_onto, no_thunk_ends, 
 use Rattle.object_machine.proofs.thunks.end_thunk.Goals as goal
 
 pub give-requires : goal.give-requires
-give-requires c = record { fits = last_fits c.args.below.now.items c.pop-2.new.self.items c.in-Some-pop-2.next c.in-Some-pop-2.ensures.items c.requires.others }
+give-requires c = record { fits = last_fits c.args.below.now.items c.pop-2.new.self.items c.in-Some-pop-2.next c.in-Some-pop-2.ensures.items c.requires.others; images = c.requires.images }
 
 pub returns-clause-others : goal.returns-clause-others
 returns-clause-others c = rest_fit c.args.below.now.items c.pop-2.new.self.items c.in-Some-pop-2.next c.in-Some-pop-2.ensures.items c.requires.others
 
 pub returns-in_default-clause-row : goal.returns-in_default-clause-row
 unfolding Obeys
-returns-in_default-clause-row c code l line now eb ei ec before o m s =
+returns-in_default-clause-row c code line now eb ei ec before o m s =
+    let l = c.args.limits.now in
     let p = c.args.storage.now in
     let t = c.args.top.now in
     let stack = t.stack.items in
@@ -31,7 +32,8 @@ returns-in_default-clause-row c code l line now eb ei ec before o m s =
 
 pub returns-in_default-pop-clause-row : goal.returns-in_default-pop-clause-row
 unfolding Obeys
-returns-in_default-pop-clause-row c code l line now eb ei ec before o m s =
+returns-in_default-pop-clause-row c code line now eb ei ec before o m s =
+    let l = c.args.limits.now in
     let p = c.args.storage.now in
     let t = c.args.top.now in
     let stack = t.stack.items in
@@ -44,7 +46,8 @@ returns-in_default-pop-clause-row c code l line now eb ei ec before o m s =
 
 pub returns-in_default-pop-2-clause-row : goal.returns-in_default-pop-2-clause-row
 unfolding Obeys
-returns-in_default-pop-2-clause-row c code l line now eb ei ec before o m s =
+returns-in_default-pop-2-clause-row c code line now eb ei ec before o m s =
+    let l = c.args.limits.now in
     let p = c.args.storage.now in
     let t = c.args.top.now in
     let stack = t.stack.items in
@@ -56,11 +59,12 @@ returns-in_default-pop-2-clause-row c code l line now eb ei ec before o m s =
     let given = slot_at stack at in
     let popped = subst (λ xs. popping (values_of t.registers.depth xs) o E ≡ with_top (Some at) xs o E) c.deref.ensures.value (c.in-Some-pop.ensures.row o E) in
     let none : below ≡ [] = popped_none below c.pop-2.new.self.items c.args.below.now.len c.in_default-pop-2.ensures.items c.in_default-pop-2.ensures.cases.0 c.in_default-pop-2.ensures.rest in
-    no_rule_popped l line p t.registers stack below [] before now o m s t c.pop-2.new.self.items p _ (ends ∙ popped ∙ ap (λ b. thunk_ended code o m (value_of given) (below_of b)) none)
+    no_rule_popped l line p t.registers stack below [] before now o m s t c.pop-2.new.self.items p _ (ends ∙ popped ∙ ap (λ b. thunk_ended code l o m (value_of given) (below_of b)) none)
 
 pub returns-clause-row : goal.returns-clause-row
 unfolding Obeys
-returns-clause-row c code l line now eb ei ec before o m s =
+returns-clause-row c code line now eb ei ec before o m s =
+    let l = c.args.limits.now in
     let p = c.args.storage.now in
     let t = c.args.top.now in
     let stack = t.stack.items in
@@ -75,6 +79,6 @@ returns-clause-row c code l line now eb ei ec before o m s =
     let rest = c.pop-2.new.self.items in
     let is = c.in-Some-pop-2.ensures.items in
     let slot : c.index-given.result.now ≡ given = c.index-given.ensures ∙ slot_within stack at c.index-given.result.now empty_slot (let e = c.in-Some-pop.ensures.shallower in let f = c.requires.fits in omega (arith, e, f)) in
-    along l line p rest before now c.give.result c.give.new.waiting.registers c.give.new.waiting.stack.items _ _
+    along l line c.give.new.storage rest before now c.give.result c.give.new.waiting.registers c.give.new.waiting.stack.items _ _
     (ends ∙ popped ∙ ap (λ x. E (value_of x) []) (sym slot) ∙ ends_onto l line p t.registers stack below rest next before now o m is code (value_of c.index-given.result.now))
-    (c.give.ensures.row code l line rest before now o m eb ei ec (waiting_stands l line p t.registers stack below rest next before now o m is s) (subst (λ x. LeadsFrom p o m x) (sym slot) (s.top.slots at, s.top.arrays_lead at)))
+    (c.give.ensures.row code line rest before now o m eb ei ec (waiting_stands l line p t.registers stack below rest next before now o m is s) (subst (λ x. LeadsFrom p o m x) (sym slot) (s.top.slots at, s.top.arrays_lead at)))

@@ -10,7 +10,7 @@ use Rattle.object_machine.proofs.ThunkRows.{either_will_do, no_variable, place_w
 use Rattle.object_machine.proofs.thunks.place_asked.Goals as goal
 
 pub returns-in_default-clause-row : goal.returns-in_default-clause-row
-returns-in_default-clause-row c code o m level cell b rest =
+returns-in_default-clause-row c code l o m level cell b rest =
     let ez : to_z w64 (of_z w64 c.args.value_too) ≡ c.args.value_too = search rules in
     let v = value_of c.args.given in
     let Push : Run Machine = pushing b.room b.stack v o (λ stack. at o m b b.pc stack rest) in
@@ -18,7 +18,7 @@ returns-in_default-clause-row c code o m level cell b rest =
     having_none (truth_of c.args.value_too) o K (c.in_default.ensures ∙ ap truth_of ez)
 
 pub returns-then-either-clause-row : goal.returns-then-either-clause-row
-returns-then-either-clause-row c code o m level cell b rest =
+returns-then-either-clause-row c code l o m level cell b rest =
     let ez : to_z w64 (of_z w64 c.args.value_too) ≡ c.args.value_too = search rules in
     let v = value_of c.args.given in
     let Push : Run Machine = pushing b.room b.stack v o (λ stack. at o m b b.pc stack rest) in
@@ -26,7 +26,7 @@ returns-then-either-clause-row c code o m level cell b rest =
     having_some (truth_of c.args.value_too) c.in-Some.either o K (c.in-Some.ensures ∙ ap truth_of ez) ∙ ap K c.if-either.true ∙ either_will_do c.args.line.0 o Push (is_place v)
 
 pub returns-then-is_address-clause-row : goal.returns-then-is_address-clause-row
-returns-then-is_address-clause-row c code o m level cell b rest =
+returns-then-is_address-clause-row c code l o m level cell b rest =
     let ez : to_z w64 (of_z w64 c.args.value_too) ≡ c.args.value_too = search rules in
     let v = value_of c.args.given in
     let Push : Run Machine = pushing b.room b.stack v o (λ stack. at o m b b.pc stack rest) in
@@ -34,7 +34,7 @@ returns-then-is_address-clause-row c code o m level cell b rest =
     having_some (truth_of c.args.value_too) c.in-Some.either o K (c.in-Some.ensures ∙ ap truth_of ez) ∙ place_will_do c.args.line.0 o Push (is_place v) c.in-Some.either (sym c.is_address.ensures ∙ c.if-is_address.true)
 
 pub returns-clause-row : goal.returns-clause-row
-returns-clause-row c code o m level cell b rest =
+returns-clause-row c code l o m level cell b rest =
     let ez : to_z w64 (of_z w64 c.args.value_too) ≡ c.args.value_too = search rules in
     let v = value_of c.args.given in
     let Push : Run Machine = pushing b.room b.stack v o (λ stack. at o m b b.pc stack rest) in

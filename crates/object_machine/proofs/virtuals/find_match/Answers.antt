@@ -1,4 +1,4 @@
-use Rattle.std.proofs.Common.{rules, to_z, of_z, w64, ◌≡◌, ◌∷◌, ◌+◌, ◌<◌, ◌≤◌, ◌^◌, ℕ, List, length, set, length-set, ap, subst, sym, refl, arith, ◌∙◌}
+use Rattle.std.proofs.Common.{rules, to_z, of_z, w64, ◌≡◌, ◌∷◌, ◌<◌, ℕ, List, length, set, length-set, ap, subst, sym, refl, arith, ◌∙◌}
 use Rattle.sim_base.specs.declared.run_error.RunError.TheVariants.{AccessThroughNone, NoMatch}
 use Rattle.sim_code.specs.Events.{pop_object}
 use Rattle.sim_code.specs.Machine.{Machine, ProcedureValue, Value, number, on, plain}

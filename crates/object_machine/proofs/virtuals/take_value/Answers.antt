@@ -1,4 +1,4 @@
-use Rattle.std.proofs.Common.{rules, to_z, of_z, w64, ◌≡◌, ◌∙◌, ap, refl, sym}
+use Rattle.std.proofs.Common.{rules, to_z, of_z, w64, ◌≡◌, ◌∙◌, ap, refl}
 use Rattle.sim_code.specs.Instances.{is_live}
 use Rattle.sim_code.specs.Machine.{number, procedure_in}
 use Rattle.frame_arena.specs.Slots.{value_of}

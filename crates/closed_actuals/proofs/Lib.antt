@@ -1,0 +1,14 @@
+mod Lifts
+mod Scheduling
+mod Does
+mod Adding
+mod Operators
+mod Steps
+mod Paths
+mod Closing
+mod Closed
+mod Moving
+mod Neat
+mod Pending
+mod Numbers
+mod Chains

@@ -1,0 +1,103 @@
+-- The examples with calls that are checked, by computing.
+use Rattle.std.proofs.Common.{refl}
+use Rattle.std.specs.Fmt.{digits}
+use Rattle.sim_code.specs.Arrays.{element_place, making_array, copying_array, keeping_array, finding_element, giving_back, handed_over}
+use Rattle.sim_code.specs.Events.{not_nothing, pop_object, pop_reference, qualifying, referring, stopping, no_rule, ticking, taking, entering, having, when, computing, choosing, popping, pop_many, pop_plain, pop_truth, pop_integers, pop_operands, pop_text, answering, applying_one, applying_two, testing_step, performing, putting_back, assigning, making_text, joining}
+use Rattle.sim_code.specs.Instances.{at_level, kept_on, object_ended, system_head}
+use Rattle.sim_code.specs.Machine.{pushing, index, level as level_of_machine, cell_at, jumping, block_at, own_block, leaving, with_result}
+use Rattle.sim_code.specs.Rows.{put_back, putting}
+use Rattle.sim_meaning.specs.Attributes.{connection_at, own_attribute, transfer_at}
+use Rattle.sim_meaning.specs.Levels.{belongs, class_at, has_procedure, is_in, is_of, levels, levels_of, linkage_of_text, process_class, qualification, is_process_itself, is_process_text, stands_in}
+use Rattle.sim_meaning.specs.Closing.{by_name, is_placed, is_attribute, is_text, home_of, is_variable, stream_of, own_result, own_match, result_meant}
+use Rattle.sim_meaning.specs.Entries.{first_cells}
+use Rattle.sim_meaning.specs.Meaning.{leaving as leaving_of_meaning}
+use Rattle.sim_meaning.specs.Constants.{constants_of, text_constant, text_constants}
+use Rattle.sim_scope.specs.Calls.{is_inside}
+use Rattle.sim_meaning.specs.Steps.{put_back as back_of_steps, putting as putting_of_steps}
+use Rattle.sim_meaning.specs.Texts.{standard_texts, text, is_class_free, declared_at, constant_of}
+use Rattle.sim_values.specs.Operators.{calculate, compare, compare_as_texts, connect, same_objects, same_texts, two_of, one_of, step_test}
+use Rattle.sim_values.specs.Standard.{take_integer, take_character, take_text, take_nothing, row_of, standard_effect}
+use Rattle.sim_scope.specs.Building.{default_mode, mode_allowed, marked}
+use Rattle.sim_scope.specs.Declare.{brings_class, brought_marks, provides_attribute, class_prefix_marks, prefixed_marks, prefix_marks, standard_marks, marks_of_standard, type_named, result_named, mode_named, first_of_procedure, first_of_class, variable_marks, array_marks, parameter_marks, moded_marks, specified_marks, headed_marks, procedure_marks, class_marks, virtual_name_marks, program_marks, inner_marks, declaring, of_segment, of_mode_part, of_specification, of_specifier, of_virtual, of_heading, declared_by, declarations_of, qualified_marks, qualified_result}
+use Rattle.sim_scope.specs.Runs.{run as run_of_runs}
+use Rattle.sim_scope.specs.Access.{encloser, block_at as block_at_of_scopes, accessible, protects, is_kind, some_around_of, some_around}
+use Rattle.sim_scope.specs.Levels.{base, class_block, has_level, is_simulation_block, simulation_level_of, some_level_of}
+use Rattle.sim_scope.specs.Statements.{simulation_of}
+use Rattle.sim_scope.specs.Scopes.{class_formals, shows_detach, class_formals_of, found_in, if_found, lookup, shown as shown_of_scopes, searched, declaration_from, binding, entry_of, formals_of, formal_of, result_of, brought_by, level_shows, shown_of, is_detach, ends_search, outward, virtual_of, represented, standard_at}
+use Rattle.sim_scope.specs.Source.{source_of, found_at, denoted, type_at, line_at, level_of, block_of, block_around}
+use Rattle.sim_scope.specs.Standard.{standard_prefix, standard_name, text_attribute, sysin_attribute, sysout_attribute, signature, undeclared}
+use Rattle.sim_scope.specs.Walk.{program_events, of_statement, of_branch, of_arm, of_block, of_whole, of_class_body, of_declaration}
+use Rattle.sim_scope.specs.Along.{first_along}
+use Rattle.sim_scope.specs.References.{is_this, this_block, this_of}
+use Rattle.sim_scope.specs.Tables.{with_entry_at}
+use Rattle.sim_meaning.specs.Statements.{simulation_home}
+use Rattle.sim_meaning.specs.Objects.{putting_reference}
+use Rattle.std.specs.Prelude.{◌≡◌, codes}
+use Rattle.sim_meaning.specs.Examples.{limits, seen, shows}
+use Rattle.sim_code.specs.Transfers.{transferring}
+use Rattle.sim_code.specs.Simulations.{located}
+use Rattle.sim_code.specs.Scheduling.{deciding, performing_activation, performing_process, performing_simulation, pop_block, pop_operand_if}
+use Rattle.sim_code.specs.Sets.{performing_set, pop_given}
+use Rattle.simset.specs.Sets.{cardinal_of, clear, follow, head_of, into, out, precede, pred_of, prev_of, suc_of}
+use Rattle.sim_scope.specs.Calls.{match_seen, own_of, through_connection}
+use Rattle.virtual_match.specs.Matching.{name_of as name_of_virtual}
+use Rattle.sim_code.specs.Virtuals.{counting, matching}
+use Rattle.sim_meaning.specs.Virtuals.{match_at, match_of_text}
+use Rattle.sim_code.specs.Thunks.{locating}
+use Rattle.sim_code.specs.Outcome.{Normal, RunFault}
+use Rattle.sim_code.specs.Formals.{copying_value, each, suiting}
+use Rattle.sim_meaning.specs.Checks.{agrees, copied_for, fits, passed}
+use Rattle.sim_meaning.specs.Meaning.{formal_in_hand}
+use Rattle.sim_base.specs.declared.run_error.RunError.TheVariants.{NoNoticeLeft, OutsideQualification, WrongNumberOfParameters, WrongParameter}
+use Rattle.sim_scope.specs.Levels.{is_in_chain, on_one_chain}
+use Rattle.sim_scope.specs.Operators.{misfit_of}
+use Rattle.sim_meaning.specs.FormalExamples.{WorkedFormals, array_by_name, counted, matched, name_of_a_caller, outside, passed_on, process_itself, references, two_instances}
+
+wrong_number : seen counted (limits 1000 1000) 1000 ≡ shows (codes "   1\n") 10 9 (RunFault WrongNumberOfParameters 6)
+unfolding is_process_itself digits element_place making_array copying_array keeping_array finding_element giving_back handed_over stopping no_rule ticking taking entering having when computing choosing popping pop_many pop_plain pop_truth pop_integers pop_operands pop_text answering applying_one applying_two testing_step performing putting_back assigning making_text joining at_level kept_on pushing index level_of_machine cell_at jumping block_at own_block leaving with_result putting put_back is_text home_of first_cells leaving_of_meaning constants_of putting_of_steps back_of_steps text_constants text_constant is_variable stream_of own_result own_match result_meant is_inside text is_class_free declared_at constant_of calculate compare compare_as_texts connect same_objects same_texts two_of one_of step_test take_integer take_character take_text take_nothing row_of standard_effect default_mode mode_allowed marked type_named result_named mode_named first_of_procedure first_of_class variable_marks array_marks parameter_marks moded_marks specified_marks headed_marks procedure_marks class_marks virtual_name_marks program_marks inner_marks declaring of_segment of_mode_part of_specification of_specifier of_virtual of_heading declared_by declarations_of run_of_runs lookup shown_of_scopes encloser searched block_at_of_scopes declaration_from binding entry_of formals_of formal_of result_of source_of denoted type_at line_at level_of block_of block_around standard_name text_attribute sysin_attribute sysout_attribute signature undeclared program_events of_statement of_branch of_arm of_block of_whole of_class_body of_declaration accessible protects is_kind some_around_of some_around base brought_by level_shows shown_of is_detach ends_search outward virtual_of represented standard_at qualified_marks qualified_result connection_at transfer_at found_at is_attribute qualification class_prefix_marks prefixed_marks prefix_marks standard_marks marks_of_standard standard_prefix standard_texts class_block has_level is_simulation_block some_level_of shows_detach class_formals class_formals_of found_in if_found object_ended pop_object qualifying referring belongs class_at is_in is_of levels levels_of first_along is_this this_block this_of with_entry_at putting_reference transferring has_procedure own_attribute linkage_of_text performing_set pop_given head_of suc_of pred_of prev_of cardinal_of out follow precede into clear brought_marks brings_class provides_attribute process_class simulation_level_of is_process_text stands_in pop_reference not_nothing system_head located deciding performing_activation performing_process performing_simulation pop_block pop_operand_if simulation_home simulation_of match_seen own_of through_connection name_of_virtual counting matching match_at match_of_text by_name is_placed locating suiting each agrees fits passed copying_value copied_for formal_in_hand is_in_chain on_one_chain misfit_of
+wrong_number = refl
+
+wrong_kind : seen passed_on (limits 1000 1000) 1000 ≡ shows (codes " 4\n") 12 9 (RunFault WrongParameter 3)
+unfolding is_process_itself digits element_place making_array copying_array keeping_array finding_element giving_back handed_over stopping no_rule ticking taking entering having when computing choosing popping pop_many pop_plain pop_truth pop_integers pop_operands pop_text answering applying_one applying_two testing_step performing putting_back assigning making_text joining at_level kept_on pushing index level_of_machine cell_at jumping block_at own_block leaving with_result putting put_back is_text home_of first_cells leaving_of_meaning constants_of putting_of_steps back_of_steps text_constants text_constant is_variable stream_of own_result own_match result_meant is_inside text is_class_free declared_at constant_of calculate compare compare_as_texts connect same_objects same_texts two_of one_of step_test take_integer take_character take_text take_nothing row_of standard_effect default_mode mode_allowed marked type_named result_named mode_named first_of_procedure first_of_class variable_marks array_marks parameter_marks moded_marks specified_marks headed_marks procedure_marks class_marks virtual_name_marks program_marks inner_marks declaring of_segment of_mode_part of_specification of_specifier of_virtual of_heading declared_by declarations_of run_of_runs lookup shown_of_scopes encloser searched block_at_of_scopes declaration_from binding entry_of formals_of formal_of result_of source_of denoted type_at line_at level_of block_of block_around standard_name text_attribute sysin_attribute sysout_attribute signature undeclared program_events of_statement of_branch of_arm of_block of_whole of_class_body of_declaration accessible protects is_kind some_around_of some_around base brought_by level_shows shown_of is_detach ends_search outward virtual_of represented standard_at qualified_marks qualified_result connection_at transfer_at found_at is_attribute qualification class_prefix_marks prefixed_marks prefix_marks standard_marks marks_of_standard standard_prefix standard_texts class_block has_level is_simulation_block some_level_of shows_detach class_formals class_formals_of found_in if_found object_ended pop_object qualifying referring belongs class_at is_in is_of levels levels_of first_along is_this this_block this_of with_entry_at putting_reference transferring has_procedure own_attribute linkage_of_text performing_set pop_given head_of suc_of pred_of prev_of cardinal_of out follow precede into clear brought_marks brings_class provides_attribute process_class simulation_level_of is_process_text stands_in pop_reference not_nothing system_head located deciding performing_activation performing_process performing_simulation pop_block pop_operand_if simulation_home simulation_of match_seen own_of through_connection name_of_virtual counting matching match_at match_of_text by_name is_placed locating suiting each agrees fits passed copying_value copied_for formal_in_hand is_in_chain on_one_chain misfit_of
+wrong_kind = refl
+
+wrong_class : seen references (limits 1000 1000) 1000 ≡ shows (codes " 0 3 3\n") 24 38 (RunFault WrongParameter 8)
+unfolding is_process_itself digits element_place making_array copying_array keeping_array finding_element giving_back handed_over stopping no_rule ticking taking entering having when computing choosing popping pop_many pop_plain pop_truth pop_integers pop_operands pop_text answering applying_one applying_two testing_step performing putting_back assigning making_text joining at_level kept_on pushing index level_of_machine cell_at jumping block_at own_block leaving with_result putting put_back is_text home_of first_cells leaving_of_meaning constants_of putting_of_steps back_of_steps text_constants text_constant is_variable stream_of own_result own_match result_meant is_inside text is_class_free declared_at constant_of calculate compare compare_as_texts connect same_objects same_texts two_of one_of step_test take_integer take_character take_text take_nothing row_of standard_effect default_mode mode_allowed marked type_named result_named mode_named first_of_procedure first_of_class variable_marks array_marks parameter_marks moded_marks specified_marks headed_marks procedure_marks class_marks virtual_name_marks program_marks inner_marks declaring of_segment of_mode_part of_specification of_specifier of_virtual of_heading declared_by declarations_of run_of_runs lookup shown_of_scopes encloser searched block_at_of_scopes declaration_from binding entry_of formals_of formal_of result_of source_of denoted type_at line_at level_of block_of block_around standard_name text_attribute sysin_attribute sysout_attribute signature undeclared program_events of_statement of_branch of_arm of_block of_whole of_class_body of_declaration accessible protects is_kind some_around_of some_around base brought_by level_shows shown_of is_detach ends_search outward virtual_of represented standard_at qualified_marks qualified_result connection_at transfer_at found_at is_attribute qualification class_prefix_marks prefixed_marks prefix_marks standard_marks marks_of_standard standard_prefix standard_texts class_block has_level is_simulation_block some_level_of shows_detach class_formals class_formals_of found_in if_found object_ended pop_object qualifying referring belongs class_at is_in is_of levels levels_of first_along is_this this_block this_of with_entry_at putting_reference transferring has_procedure own_attribute linkage_of_text performing_set pop_given head_of suc_of pred_of prev_of cardinal_of out follow precede into clear brought_marks brings_class provides_attribute process_class simulation_level_of is_process_text stands_in pop_reference not_nothing system_head located deciding performing_activation performing_process performing_simulation pop_block pop_operand_if simulation_home simulation_of match_seen own_of through_connection name_of_virtual counting matching match_at match_of_text by_name is_placed locating suiting each agrees fits passed copying_value copied_for formal_in_hand is_in_chain on_one_chain misfit_of
+wrong_class = refl
+
+other_instance : seen two_instances (limits 1000 1000) 1000 ≡ shows (codes "t\n") 16 24 (RunFault WrongParameter 7)
+unfolding is_process_itself digits element_place making_array copying_array keeping_array finding_element giving_back handed_over stopping no_rule ticking taking entering having when computing choosing popping pop_many pop_plain pop_truth pop_integers pop_operands pop_text answering applying_one applying_two testing_step performing putting_back assigning making_text joining at_level kept_on pushing index level_of_machine cell_at jumping block_at own_block leaving with_result putting put_back is_text home_of first_cells leaving_of_meaning constants_of putting_of_steps back_of_steps text_constants text_constant is_variable stream_of own_result own_match result_meant is_inside text is_class_free declared_at constant_of calculate compare compare_as_texts connect same_objects same_texts two_of one_of step_test take_integer take_character take_text take_nothing row_of standard_effect default_mode mode_allowed marked type_named result_named mode_named first_of_procedure first_of_class variable_marks array_marks parameter_marks moded_marks specified_marks headed_marks procedure_marks class_marks virtual_name_marks program_marks inner_marks declaring of_segment of_mode_part of_specification of_specifier of_virtual of_heading declared_by declarations_of run_of_runs lookup shown_of_scopes encloser searched block_at_of_scopes declaration_from binding entry_of formals_of formal_of result_of source_of denoted type_at line_at level_of block_of block_around standard_name text_attribute sysin_attribute sysout_attribute signature undeclared program_events of_statement of_branch of_arm of_block of_whole of_class_body of_declaration accessible protects is_kind some_around_of some_around base brought_by level_shows shown_of is_detach ends_search outward virtual_of represented standard_at qualified_marks qualified_result connection_at transfer_at found_at is_attribute qualification class_prefix_marks prefixed_marks prefix_marks standard_marks marks_of_standard standard_prefix standard_texts class_block has_level is_simulation_block some_level_of shows_detach class_formals class_formals_of found_in if_found object_ended pop_object qualifying referring belongs class_at is_in is_of levels levels_of first_along is_this this_block this_of with_entry_at putting_reference transferring has_procedure own_attribute linkage_of_text performing_set pop_given head_of suc_of pred_of prev_of cardinal_of out follow precede into clear brought_marks brings_class provides_attribute process_class simulation_level_of is_process_text stands_in pop_reference not_nothing system_head located deciding performing_activation performing_process performing_simulation pop_block pop_operand_if simulation_home simulation_of match_seen own_of through_connection name_of_virtual counting matching match_at match_of_text by_name is_placed locating suiting each agrees fits passed copying_value copied_for formal_in_hand is_in_chain on_one_chain misfit_of
+other_instance = refl
+
+wrong_type : seen matched (limits 1000 1000) 1000 ≡ shows (codes " 7 5\n") 11 9 (RunFault WrongParameter 8)
+unfolding is_process_itself digits element_place making_array copying_array keeping_array finding_element giving_back handed_over stopping no_rule ticking taking entering having when computing choosing popping pop_many pop_plain pop_truth pop_integers pop_operands pop_text answering applying_one applying_two testing_step performing putting_back assigning making_text joining at_level kept_on pushing index level_of_machine cell_at jumping block_at own_block leaving with_result putting put_back is_text home_of first_cells leaving_of_meaning constants_of putting_of_steps back_of_steps text_constants text_constant is_variable stream_of own_result own_match result_meant is_inside text is_class_free declared_at constant_of calculate compare compare_as_texts connect same_objects same_texts two_of one_of step_test take_integer take_character take_text take_nothing row_of standard_effect default_mode mode_allowed marked type_named result_named mode_named first_of_procedure first_of_class variable_marks array_marks parameter_marks moded_marks specified_marks headed_marks procedure_marks class_marks virtual_name_marks program_marks inner_marks declaring of_segment of_mode_part of_specification of_specifier of_virtual of_heading declared_by declarations_of run_of_runs lookup shown_of_scopes encloser searched block_at_of_scopes declaration_from binding entry_of formals_of formal_of result_of source_of denoted type_at line_at level_of block_of block_around standard_name text_attribute sysin_attribute sysout_attribute signature undeclared program_events of_statement of_branch of_arm of_block of_whole of_class_body of_declaration accessible protects is_kind some_around_of some_around base brought_by level_shows shown_of is_detach ends_search outward virtual_of represented standard_at qualified_marks qualified_result connection_at transfer_at found_at is_attribute qualification class_prefix_marks prefixed_marks prefix_marks standard_marks marks_of_standard standard_prefix standard_texts class_block has_level is_simulation_block some_level_of shows_detach class_formals class_formals_of found_in if_found object_ended pop_object qualifying referring belongs class_at is_in is_of levels levels_of first_along is_this this_block this_of with_entry_at putting_reference transferring has_procedure own_attribute linkage_of_text performing_set pop_given head_of suc_of pred_of prev_of cardinal_of out follow precede into clear brought_marks brings_class provides_attribute process_class simulation_level_of is_process_text stands_in pop_reference not_nothing system_head located deciding performing_activation performing_process performing_simulation pop_block pop_operand_if simulation_home simulation_of match_seen own_of through_connection name_of_virtual counting matching match_at match_of_text by_name is_placed locating suiting each agrees fits passed copying_value copied_for formal_in_hand is_in_chain on_one_chain misfit_of
+wrong_type = refl
+
+sum_by_name : seen array_by_name (limits 1000 1000) 1000 ≡ shows (codes "  9\n") 20 12 Normal
+unfolding is_process_itself digits element_place making_array copying_array keeping_array finding_element giving_back handed_over stopping no_rule ticking taking entering having when computing choosing popping pop_many pop_plain pop_truth pop_integers pop_operands pop_text answering applying_one applying_two testing_step performing putting_back assigning making_text joining at_level kept_on pushing index level_of_machine cell_at jumping block_at own_block leaving with_result putting put_back is_text home_of first_cells leaving_of_meaning constants_of putting_of_steps back_of_steps text_constants text_constant is_variable stream_of own_result own_match result_meant is_inside text is_class_free declared_at constant_of calculate compare compare_as_texts connect same_objects same_texts two_of one_of step_test take_integer take_character take_text take_nothing row_of standard_effect default_mode mode_allowed marked type_named result_named mode_named first_of_procedure first_of_class variable_marks array_marks parameter_marks moded_marks specified_marks headed_marks procedure_marks class_marks virtual_name_marks program_marks inner_marks declaring of_segment of_mode_part of_specification of_specifier of_virtual of_heading declared_by declarations_of run_of_runs lookup shown_of_scopes encloser searched block_at_of_scopes declaration_from binding entry_of formals_of formal_of result_of source_of denoted type_at line_at level_of block_of block_around standard_name text_attribute sysin_attribute sysout_attribute signature undeclared program_events of_statement of_branch of_arm of_block of_whole of_class_body of_declaration accessible protects is_kind some_around_of some_around base brought_by level_shows shown_of is_detach ends_search outward virtual_of represented standard_at qualified_marks qualified_result connection_at transfer_at found_at is_attribute qualification class_prefix_marks prefixed_marks prefix_marks standard_marks marks_of_standard standard_prefix standard_texts class_block has_level is_simulation_block some_level_of shows_detach class_formals class_formals_of found_in if_found object_ended pop_object qualifying referring belongs class_at is_in is_of levels levels_of first_along is_this this_block this_of with_entry_at putting_reference transferring has_procedure own_attribute linkage_of_text performing_set pop_given head_of suc_of pred_of prev_of cardinal_of out follow precede into clear brought_marks brings_class provides_attribute process_class simulation_level_of is_process_text stands_in pop_reference not_nothing system_head located deciding performing_activation performing_process performing_simulation pop_block pop_operand_if simulation_home simulation_of match_seen own_of through_connection name_of_virtual counting matching match_at match_of_text by_name is_placed locating suiting each agrees fits passed copying_value copied_for formal_in_hand is_in_chain on_one_chain misfit_of
+sum_by_name = refl
+
+outside_class : seen outside (limits 1000 1000) 1000 ≡ shows (codes "t 1\n") 16 17 (RunFault OutsideQualification 7)
+unfolding is_process_itself digits element_place making_array copying_array keeping_array finding_element giving_back handed_over stopping no_rule ticking taking entering having when computing choosing popping pop_many pop_plain pop_truth pop_integers pop_operands pop_text answering applying_one applying_two testing_step performing putting_back assigning making_text joining at_level kept_on pushing index level_of_machine cell_at jumping block_at own_block leaving with_result putting put_back is_text home_of first_cells leaving_of_meaning constants_of putting_of_steps back_of_steps text_constants text_constant is_variable stream_of own_result own_match result_meant is_inside text is_class_free declared_at constant_of calculate compare compare_as_texts connect same_objects same_texts two_of one_of step_test take_integer take_character take_text take_nothing row_of standard_effect default_mode mode_allowed marked type_named result_named mode_named first_of_procedure first_of_class variable_marks array_marks parameter_marks moded_marks specified_marks headed_marks procedure_marks class_marks virtual_name_marks program_marks inner_marks declaring of_segment of_mode_part of_specification of_specifier of_virtual of_heading declared_by declarations_of run_of_runs lookup shown_of_scopes encloser searched block_at_of_scopes declaration_from binding entry_of formals_of formal_of result_of source_of denoted type_at line_at level_of block_of block_around standard_name text_attribute sysin_attribute sysout_attribute signature undeclared program_events of_statement of_branch of_arm of_block of_whole of_class_body of_declaration accessible protects is_kind some_around_of some_around base brought_by level_shows shown_of is_detach ends_search outward virtual_of represented standard_at qualified_marks qualified_result connection_at transfer_at found_at is_attribute qualification class_prefix_marks prefixed_marks prefix_marks standard_marks marks_of_standard standard_prefix standard_texts class_block has_level is_simulation_block some_level_of shows_detach class_formals class_formals_of found_in if_found object_ended pop_object qualifying referring belongs class_at is_in is_of levels levels_of first_along is_this this_block this_of with_entry_at putting_reference transferring has_procedure own_attribute linkage_of_text performing_set pop_given head_of suc_of pred_of prev_of cardinal_of out follow precede into clear brought_marks brings_class provides_attribute process_class simulation_level_of is_process_text stands_in pop_reference not_nothing system_head located deciding performing_activation performing_process performing_simulation pop_block pop_operand_if simulation_home simulation_of match_seen own_of through_connection name_of_virtual counting matching match_at match_of_text by_name is_placed locating suiting each agrees fits passed copying_value copied_for formal_in_hand is_in_chain on_one_chain misfit_of
+outside_class = refl
+
+home_of_caller : seen name_of_a_caller (limits 1000 1000) 1000 ≡ shows (codes "a 6\n") 14 7 Normal
+unfolding is_process_itself digits element_place making_array copying_array keeping_array finding_element giving_back handed_over stopping no_rule ticking taking entering having when computing choosing popping pop_many pop_plain pop_truth pop_integers pop_operands pop_text answering applying_one applying_two testing_step performing putting_back assigning making_text joining at_level kept_on pushing index level_of_machine cell_at jumping block_at own_block leaving with_result putting put_back is_text home_of first_cells leaving_of_meaning constants_of putting_of_steps back_of_steps text_constants text_constant is_variable stream_of own_result own_match result_meant is_inside text is_class_free declared_at constant_of calculate compare compare_as_texts connect same_objects same_texts two_of one_of step_test take_integer take_character take_text take_nothing row_of standard_effect default_mode mode_allowed marked type_named result_named mode_named first_of_procedure first_of_class variable_marks array_marks parameter_marks moded_marks specified_marks headed_marks procedure_marks class_marks virtual_name_marks program_marks inner_marks declaring of_segment of_mode_part of_specification of_specifier of_virtual of_heading declared_by declarations_of run_of_runs lookup shown_of_scopes encloser searched block_at_of_scopes declaration_from binding entry_of formals_of formal_of result_of source_of denoted type_at line_at level_of block_of block_around standard_name text_attribute sysin_attribute sysout_attribute signature undeclared program_events of_statement of_branch of_arm of_block of_whole of_class_body of_declaration accessible protects is_kind some_around_of some_around base brought_by level_shows shown_of is_detach ends_search outward virtual_of represented standard_at qualified_marks qualified_result connection_at transfer_at found_at is_attribute qualification class_prefix_marks prefixed_marks prefix_marks standard_marks marks_of_standard standard_prefix standard_texts class_block has_level is_simulation_block some_level_of shows_detach class_formals class_formals_of found_in if_found object_ended pop_object qualifying referring belongs class_at is_in is_of levels levels_of first_along is_this this_block this_of with_entry_at putting_reference transferring has_procedure own_attribute linkage_of_text performing_set pop_given head_of suc_of pred_of prev_of cardinal_of out follow precede into clear brought_marks brings_class provides_attribute process_class simulation_level_of is_process_text stands_in pop_reference not_nothing system_head located deciding performing_activation performing_process performing_simulation pop_block pop_operand_if simulation_home simulation_of match_seen own_of through_connection name_of_virtual counting matching match_at match_of_text by_name is_placed locating suiting each agrees fits passed copying_value copied_for formal_in_hand is_in_chain on_one_chain misfit_of
+home_of_caller = refl
+
+generated_at : seen process_itself (limits 1000 1000) 1000 ≡ shows (codes "") 4 12 (RunFault NoNoticeLeft 2)
+unfolding is_process_itself digits element_place making_array copying_array keeping_array finding_element giving_back handed_over stopping no_rule ticking taking entering having when computing choosing popping pop_many pop_plain pop_truth pop_integers pop_operands pop_text answering applying_one applying_two testing_step performing putting_back assigning making_text joining at_level kept_on pushing index level_of_machine cell_at jumping block_at own_block leaving with_result putting put_back is_text home_of first_cells leaving_of_meaning constants_of putting_of_steps back_of_steps text_constants text_constant is_variable stream_of own_result own_match result_meant is_inside text is_class_free declared_at constant_of calculate compare compare_as_texts connect same_objects same_texts two_of one_of step_test take_integer take_character take_text take_nothing row_of standard_effect default_mode mode_allowed marked type_named result_named mode_named first_of_procedure first_of_class variable_marks array_marks parameter_marks moded_marks specified_marks headed_marks procedure_marks class_marks virtual_name_marks program_marks inner_marks declaring of_segment of_mode_part of_specification of_specifier of_virtual of_heading declared_by declarations_of run_of_runs lookup shown_of_scopes encloser searched block_at_of_scopes declaration_from binding entry_of formals_of formal_of result_of source_of denoted type_at line_at level_of block_of block_around standard_name text_attribute sysin_attribute sysout_attribute signature undeclared program_events of_statement of_branch of_arm of_block of_whole of_class_body of_declaration accessible protects is_kind some_around_of some_around base brought_by level_shows shown_of is_detach ends_search outward virtual_of represented standard_at qualified_marks qualified_result connection_at transfer_at found_at is_attribute qualification class_prefix_marks prefixed_marks prefix_marks standard_marks marks_of_standard standard_prefix standard_texts class_block has_level is_simulation_block some_level_of shows_detach class_formals class_formals_of found_in if_found object_ended pop_object qualifying referring belongs class_at is_in is_of levels levels_of first_along is_this this_block this_of with_entry_at putting_reference transferring has_procedure own_attribute linkage_of_text performing_set pop_given head_of suc_of pred_of prev_of cardinal_of out follow precede into clear brought_marks brings_class provides_attribute process_class simulation_level_of is_process_text stands_in pop_reference not_nothing system_head located deciding performing_activation performing_process performing_simulation pop_block pop_operand_if simulation_home simulation_of match_seen own_of through_connection name_of_virtual counting matching match_at match_of_text by_name is_placed locating suiting each agrees fits passed copying_value copied_for formal_in_hand is_in_chain on_one_chain misfit_of
+generated_at = refl
+
+pub worked_formals : WorkedFormals
+worked_formals = record {
+  wrong_number = wrong_number;
+  wrong_kind = wrong_kind;
+  wrong_class = wrong_class;
+  other_instance = other_instance;
+  wrong_type = wrong_type;
+  sum_by_name = sum_by_name;
+  outside_class = outside_class;
+  home_of_caller = home_of_caller;
+  generated_at = generated_at;
+}
