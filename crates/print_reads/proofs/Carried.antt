@@ -267,8 +267,8 @@ then {xs} {ys} {zs} {us} e f = ap (λ z. z ++ zs) e ∙ ap (λ z. ys ++ z) f
 pub last : {xs ys : List Lexeme} → xs ≡ ys → xs ≡ ys ++ []
 last {xs} {ys} e = e ∙ sym (append-nil ys)
 
-pub c : (x : Lexeme) {xs ys : List Lexeme} → xs ≡ ys → x ∷ xs ≡ x ∷ ys
-c x e = ap (λ z. x ∷ z) e
+pub lead : (x : Lexeme) {xs ys : List Lexeme} → xs ≡ ys → x ∷ xs ≡ x ∷ ys
+lead x e = ap (λ z. x ∷ z) e
 
 pub ap2 : {A B C : Type 0} (f : A → B → C) {a x : A} {b y : B} → a ≡ x → b ≡ y → f a b ≡ f x y
 ap2 f {x = x} {b = b} e h = ap (λ z. f z b) e ∙ ap (f x) h

@@ -15,7 +15,7 @@ use Rattle.sim_print.specs.Tokens.{name, one}
 use Rattle.sim_print.specs.Unnumbered as u
 use Rattle.print_reads.proofs.ReadBack as r
 use Rattle.print_reads.proofs.ReadBack.{Contents, Item, item_of}
-use Rattle.print_reads.proofs.Carried.{Carried, IsProtecting, Lists, SameContents, actuals, also, any, ap2, ap3, begun, behind, body, c, class, contents_tokens, declaration, ended, head, here, here_at, here_else, inside, kept, kind, last, led, mark, names, no_more, none, of_name, of_type, only, part, procedure, protecting, statement, then, unless, virtuals, whole}
+use Rattle.print_reads.proofs.Carried.{Carried, IsProtecting, Lists, SameContents, actuals, also, any, ap2, ap3, begun, behind, body, lead, class, contents_tokens, declaration, ended, head, here, here_at, here_else, inside, kept, kind, last, led, mark, names, no_more, none, of_name, of_type, only, part, procedure, protecting, statement, then, unless, virtuals, whole}
 use Rattle.print_reads.proofs.CarriedExpressions.{Gives}
 
 -- ---- procedures and classes
@@ -30,21 +30,21 @@ procedure_part _ _ _ _ here_else (kept i j {held = held} only (part (head f h) (
 pub hidden : (l m : List Item) (ls : List Lexeme) → Lists (Kept (k.Hidden ∷ []) ∷ Of Maybe g.AndProtected ∷ Of Once g.Identifiers ∷ Mark k.Semicolon ∷ []) l m ls
     → Carried IsProtecting (item_of g.Protection l) (item_of g.Protection m) ls
 hidden l m ls (kept i j only (part (also e) (part (names e' h) (mark none)))) =
-    protecting (c (bare k.Hidden) (then e (then e' refl))) (ap (λ xs. let z : Protected = record { hidden = Some 0; protected = Some 0; names = xs } in z) h)
+    protecting (lead (bare k.Hidden) (then e (then e' refl))) (ap (λ xs. let z : Protected = record { hidden = Some 0; protected = Some 0; names = xs } in z) h)
 hidden l m ls (kept i j only (unless (part (names e h) (mark none)))) =
-    protecting (c (bare k.Hidden) (then e refl)) (ap (λ xs. let z : Protected = record { hidden = Some 0; protected = None; names = xs } in z) h)
+    protecting (lead (bare k.Hidden) (then e refl)) (ap (λ xs. let z : Protected = record { hidden = Some 0; protected = None; names = xs } in z) h)
 
 -- or protects alone
 pub protected : (l m : List Item) (ls : List Lexeme) → Lists (Kept (k.Protected ∷ []) ∷ Of Once g.Identifiers ∷ Mark k.Semicolon ∷ []) l m ls
     → Carried IsProtecting (item_of g.Protection l) (item_of g.Protection m) ls
 protected l m ls (kept i j only (part (names e h) (mark none))) =
-    protecting (c (bare k.Protected) (then e refl)) (ap (λ xs. let z : Protected = record { hidden = None; protected = Some 0; names = xs } in z) h)
+    protecting (lead (bare k.Protected) (then e refl)) (ap (λ xs. let z : Protected = record { hidden = None; protected = Some 0; names = xs } in z) h)
 
 -- or both, the other way round in the first
 pub both_ways : (i j i' j' : ℕ) (held held' : TokenValue) (l m : List Item) (ls : List Lexeme) → Lists (Of Once g.Identifiers ∷ Mark k.Semicolon ∷ []) l m ls
     → Carried IsProtecting (item_of g.Protection (r.Tok i k.Protected held ∷ r.Also j ∷ l)) (item_of g.Protection (r.Tok i' k.Hidden held' ∷ r.Also j' ∷ m)) (bare k.Hidden ∷ bare k.Protected ∷ ls)
 both_ways i j i' j' held held' l m ls (part (names e h) (mark none)) =
-    protecting (c (bare k.Hidden) (c (bare k.Protected) (then e refl))) (ap (λ xs. let z : Protected = record { hidden = Some 0; protected = Some 0; names = xs } in z) h)
+    protecting (lead (bare k.Hidden) (lead (bare k.Protected) (then e refl))) (ap (λ xs. let z : Protected = record { hidden = Some 0; protected = Some 0; names = xs } in z) h)
 
 abbrev interface_in : List Item → Interface
 interface_in l = record { protections = r.protections l; virtuals = r.virtuals l }
@@ -90,8 +90,8 @@ class_part _ _ _ _ here_else (kept i j {held = held} only (part (head f h) q)) =
 
 pub declaration_part : Gives g.Declaration
 declaration_part _ _ _ _ here_at (part (kind {a = a} {b = b} e h) (part (of_type f i) none)) = declaration (f a ∙ then e (last refl)) (i a b h)
-declaration_part _ _ _ _ (behind here_at) (kept i j only (part (procedure f h) none)) = declaration (f None i ∙ c (bare k.Procedure) (last refl)) (h None None i j refl)
-declaration_part _ _ _ _ (behind (behind here_at)) (kept i j only (part (class f h) none)) = declaration (f None i ∙ c (bare k.Class) (last refl)) (h None None i j refl)
+declaration_part _ _ _ _ (behind here_at) (kept i j only (part (procedure f h) none)) = declaration (f None i ∙ lead (bare k.Procedure) (last refl)) (h None None i j refl)
+declaration_part _ _ _ _ (behind (behind here_at)) (kept i j only (part (class f h) none)) = declaration (f None i ∙ lead (bare k.Class) (last refl)) (h None None i j refl)
 
 -- ---- blocks
 
@@ -136,7 +136,7 @@ after_identifier _ _ _ _ (behind here_else) (part {l = l} {m = m} (begun {f = f}
 
 pub compound : Gives g.Compound
 compound _ _ _ _ here_at (kept i j only (any (part (inside e h) none))) =
-    body (c (bare k.Begin) (last e)) (ap2 (λ ds xs. s.Begin 0 ds xs 0) h.declarations h.statements)
+    body (lead (bare k.Begin) (last e)) (ap2 (λ ds xs. s.Begin 0 ds xs 0) h.declarations h.statements)
 
 -- ---- programs
 

@@ -19,7 +19,7 @@ use Rattle.sim_print.specs.Tokens.{behind_comma, name, one}
 use Rattle.sim_print.specs.Unnumbered as u
 use Rattle.print_reads.proofs.ReadBack as r
 use Rattle.print_reads.proofs.ReadBack.{Item, item_of}
-use Rattle.print_reads.proofs.Carried.{Carried, InRows, Lists, also, ap2, ap3, behind, bound, c, const, first, head, here_at, here_else, kept, kind, kind_of, last, later, mark, moding, names, next_bound, next_name, next_segment, next_variable, no_more, none, of_type, only, part, procedure, segment, sort, specifying, then, unless, value, valued, variable, virtually, virtuals}
+use Rattle.print_reads.proofs.Carried.{Carried, InRows, Lists, also, ap2, ap3, behind, bound, lead, const, first, head, here_at, here_else, kept, kind, kind_of, last, later, mark, moding, names, next_bound, next_name, next_segment, next_variable, no_more, none, of_type, only, part, procedure, segment, sort, specifying, then, unless, value, valued, variable, virtually, virtuals}
 use Rattle.print_reads.proofs.CarriedExpressions.{Gives}
 
 -- ---- names
@@ -67,7 +67,7 @@ constant_part _ _ _ _ (behind here_at) (kept i j (later (later (later first))) n
 constant_part _ _ _ _ (behind here_at) (kept i j (later (later (later (later only)))) none) = const refl refl
 
 pub value_part : Gives g.Value
-value_part _ _ _ _ here_at (mark (part (const e h) none)) = valued (c (bare k.Equal) (last e)) h
+value_part _ _ _ _ here_at (mark (part (const e h) none)) = valued (lead (bare k.Equal) (last e)) h
 
 abbrev variable_with : Identifier → Option Constant → Variable
 variable_with x held = record { name = x; value = held }
@@ -79,7 +79,7 @@ variable_part _ _ _ _ here_at (kept i j {held = held} only (part (valued e h) no
 variable_part _ _ _ _ here_at (kept i j only (unless none)) = variable refl refl
 
 pub next_variable_part : Gives g.NextVariable
-next_variable_part _ _ _ _ here_at (mark (part (variable e h) none)) = next_variable (c (bare k.Comma) (last e)) h
+next_variable_part _ _ _ _ here_at (mark (part (variable e h) none)) = next_variable (lead (bare k.Comma) (last e)) h
 
 more_variables : {l m : List Item} {ls : List Lexeme} → Lists (Of Many g.NextVariable ∷ []) l m ls
     → (each (behind_comma token.variable_tokens) (r.variables l) ≡ ls) × (map u.variable (r.variables l) ≡ map u.variable (r.variables m))
@@ -90,10 +90,10 @@ more_variables (no_more none) = (refl, refl)
 
 pub bounds_part : Gives g.Bounds
 bounds_part _ _ _ _ here_else (part (value e h) (mark (part (value e' h') none))) =
-    bound (then e (c (bare k.Colon) (last e'))) (ap2 (λ x y. let z : BoundPair = record { lower = x; upper = y } in z) h h')
+    bound (then e (lead (bare k.Colon) (last e'))) (ap2 (λ x y. let z : BoundPair = record { lower = x; upper = y } in z) h h')
 
 pub next_bounds_part : Gives g.NextBounds
-next_bounds_part _ _ _ _ here_at (mark (part (bound e h) none)) = next_bound (c (bare k.Comma) (last e)) h
+next_bounds_part _ _ _ _ here_at (mark (part (bound e h) none)) = next_bound (lead (bare k.Comma) (last e)) h
 
 more_bounds : {l m : List Item} {ls : List Lexeme} → Lists (Of Many g.NextBounds ∷ Mark k.Close ∷ []) l m ls
     → (each (behind_comma token.bound_tokens) (r.bounds l) ++ one k.Close ≡ ls) × (map u.bounds (r.bounds l) ≡ map u.bounds (r.bounds m))
@@ -105,11 +105,11 @@ more_bounds (no_more (mark none)) = (refl, refl)
 pub array_segment : Gives g.ArraySegment
 array_segment _ _ _ _ here_else (part (names e h) (mark (part {l = l} (bound {a = b} e' h') q))) =
     let more = more_bounds q in
-    segment (then e (c (bare k.Open) (append_assoc (token.bound_tokens b) (each (behind_comma token.bound_tokens) (r.bounds l)) (one k.Close) ∙ then e' more.0)))
+    segment (then e (lead (bare k.Open) (append_assoc (token.bound_tokens b) (each (behind_comma token.bound_tokens) (r.bounds l)) (one k.Close) ∙ then e' more.0)))
     (ap3 (λ xs y ys. let z : Arrayed = record { names = xs; bounds = y ∷ ys } in z) h h' more.1)
 
 pub next_array_segment : Gives g.NextArraySegment
-next_array_segment _ _ _ _ here_at (mark (part (segment e h) none)) = next_segment (c (bare k.Comma) (last e)) h
+next_array_segment _ _ _ _ here_at (mark (part (segment e h) none)) = next_segment (lead (bare k.Comma) (last e)) h
 
 more_segments : {l m : List Item} {ls : List Lexeme} → Lists (Of Many g.NextArraySegment ∷ []) l m ls
     → (each (behind_comma token.array_tokens) (r.segments l) ≡ ls) × (map u.arrays (r.segments l) ≡ map u.arrays (r.segments m))
@@ -133,9 +133,9 @@ moded m xs = record { token = 0; mode = m.mode; names = xs }
 
 pub mode : Gives g.Mode
 mode _ _ _ _ here_at (kept i j first (part {ls = ls} (names e h) (mark none))) =
-    moding (c (bare k.Value) (then e refl)) (ap (λ xs. moded (r.mode_of (r.Tok i k.Value token_value.Absent ∷ [])) xs) h)
+    moding (lead (bare k.Value) (then e refl)) (ap (λ xs. moded (r.mode_of (r.Tok i k.Value token_value.Absent ∷ [])) xs) h)
 mode _ _ _ _ here_at (kept i j (later only) (part (names e h) (mark none))) =
-    moding (c (bare k.Name) (then e refl)) (ap (λ xs. moded (r.mode_of (r.Tok i k.Name token_value.Absent ∷ [])) xs) h)
+    moding (lead (bare k.Name) (then e refl)) (ap (λ xs. moded (r.mode_of (r.Tok i k.Name token_value.Absent ∷ [])) xs) h)
 
 pub specified_kind : Gives g.SpecifiedKind
 specified_kind _ _ _ _ here_at (kept i j first none) = kind_of (λ t. refl) (λ a b same. ap (λ t. s.Array t 0) same)
@@ -150,7 +150,7 @@ specification _ _ _ _ here_at (part {front = w} (kind {a = a} {b = b} e h) (part
 specification _ _ _ _ here_at (part (kind e h) (unless (part (names e' h') (mark none)))) =
     specifying (then e (then e' refl)) (ap2 (λ t xs. specification_with (s.Simple t) xs) h h')
 specification _ _ _ _ (behind here_at) (kept i j only (part (names e h) (mark none))) =
-    specifying (c (bare k.Procedure) (then e refl)) (ap (specification_with (s.Procedure None 0)) h)
+    specifying (lead (bare k.Procedure) (then e refl)) (ap (specification_with (s.Procedure None 0)) h)
 
 -- the specifications of a heading
 more_specifications : {l m : List Item} {ls : List Lexeme} → Lists (Of Many g.Specification ∷ []) l m ls
@@ -205,9 +205,9 @@ virtual_with result xs = record { result = result; token = 0; names = xs }
 
 pub virtual_specification : Gives g.VirtualSpecification
 virtual_specification _ _ _ _ here_at (part (kind e h) (kept i j only (part (names e' h') (mark none)))) =
-    virtually (then e (c (bare k.Procedure) (then e' refl))) (ap2 (λ t xs. virtual_with (Some t) xs) h h')
+    virtually (then e (lead (bare k.Procedure) (then e' refl))) (ap2 (λ t xs. virtual_with (Some t) xs) h h')
 virtual_specification _ _ _ _ (behind here_at) (kept i j only (part (names e h) (mark none))) =
-    virtually (c (bare k.Procedure) (then e refl)) (ap (virtual_with None) h)
+    virtually (lead (bare k.Procedure) (then e refl)) (ap (virtual_with None) h)
 
 more_virtuals : {l m : List Item} {ls : List Lexeme} → Lists (Of Many g.VirtualSpecification ∷ []) l m ls
     → (each token.virtual_tokens (r.each_virtual l) ≡ ls) × (map u.virtually (r.each_virtual l) ≡ map u.virtually (r.each_virtual m))
@@ -217,4 +217,4 @@ more_virtuals (no_more none) = (refl, refl)
 pub virtuals_part : Gives g.Virtuals
 virtuals_part _ _ _ _ here_at (mark (mark (part (virtually e h) q))) =
     let more = more_virtuals q in
-    virtuals (c (bare k.Virtual) (c (bare k.Colon) (then e more.0))) (ap2 (λ x xs. x ∷ xs) h more.1)
+    virtuals (lead (bare k.Virtual) (lead (bare k.Colon) (then e more.0))) (ap2 (λ x xs. x ∷ xs) h more.1)

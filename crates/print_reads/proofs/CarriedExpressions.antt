@@ -18,7 +18,7 @@ use Rattle.sim_print.specs.Tokens.{name, one, operator_kind}
 use Rattle.sim_print.specs.Unnumbered as u
 use Rattle.print_reads.proofs.ReadBack as r
 use Rattle.print_reads.proofs.ReadBack.{Item, item_of}
-use Rattle.print_reads.proofs.Carried.{Carried, Each, InRows, IsStep, IsValue, Lists, actuals, ap2, ap3, behind, c, each_more, each_none, first, front, here_at, here_else, kept, last, later, many, mark, next_value, none, only, part, perhaps, sort, unless, no_more, step, then, value}
+use Rattle.print_reads.proofs.Carried.{Carried, Each, InRows, IsStep, IsValue, Lists, actuals, ap2, ap3, behind, lead, each_more, each_none, first, front, here_at, here_else, kept, last, later, many, mark, next_value, none, only, part, perhaps, sort, unless, no_more, step, then, value}
 
 -- What a part gives, in both derivations.
 abbrev pub Gives : Part → Type 0
@@ -44,7 +44,7 @@ level {ls = ls} (value {a = a} {b = b} e h) q =
 
 operated : (x : Operator) {i j : ℕ} {a b : Expression} {l : List Lexeme} → token.expression a ≡ l → u.expression a ≡ u.expression b
     → Carried IsStep (r.Step (λ e. s.Binary x i e a)) (r.Step (λ e. s.Binary x j e b)) (bare (operator_kind x) ∷ (l ++ []))
-operated x e h = step (λ z. ap (λ w. token.expression z ++ w) (c (bare (operator_kind x)) (last e))) (λ a b same. ap2 (λ v w. s.Binary x 0 v w) same h)
+operated x e h = step (λ z. ap (λ w. token.expression z ++ w) (lead (bare (operator_kind x)) (last e))) (λ a b same. ap2 (λ v w. s.Binary x 0 v w) same h)
 
 pub or_else : Gives g.NextOrElse
 or_else _ _ _ _ here_at (kept i j only (part (value e h) none)) = operated o.OrElse e h
@@ -159,10 +159,10 @@ further (part (next_value e h) q) = let more = further q in (then e more.0, ap2 
 further (no_more (mark none)) = (refl, refl)
 
 pub arguments : Gives g.Arguments
-arguments _ _ _ _ here_at (mark (part (value e h) q)) = let more = further q in actuals (c (bare k.Open) (then e more.0)) (ap2 s.Then h more.1)
+arguments _ _ _ _ here_at (mark (part (value e h) q)) = let more = further q in actuals (lead (bare k.Open) (then e more.0)) (ap2 s.Then h more.1)
 
 pub next_argument : Gives g.NextArgument
-next_argument _ _ _ _ here_at (mark (part (value e h) none)) = next_value (c (bare k.Comma) (last e)) h
+next_argument _ _ _ _ here_at (mark (part (value e h) none)) = next_value (lead (bare k.Comma) (last e)) h
 
 abbrev pub BothActuals : List Item → List Item → List Lexeme → Type 0
 BothActuals l m ls = (token.actuals (r.actuals l) ≡ ls) × (u.expressions (r.actuals l) ≡ u.expressions (r.actuals m))
@@ -197,9 +197,9 @@ primary _ _ _ _ (behind (behind (behind here_at))) (kept i j only (kept i' j' {h
     let args = given q in
     value (ap (λ z. one k.New ++ (name (r.named_by i' (bytes_of held)) ++ z)) args.0) (ap (λ z. s.New 0 (u.identifier (r.named_by 0 (bytes_of held))) z) args.1)
 primary _ _ _ _ (behind (behind (behind (behind here_at)))) (kept i j only (part (value e h) (mark none))) =
-    value (c (bare k.Open) (then e refl)) (ap (λ z. s.Parentheses 0 z) h)
+    value (lead (bare k.Open) (then e refl)) (ap (λ z. s.Parentheses 0 z) h)
 
 pub expression : Gives g.Expression
 expression _ _ _ _ here_at (kept i j only (part (value e h) (mark (part (value e' h') (mark (part (value e'' h'') none)))))) =
-    value (c (bare k.If) (then e (c (bare k.Then) (then e' (c (bare k.Else) (last e'')))))) (ap3 (λ x y z. s.If 0 x y z) h h' h'')
+    value (lead (bare k.If) (then e (lead (bare k.Then) (then e' (lead (bare k.Else) (last e'')))))) (ap3 (λ x y z. s.If 0 x y z) h h' h'')
 expression _ _ _ _ (behind here_at) (part (value e h) none) = value (last e) h

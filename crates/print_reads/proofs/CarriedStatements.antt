@@ -19,26 +19,26 @@ use Rattle.sim_print.specs.Tokens.{behind_comma, name, one}
 use Rattle.sim_print.specs.Unnumbered as u
 use Rattle.print_reads.proofs.ReadBack as r
 use Rattle.print_reads.proofs.ReadBack.{Contents, Item, item_of}
-use Rattle.print_reads.proofs.Carried.{Carried, Lists, actuals, after_operand, also, ap2, ap3, arm, begun, behind, body, c, doing, element, first, for_part, here, here_at, here_else, kept, last, later, led, mark, next_element, no_more, none, only, part, side, sort, statement, step, tail, then, timed, unless, value, whens}
+use Rattle.print_reads.proofs.Carried.{Carried, Lists, actuals, after_operand, also, ap2, ap3, arm, begun, behind, body, lead, doing, element, first, for_part, here, here_at, here_else, kept, last, later, led, mark, next_element, no_more, none, only, part, side, sort, statement, step, tail, then, timed, unless, value, whens}
 use Rattle.print_reads.proofs.CarriedExpressions.{Gives}
 
 -- ---- parts of statements
 
 pub assigned : Gives g.Assigned
 assigned _ _ _ _ here_at (kept i j first (part (value e h) none)) =
-    side (c (bare k.Assign) (last e)) (ap (λ z. let x : RightSide = record { sign = assignment.Value; token = 0; value = z } in x) h)
+    side (lead (bare k.Assign) (last e)) (ap (λ z. let x : RightSide = record { sign = assignment.Value; token = 0; value = z } in x) h)
 assigned _ _ _ _ here_at (kept i j (later only) (part (value e h) none)) =
-    side (c (bare k.AssignReference) (last e)) (ap (λ z. let x : RightSide = record { sign = assignment.Reference; token = 0; value = z } in x) h)
+    side (lead (bare k.AssignReference) (last e)) (ap (λ z. let x : RightSide = record { sign = assignment.Reference; token = 0; value = z } in x) h)
 
 pub for_element_tail : Gives g.ForElementTail
 for_element_tail _ _ _ _ here_at (kept i j only (part (value e h) (mark (part (value e' h') none)))) =
-    tail (λ x. ap (λ z. token.expression x ++ z) (c (bare k.Step) (then e (c (bare k.Until) (last e'))))) (λ a b same. ap3 (λ x y z. s.Step x 0 y z) same h h')
+    tail (λ x. ap (λ z. token.expression x ++ z) (lead (bare k.Step) (then e (lead (bare k.Until) (last e'))))) (λ a b same. ap3 (λ x y z. s.Step x 0 y z) same h h')
 for_element_tail _ _ _ _ (behind here_at) (kept i j only (part (value e h) none)) =
-    tail (λ x. ap (λ z. token.expression x ++ z) (c (bare k.While) (last e))) (λ a b same. ap2 (λ x y. s.While x 0 y) same h)
+    tail (λ x. ap (λ z. token.expression x ++ z) (lead (bare k.While) (last e))) (λ a b same. ap2 (λ x y. s.While x 0 y) same h)
 
 pub reference_element_tail : Gives g.ReferenceElementTail
 reference_element_tail _ _ _ _ here_at (kept i j only (part (value e h) none)) =
-    tail (λ x. ap (λ z. token.expression x ++ z) (c (bare k.While) (last e))) (λ a b same. ap2 (λ x y. s.While x 0 y) same h)
+    tail (λ x. ap (λ z. token.expression x ++ z) (lead (bare k.While) (last e))) (λ a b same. ap2 (λ x y. s.While x 0 y) same h)
 
 pub for_element : Gives g.ForElement
 for_element _ _ _ _ here_else (part {ls = ls} (value {a = a} {b = b} e h) (part {front = x} (tail f i) none)) =
@@ -50,10 +50,10 @@ reference_element _ _ _ _ here_else (part (value {a = a} {b = b} e h) (part (tai
 reference_element _ _ _ _ here_else (part (value e h) (unless none)) = element (last e) (ap s.Once h)
 
 pub next_for_element : Gives g.NextForElement
-next_for_element _ _ _ _ here_at (mark (part (element e h) none)) = next_element (c (bare k.Comma) (last e)) h
+next_for_element _ _ _ _ here_at (mark (part (element e h) none)) = next_element (lead (bare k.Comma) (last e)) h
 
 pub next_reference_element : Gives g.NextReferenceElement
-next_reference_element _ _ _ _ here_at (mark (part (element e h) none)) = next_element (c (bare k.Comma) (last e)) h
+next_reference_element _ _ _ _ here_at (mark (part (element e h) none)) = next_element (lead (bare k.Comma) (last e)) h
 
 abbrev BothElements : List Item → List Item → List Lexeme → Type 0
 BothElements l m ls = (each (behind_comma token.element) (r.elements l) ≡ ls) × (map u.element (r.elements l) ≡ map u.element (r.elements m))
@@ -68,9 +68,9 @@ more_reference_elements (no_more none) = (refl, refl)
 
 pub for_list : Gives g.ForList
 for_list _ _ _ _ here_at (kept i j only (part (element e h) q)) =
-    let more = more_for_elements q in for_part (c (bare k.Assign) (then e more.0)) (ap2 (λ x xs. x ∷ xs) h more.1)
+    let more = more_for_elements q in for_part (lead (bare k.Assign) (then e more.0)) (ap2 (λ x xs. x ∷ xs) h more.1)
 for_list _ _ _ _ (behind here_at) (kept i j only (part (element e h) q)) =
-    let more = more_reference_elements q in for_part (c (bare k.AssignReference) (then e more.0)) (ap2 (λ x xs. x ∷ xs) h more.1)
+    let more = more_reference_elements q in for_part (lead (bare k.AssignReference) (then e more.0)) (ap2 (λ x xs. x ∷ xs) h more.1)
 
 pub prior_mark : Gives g.PriorMark
 prior_mark _ _ _ _ here_at (kept i j only none) = also refl
@@ -81,21 +81,21 @@ prior (part (also e) none) = (last e, refl)
 prior (unless none) = (refl, refl)
 
 pub timing : Gives g.Timing
-timing _ _ _ _ here_at (kept i j first (part (value e h) q)) = let more = prior q in timed (c (bare k.At) (then e more.0)) (ap2 (λ x y. s.At 0 x y) h more.1)
-timing _ _ _ _ here_at (kept i j (later only) (part (value e h) q)) = let more = prior q in timed (c (bare k.Delay) (then e more.0)) (ap2 (λ x y. s.Delay 0 x y) h more.1)
-timing _ _ _ _ (behind here_at) (kept i j first (part (value e h) none)) = timed (c (bare k.Before) (last e)) (ap (λ x. s.Before 0 x) h)
-timing _ _ _ _ (behind here_at) (kept i j (later only) (part (value e h) none)) = timed (c (bare k.After) (last e)) (ap (λ x. s.After 0 x) h)
+timing _ _ _ _ here_at (kept i j first (part (value e h) q)) = let more = prior q in timed (lead (bare k.At) (then e more.0)) (ap2 (λ x y. s.At 0 x y) h more.1)
+timing _ _ _ _ here_at (kept i j (later only) (part (value e h) q)) = let more = prior q in timed (lead (bare k.Delay) (then e more.0)) (ap2 (λ x y. s.Delay 0 x y) h more.1)
+timing _ _ _ _ (behind here_at) (kept i j first (part (value e h) none)) = timed (lead (bare k.Before) (last e)) (ap (λ x. s.Before 0 x) h)
+timing _ _ _ _ (behind here_at) (kept i j (later only) (part (value e h) none)) = timed (lead (bare k.After) (last e)) (ap (λ x. s.After 0 x) h)
 
 -- ---- statements
 
 pub next_statement : Gives g.NextStatement
-next_statement _ _ _ _ here_at (mark (part (statement e h) none)) = led (c (bare k.Semicolon) (last e)) h
+next_statement _ _ _ _ here_at (mark (part (statement e h) none)) = led (lead (bare k.Semicolon) (last e)) h
 
 pub else_branch : Gives g.ElseBranch
-else_branch _ _ _ _ here_at (mark (part (statement e h) none)) = led (c (bare k.Else) (last e)) h
+else_branch _ _ _ _ here_at (mark (part (statement e h) none)) = led (lead (bare k.Else) (last e)) h
 
 pub otherwise_branch : Gives g.OtherwiseBranch
-otherwise_branch _ _ _ _ here_at (mark (part (statement e h) none)) = led (c (bare k.Otherwise) (last e)) h
+otherwise_branch _ _ _ _ here_at (mark (part (statement e h) none)) = led (lead (bare k.Otherwise) (last e)) h
 
 abbrev BothBranches : TokenKind → List Item → List Item → List Lexeme → Type 0
 BothBranches x l m ls = (token.branch x (r.branch_in l) ≡ ls) × (u.statements (r.branch_in l) ≡ u.statements (r.branch_in m))
@@ -215,7 +215,7 @@ more_arms (part {ls = ls} (arm {a = a} e h i) q) = let more = more_arms q in (ar
 more_arms (no_more none) = (refl, refl)
 
 pub arms_part : Gives g.Arms
-arms_part _ _ _ _ here_at (kept i j only (part (statement e h) (here m n none))) = doing (c (bare k.Do) (last e)) h
+arms_part _ _ _ _ here_at (kept i j only (part (statement e h) (here m n none))) = doing (lead (bare k.Do) (last e)) h
 arms_part _ _ _ _ (behind here_at) (part (arm {a = v} {b = w} e h i) q) =
     let more = more_arms (part {t = Many} {n = g.WhenArm} {x = []} (arm {a = v} {b = w} e h i) q) in whens more.0 more.1
 
@@ -224,10 +224,10 @@ inspected : (e d : Expression) (i j : ℕ) {l m : List Item} {front ls : List Le
     → Carried (sort g.Statement) (r.Stmt (r.inspecting i e l)) (r.Stmt (r.inspecting j d m)) (bare k.Inspect ∷ (front ++ ls))
 inspected x y i j e h (part (doing e' h') q) =
     let more = otherwise_given q in
-    statement (c (bare k.Inspect) (then e (then e' more.0))) (ap3 (λ x y z. s.Inspect 0 x 0 y 0 z) h h' more.1)
+    statement (lead (bare k.Inspect) (then e (then e' more.0))) (ap3 (λ x y z. s.Inspect 0 x 0 y 0 z) h h' more.1)
 inspected x y i j e h (part (whens e' h') q) =
     let more = otherwise_given q in
-    statement (c (bare k.Inspect) (then e (then e' more.0))) (ap3 (λ x y z. s.InspectWhen 0 x y z) h h' more.1)
+    statement (lead (bare k.Inspect) (then e (then e' more.0))) (ap3 (λ x y z. s.InspectWhen 0 x y z) h h' more.1)
 
 times : {l m : List Item} {ls : List Lexeme} → Lists (Of Maybe g.Timing ∷ []) l m ls
     → (token.schedule (r.timed_in l) ≡ ls) × (u.schedule (r.timed_in l) ≡ u.schedule (r.timed_in m))
@@ -244,17 +244,17 @@ statement_part _ _ _ _ (behind (behind (behind here_at))) (part {l = l} {m = m} 
     statement (assigned_written a (r.sides l) ∙ then e all.tokens) (assigned_same a b (r.sides l) (r.sides m) h all.same)
 statement_part _ _ _ _ (behind (behind (behind (behind here_at)))) (kept i j only (part (value e h) (mark (part (statement e' h') q)))) =
     let more = else_given q in
-    statement (c (bare k.If) (then e (c (bare k.Then) (then e' more.0)))) (ap3 (λ x y z. s.Choose 0 x y z) h h' more.1)
+    statement (lead (bare k.If) (then e (lead (bare k.Then) (then e' more.0)))) (ap3 (λ x y z. s.Choose 0 x y z) h h' more.1)
 statement_part _ _ _ _ (behind (behind (behind (behind (behind here_at))))) (kept i j only (part (value e h) (mark (part (statement e' h') none)))) =
-    statement (c (bare k.While) (then e (c (bare k.Do) (last e')))) (ap2 (λ x y. s.Repeat 0 x y) h h')
+    statement (lead (bare k.While) (then e (lead (bare k.Do) (last e')))) (ap2 (λ x y. s.Repeat 0 x y) h h')
 statement_part _ _ _ _ (behind (behind (behind (behind (behind (behind here_at)))))) (kept i j only (kept i' j' {held = held} only (part {front = x} (for_part {x = way} {a = xs} e h) (mark (part {front = y} (statement {a = a} e' h') none))))) =
     let variable = r.named_by i' (bytes_of held) in
     statement
-    (ap (λ z. one k.For ++ (name variable ++ z)) (sym (append_assoc (one (assignment_kind way)) (token.listed token.element xs) (one k.Do ++ token.statement a)) ∙ then e (c (bare k.Do) (last e'))))
+    (ap (λ z. one k.For ++ (name variable ++ z)) (sym (append_assoc (one (assignment_kind way)) (token.listed token.element xs) (one k.Do ++ token.statement a)) ∙ then e (lead (bare k.Do) (last e'))))
     (ap2 (λ xs z. s.For 0 (u.identifier variable) way 0 xs z) h h')
 statement_part _ _ _ _ (behind (behind (behind (behind (behind (behind (behind here_at))))))) (kept i j only (part (value {a = a} {b = b} e h) q)) = inspected a b i j e h q
 statement_part _ _ _ _ (behind (behind (behind (behind (behind (behind (behind (behind here_at)))))))) (kept i j first (part (value e h) q)) =
-    let more = times q in statement (c (bare k.Activate) (then e more.0)) (ap2 (λ x y. s.Activate 0 activation.Activate x y) h more.1)
+    let more = times q in statement (lead (bare k.Activate) (then e more.0)) (ap2 (λ x y. s.Activate 0 activation.Activate x y) h more.1)
 statement_part _ _ _ _ (behind (behind (behind (behind (behind (behind (behind (behind here_at)))))))) (kept i j (later only) (part (value e h) q)) =
-    let more = times q in statement (c (bare k.Reactivate) (then e more.0)) (ap2 (λ x y. s.Activate 0 activation.Reactivate x y) h more.1)
+    let more = times q in statement (lead (bare k.Reactivate) (then e more.0)) (ap2 (λ x y. s.Activate 0 activation.Reactivate x y) h more.1)
 statement_part _ _ _ _ (behind (behind (behind (behind (behind (behind (behind (behind (behind here_else))))))))) (here i j none) = statement refl refl

@@ -21,7 +21,6 @@ use Rattle.sim_values.specs.declared.standard.Standard.{Standard}
 use Rattle.sim_values.specs.Standard.{is_image, moves_position, on_image, operands_of, row_of}
 use Rattle.sim_scope.specs.declared.standard.StandardName.{StandardName}
 use Rattle.sim_scope.specs.declared.standard.StandardName.TheVariants as found
-use Rattle.sim_scope.specs.declared.types.SimType.TheVariants as type
 use Rattle.sim_values.specs.declared.standard.Standard.TheVariants as name_of
 use Rattle.sim_meaning.specs.Closing as closing
 use Rattle.sim_meaning.specs.Names.{procedure_named, stream_named}

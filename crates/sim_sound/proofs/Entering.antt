@@ -33,7 +33,7 @@ use Rattle.sim_sound.proofs.Evals.{IsFine, Work, goes_on, work_owner}
 use Rattle.sim_sound.proofs.FirstCells.{ActualsAre, FilledBehind, ValsFine, actuals_later, all_taken, block_cells, block_key, formals_some, held_there, procedure_cells, taken}
 use Rattle.sim_sound.proofs.Handing.{Handed, Outlives, formals_hand, hand_all, handed_members, handed_same, handed_simulations, marks_of}
 use Rattle.sim_sound.proofs.InstancesKept.{Kept, entry_keeps}
-use Rattle.sim_sound.proofs.Later.{All, AnySeat, Copies, Later, Steady, all_apart, fine_later, hands_later, instance_later, kept_later, knows_later, live_less, own_later, present_later, seated_later, standing_apart, stays_later, steady_same, work_later}
+use Rattle.sim_sound.proofs.Later.{All, AnySeat, Copies, Later, Steady, all_apart, fine_later, hands_later, instance_later, kept_later, live_less, own_later, present_later, seated_later, standing_apart, stays_later, steady_same, work_later}
 use Rattle.sim_sound.proofs.Lifts.{Goes, any_popped, enters, had, ran, whens}
 use Rattle.sim_sound.proofs.Lists.{append_at, same_some}
 use Rattle.sim_sound.proofs.Members.{MembersFine, OneMore, members_more, plain_no_linkage, plain_no_simulation}

@@ -7,7 +7,7 @@ use Rattle.sim_scope.specs.Source.{Source, block_of}
 use Rattle.sim_values.specs.declared.kind.Kind.TheVariants as kind
 use Rattle.sim_code.specs.Instances.{CellPlace, ImagePlace}
 use Rattle.sim_code.specs.Outcome.{World}
-use Rattle.std.specs.Prelude.{◌+◌, if◌then◌else◌, ◌==◌, Bool}
+use Rattle.std.specs.Prelude.{◌+◌, if◌then◌else◌, ◌==◌}
 use Rattle.sim_meaning.specs.Attributes.{attribute_formals}
 use Rattle.sim_meaning.specs.Entries.{formals_of}
 use Rattle.sim_meaning.specs.Closing.{class_parameters}
@@ -27,7 +27,6 @@ use Rattle.sim_sound.specs.Expressions.{ParametersAre}
 use Rattle.sim_sound.proofs.Lists.{equal_numbers}
 use Rattle.sim_tree.specs.Syntax.{Expression, Expressions, NoMore, Then}
 use Rattle.sim_scope.specs.declared.types.SimType.{SimType}
-use Rattle.sim_code.specs.Events.{when}
 
 -- the last item of pending work is that of its seat
 pub idle_evaluates : (n : ℕ) → 0 < n → evaluates (idle_work n) ≡ true

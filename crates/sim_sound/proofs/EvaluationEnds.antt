@@ -2,7 +2,6 @@
 use Rattle.std.proofs.Common.{Bool, ◌≡◌, ◌<◌, ℕ, true, false, List, [], ◌∷◌, length, Option, Some, None, inl, inr, ⊎_elim, refl, sym, ap, ◌∙◌, subst}
 use Rattle.sim_base.specs.declared.limits.Limits.{Limits}
 use Rattle.sim_base.specs.declared.numbering.DeclNo.{DeclNo}
-use Rattle.sim_scope.specs.declared.types.Formal.{Formal}
 use Rattle.sim_scope.specs.declared.types.FormalKind.{FormalKind}
 use Rattle.sim_scope.specs.declared.types.FormalKind.TheVariants as shape
 use Rattle.sim_scope.specs.declared.types.Mode.{Mode}
@@ -45,7 +44,7 @@ use Rattle.sim_sound.proofs.References.{held_reference_goes}
 use Rattle.sim_sound.proofs.Running.{Begun, ChainFine, Headed, Operates, Placed, Serves, TakesFor, WorkFine, idle}
 use Rattle.sim_sound.proofs.Sound.{Comes, Gets, Gives, GivesKind}
 use Rattle.sim_sound.proofs.Uses.{kind_given, use_goes}
-use Rattle.sim_sound.proofs.Values.{AddressOf, AllArrays, ArrayFine, CellLies, Copied, DeepFine, ElementFine, ForFormal, HandFine, HandsFine, HeldDeep, Hidden, Kinds, Marks, Near, Passes, PlainFine, ReferenceAddress, Seat, Takes, ValFine, Value, Whichever, at_seat, hand_of, in_hand, see}
+use Rattle.sim_sound.proofs.Values.{AddressOf, AllArrays, ArrayFine, CellLies, Copied, DeepFine, ElementFine, ForFormal, HandFine, HandsFine, HeldDeep, Hidden, Kinds, Marks, Near, Passes, PlainFine, ReferenceAddress, Seat, ValFine, Value, Whichever, at_seat, hand_of, in_hand, see}
 
 -- ---- what it gets, as the activation has it
 

@@ -14,7 +14,6 @@ use Rattle.sim_scope.specs.declared.types.StandardClass.TheVariants as standard
 use Rattle.sim_scope.specs.declared.types.SimType.{SimType}
 use Rattle.sim_scope.specs.declared.types.SimType.TheVariants as sim_type
 use Rattle.sim_scope.specs.Source.{Source}
-use Rattle.sim_values.specs.declared.kind.Kind.{Kind}
 use Rattle.sim_values.specs.declared.kind.Kind.TheVariants as kind
 use Rattle.sim_values.specs.declared.standard.Standard.{Standard}
 use Rattle.sim_meaning.specs.Entries.{numbers_of}

@@ -13,7 +13,6 @@ use Rattle.sim_scope.specs.declared.types.SimType.TheVariants as t
 use Rattle.sim_scope.specs.Source.{Source}
 use Rattle.sim_code.specs.Arrays.{handed_over, owned_by}
 use Rattle.sim_scope.specs.Scopes.{entry_of}
-use Rattle.sim_values.specs.declared.kind.Kind.{Kind}
 use Rattle.sim_meaning.specs.Texts.{kind_of_type}
 use Rattle.sim_code.specs.Outcome.{ArrayOf as OneArray, World}
 use Rattle.sim_meaning.specs.Entries.{arrays_among, arrays_by_value, is_array_by_value, is_held, with_array_of}

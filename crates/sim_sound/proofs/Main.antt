@@ -20,10 +20,9 @@ use Rattle.sim_sound.proofs.Evals.{IsFine, Work, goes_on}
 use Rattle.sim_sound.proofs.Keeping.{fine_sane}
 use Rattle.sim_sound.proofs.EvaluationEnds.{evaluation_ends}
 use Rattle.sim_sound.proofs.Evaluations.{named_op}
-use Rattle.sim_sound.proofs.Later.{All, AllCopies, AnySeat, all_apart, fine_later, later_none, live_less, seated_later, work_later}
+use Rattle.sim_sound.proofs.Later.{All, live_less, seated_later}
 use Rattle.sim_sound.proofs.Lifts.{Goes, stops}
 use Rattle.sim_sound.proofs.Moves.{later_there, operates_first}
-use Rattle.sim_sound.proofs.Ops.{store_with}
 use Rattle.sim_sound.proofs.Naming.{fine_names}
 use Rattle.sim_sound.proofs.Objects.{declare_goes, inner_goes, level_goes, new_goes, prefixed_goes}
 use Rattle.sim_sound.proofs.Operators.{close_op, again_op, array_op, attribute_op, copy_op, drop_op, element_op, eval_op, fetch_op, fits_op, give_op, if_op, join_op, keep_op, member_op, not_none_op, object_op, one_op, past_op, qua_op, qualified_element_op, refer_op, share_op, standard_op, step_op, store_op, swap_op, two_op, origin_op}
@@ -32,7 +31,7 @@ use Rattle.sim_sound.proofs.ProcessWork.{block_op, end_process_op, process_op, s
 use Rattle.sim_sound.proofs.SetWork.{set_op}
 use Rattle.sim_sound.proofs.SimulationWork.{activate_op, simulation_op}
 use Rattle.sim_sound.proofs.Sound.{OpFine}
-use Rattle.sim_sound.proofs.Values.{AllArrays, HandsFine, Kinds, Marks, Seat, Takes, Value, Waits, at_seat, see}
+use Rattle.sim_sound.proofs.Values.{HandsFine, Kinds, Marks, Takes, Value, see}
 use Rattle.sim_sound.proofs.Transfers.{transfer_op}
 use Rattle.sim_sound.proofs.Virtuals.{call_value_op, check_op, procedure_op, virtual_op}
 use Rattle.sim_sound.proofs.Statements.{branch_goes, choose_goes, elements_goes, exec_goes, execs_goes, raise_goes, step_goes, test_goes, while_goes}

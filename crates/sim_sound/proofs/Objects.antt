@@ -13,7 +13,6 @@ use Rattle.sim_scope.specs.Scopes.{class_formals, entry_of}
 use Rattle.sim_scope.specs.Source.{Source}
 use Rattle.sim_tree.specs.Syntax.{Declarations}
 use Rattle.simset.specs.Instances.{Memberships}
-use Rattle.sim_values.specs.declared.kind.Kind.{Kind}
 use Rattle.sim_values.specs.Plain.{Object, Integer}
 use Rattle.sim_code.specs.Arrays.{handed_over}
 use Rattle.sim_code.specs.Events.{entering, having, pop_many, popping, when}
@@ -50,7 +49,7 @@ use Rattle.sim_sound.proofs.Prefixes.{class_has, level_words, levels_solid}
 use Rattle.sim_sound.proofs.Reach.{attribute_key}
 use Rattle.sim_sound.proofs.Running.{Begun, ChainFine, Expected, IsRelease, Operates, Shown, StoreFine, WorkFine, awaited, footing, is_resumed, seat_on}
 use Rattle.sim_sound.proofs.Sound.{DeclareFine, LevelsFine, NewOpFine, PrefixedOpFine, class_kinds, holds_of, kept_kinds}
-use Rattle.sim_sound.proofs.Values.{AllArrays, CellsFine, Generated, HandsFine, Kinds, Knows, LinkTo, Marks, Seat, Sight, Takes, Value, Waits, Whole, at_seat, no_further, outward, see, in_hand, HasOrigin, KeyAmong, first_key, later_key, key_of}
+use Rattle.sim_sound.proofs.Values.{AllArrays, CellsFine, Generated, HandsFine, Kinds, Knows, LinkTo, Marks, Seat, Sight, Takes, Waits, Whole, at_seat, no_further, outward, see, in_hand, HasOrigin, KeyAmong, first_key, later_key, key_of}
 use Rattle.sim_sound.proofs.Chains.{Elsewhere}
 use Rattle.sim_sound.proofs.Changes.{near_same, SetAt, set_at, set_here, set_later}
 use Rattle.sim_scope.specs.declared.types.SimType.{SimType}

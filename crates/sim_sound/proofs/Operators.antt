@@ -24,7 +24,7 @@ use Rattle.sim_code.specs.Events.{choosing, having, popping, qualifying, when}
 use Rattle.sim_code.specs.Instances.{CellPlace, ElementPlace}
 use Rattle.sim_meaning.specs.Levels.{belongs, has_procedure, has_levels, is_in, is_in_any, main_belongs, stands_in}
 use Rattle.sim_meaning.specs.Objects.{is_member, putting_reference}
-use Rattle.sim_meaning.specs.Closing.{close_actual, close_passed}
+use Rattle.sim_meaning.specs.Closing.{close_passed}
 use Rattle.sim_meaning.specs.Pending.{CloseOp, ToNamed, Activation, Address, AgainOp, array_in, ArrayOp, ArrayValue, AttributeOp, cell_set, Configuration, CopyOp, Declared, Do, DropOp, ElementOp, Eval, FetchOp, FitsOp, GiveOp, IfOp, Instances, Item, JoinOp, KeepOp, Key, Link, MemberOp, NotNoneOp, ObjectOp, Of, OneOp, Op, PastOp, place_in, QualifiedElementOp, QuaOp, ReferOp, ShareOp, StandardOp, StepOp, StoreOp, SwapOp, Target, Term, ToAddress, ToCell, ToPlace, ToReference, ToReferenceAt, ToText, ToTextAt, ToTextOf, TwoOp, Val, variable_in, OriginOp, Origin}
 use Rattle.sim_meaning.specs.Texts.{text}
 use Rattle.sim_sound.specs.Held.{ByName, ArrayOf, Holds, Refers, Simply, Procedure}

@@ -1,6 +1,6 @@
 -- The actual parameters of a procedure that is a value are passed, as its formal parameters ask for them.
-use Rattle.std.proofs.Common.{◌≡◌, ℕ, zero, suc, Bool, true, false, List, [], ◌∷◌, length, Option, Some, None, refl, sym, ap, ◌∙◌, subst, arith}
-use Rattle.std.specs.Prelude.{◌&&◌, ◌==◌, slice_get}
+use Rattle.std.proofs.Common.{◌≡◌, ℕ, zero, suc, Bool, true, false, List, [], ◌∷◌, length, Option, Some, None, refl, ap, ◌∙◌, subst, arith}
+use Rattle.std.specs.Prelude.{◌&&◌, slice_get}
 use Rattle.sim_base.specs.declared.limits.Limits.{Limits}
 use Rattle.sim_base.specs.declared.numbering.DeclNo.{DeclNo}
 use Rattle.sim_scope.specs.declared.scopes.Denotation.{Denotation}
@@ -19,14 +19,13 @@ use Rattle.sim_scope.specs.Scopes.{entry_of}
 use Rattle.sim_scope.specs.Source.{Source, denoted}
 use Rattle.sim_tree.specs.Syntax.{Expression, Expressions, NoMore, Then}
 use Rattle.sim_tree.specs.Syntax as syntax
-use Rattle.sim_values.specs.declared.kind.Kind.{Kind}
-use Rattle.sim_code.specs.Events.{choosing, having, when}
+use Rattle.sim_code.specs.Events.{choosing, when}
 use Rattle.sim_code.specs.Outcome.{Run, World}
 use Rattle.sim_meaning.specs.Attributes.{connection_at}
-use Rattle.sim_meaning.specs.Checks.{Passed, PassedArray, PassedProcedure, PassedValue, alike, all_fit, all_passed, array_fits, fits, fits_as, is_within, passed, result_fits, same_class, value_fits}
+use Rattle.sim_meaning.specs.Checks.{Passed, PassedArray, PassedProcedure, PassedValue, alike, all_fit, all_passed, fits, fits_as, is_within, passed, result_fits, same_class, value_fits}
 use Rattle.sim_meaning.specs.Closing.{is_procedure_kind}
 use Rattle.sim_meaning.specs.Entries.{formals_of, is_array_by_value}
-use Rattle.sim_meaning.specs.Levels.{class_text, qualification}
+use Rattle.sim_meaning.specs.Levels.{qualification}
 use Rattle.sim_meaning.specs.Meaning.{do_op, evaluating, formal_in, formal_in_hand, is_by_name, procedure_at}
 use Rattle.sim_meaning.specs.Pending.{Activation, Actual, Configuration, ForParameter, Instances, Item, Op, ParameterOp, Val}
 use Rattle.sim_meaning.specs.Steps.{count_of, go}
@@ -37,11 +36,11 @@ use Rattle.sim_sound.specs.Typed.{Typed}
 use Rattle.sim_sound.proofs.Evals.{IsFine, Work, goes_on}
 use Rattle.sim_sound.proofs.Evaluations.{actual_given, begins_here, waits_passes}
 use Rattle.sim_sound.proofs.Lifts.{Goes, had, whens}
-use Rattle.sim_sound.proofs.Lists.{numbers_equal, same_some}
+use Rattle.sim_sound.proofs.Lists.{numbers_equal}
 use Rattle.sim_sound.proofs.Results.{results_then}
-use Rattle.sim_sound.proofs.Running.{Begun, ChainFine, Operates}
-use Rattle.sim_sound.proofs.Sound.{OpFine, for_formals, parameter_of}
-use Rattle.sim_sound.proofs.Values.{Checked, ForFormal, HandsFine, Kinds, Marks, Value, at_itself, hand_of, held_kinds, in_hand, near_below, see}
+use Rattle.sim_sound.proofs.Running.{Begun, Operates}
+use Rattle.sim_sound.proofs.Sound.{OpFine, parameter_of}
+use Rattle.sim_sound.proofs.Values.{ForFormal, HandsFine, Kinds, Marks, Value, at_itself, held_kinds, in_hand, near_below, see}
 use Rattle.sim_sound.proofs.Virtuals.{below_passed}
 
 -- ---- what fits

@@ -8,20 +8,16 @@ use Rattle.sim_scope.specs.declared.types.FormalKind.TheVariants as shape
 use Rattle.sim_scope.specs.declared.types.Mode.{Mode}
 use Rattle.sim_scope.specs.declared.types.Mode.TheVariants as mode
 use Rattle.sim_scope.specs.declared.types.SimType.{SimType}
-use Rattle.sim_tree.specs.declared.expr.Sign.TheVariants as sign
 use Rattle.sim_tree.specs.Syntax.{Expressions, NoMore, Then}
-use Rattle.sim_tree.specs.Syntax as syntax
 use Rattle.sim_values.specs.declared.kind.Kind.{Kind}
 use Rattle.sim_values.specs.declared.kind.Kind.TheVariants as kind
-use Rattle.sim_values.specs.declared.standard.Standard.{Standard}
 use Rattle.sim_scope.specs.declared.standard.StandardName.{StandardName}
 use Rattle.sim_scope.specs.declared.standard.StandardName.TheVariants as found
 use Rattle.sim_scope.specs.declared.types.SimType.TheVariants as type
 use Rattle.sim_values.specs.declared.standard.Standard.TheVariants as name_of
-use Rattle.sim_meaning.specs.Closing as closing
 use Rattle.sim_meaning.specs.Names.{stream_named}
-use Rattle.std.proofs.Common.{◌≡◌, ℕ, Bool, true, false, List, [], ◌∷◌, Option, Some, None, ◌⊎◌, inl, refl, sym, ap, ◌∙◌, subst}
-use Rattle.std.specs.Prelude.{slice_get, ◌&&◌, ◌||◌, if◌then◌else◌}
+use Rattle.std.proofs.Common.{◌≡◌, ℕ, Bool, true, false, List, [], ◌∷◌, Option, Some, None, ◌⊎◌, inl, refl, ap, ◌∙◌, subst}
+use Rattle.std.specs.Prelude.{slice_get, ◌&&◌, ◌||◌}
 use Rattle.sim_scope.specs.declared.scopes.Declaration.{Declaration}
 use Rattle.sim_scope.specs.Levels.{class_block, class_block_in, has_level}
 use Rattle.sim_scope.specs.Scopes.{entry_in, entry_of}
@@ -42,7 +38,7 @@ use Rattle.sim_sound.proofs.Fitting.{level_itself}
 use Rattle.sim_sound.proofs.Lists.{if_true}
 use Rattle.sim_sound.proofs.Prefixes.{class_has}
 use Rattle.sim_sound.proofs.Reach.{Reached, among_block, key_there}
-use Rattle.sim_sound.proofs.Results.{class_is, qualified_class}
+use Rattle.sim_sound.proofs.Results.{qualified_class}
 use Rattle.sim_sound.proofs.Sound.{Gets, OperandsAre, kept_kinds}
 use Rattle.sim_sound.proofs.Values.{CellTarget, Copied, IsImage, Kinds, Lasting, Present, Value, Whole, in_hand}
 

@@ -9,7 +9,6 @@ use Rattle.sim_scope.specs.declared.types.Formal.{Formal}
 use Rattle.sim_scope.specs.Source.{Source}
 use Rattle.sim_tree.specs.declared.stmt.TypeName.{TypeName}
 use Rattle.sim_tree.specs.Syntax.{Heading, Statement}
-use Rattle.sim_values.specs.declared.kind.Kind.{Kind}
 use Rattle.sim_values.specs.Plain.{Object, Plain}
 use Rattle.sim_code.specs.Outcome.{ArrayOf as OneArray}
 use Rattle.sim_code.specs.Arrays.{unless_given}
@@ -22,7 +21,7 @@ use Rattle.sim_sound.specs.Held.{Holds, actual_means}
 use Rattle.sim_sound.proofs.Members.{MembersFine, no_members}
 use Rattle.sim_sound.proofs.Simulated.{SimulationsFine}
 use Rattle.sim_sound.proofs.Sound.{Gets, Gives, GivesResult, Makes, OpFine, given}
-use Rattle.sim_sound.proofs.Values.{AllArrays, ForFormal, Generated, HandsFine, InstanceFine, Kinds, Near, Passes, PlainFine, Present, Seat, Sight, Stays, at_seat, Suspended, Takes, Value, Waits, elements_of}
+use Rattle.sim_sound.proofs.Values.{AllArrays, ForFormal, Generated, HandsFine, InstanceFine, Kinds, Near, Passes, PlainFine, Present, Seat, Sight, Stays, at_seat, Suspended, Takes, Waits, elements_of}
 
 -- an instance that is an object's
 abbrev pub IsObject : Standing Activation → Type 0

@@ -24,7 +24,6 @@ use Rattle.sim_values.specs.declared.operators.Monadic.TheVariants as monadic
 use Rattle.sim_values.specs.declared.standard.Standard.{Standard}
 use Rattle.sim_values.specs.Standard.{operands_of, row_of}
 use Rattle.sim_code.specs.Instances.{Instance, live}
-use Rattle.sim_code.specs.Instances as instances
 use Rattle.sim_code.specs.Scheduling.{AtTime, Beside, Directly, Timing, WithDelay}
 use Rattle.sim_code.specs.Sets.{is_set_name}
 use Rattle.sim_code.specs.Simulations.{is_process_name, is_simulation_name}
@@ -35,7 +34,7 @@ use Rattle.sim_meaning.specs.Entries.{formals_of, numbers_of}
 use Rattle.sim_meaning.specs.Levels.{has_levels, is_class, qualification}
 use Rattle.sim_meaning.specs.Pending.{ActualOf, CheckedOf, CloseOp, ForParameter, ForPlace, ForValue, MatchOf, OriginOf, OriginOp, ParameterOp, ProcedureOf, ProcedureOp, RemoteProcedureOf, NamedOf, NamedOp, ToNamed, Use, ActivateOp, AgainOp, ArrayOp, AttributeOf, AttributeOp, BackOp, BlockOp, BranchOp, CallOf, CallOp, Cell, ChooseOp, ConnectOp, CopyOf, CopyOp, Declared, DeclareOp, DropOp, Either, ElementOf, ElementOp, ElementsOp, EndProcessOp, EnterOp, Eval, Exec, Execs, FetchOp, FitsOf, FitsOp, Further, Given, GiveOp, Held, IfOp, ImageOf, InnerOp, Instances, JoinOp, Joined, KeepOp, KeptOf, Key, Level, LevelOp, MemberOf, MemberOp, NewOf, NewOp, NoTerm, NotNoneOf, NotNoneOp, ObjectOp, One, OneOp, Op, PastOp, PlaceOf, PrefixedOp, ProcessOf, ProcessOp, QuaOf, QuaOp, QualifiedElementOf, QualifiedElementOp, QualifiedPlaceOf, RaiseOp, ReferOp, RemoteCallOf, SelfOp, SetOf, SetOp, ShareOp, SimulationOf, SimulationOp, StandardOf, StandardOp, StepOp, StepTestOp, StoreOp, SwapOp, Target, Term, Terms, TestOp, ToAddress, ToCell, ToPlace, ToReference, ToReferenceAt, ToText, ToTextAt, ToTextOf, TransferOf, TransferOp, Two, TwoOp, Unbuilt, ValueAt, WhenOp, WhileElementOp, VirtualOp, CheckOp, CallValueOp}
 use Rattle.sim_meaning.specs.Steps.{count_of}
-use Rattle.sim_meaning.specs.Texts.{BlockText, PrefixedText, StandardText, Text, is_class_free, text}
+use Rattle.sim_meaning.specs.Texts.{BlockText, PrefixedText, StandardText, is_class_free, text}
 use Rattle.sim_sound.specs.Expressions.{ActualIs, DoneAlone, ExprIs, ParameterIs, ParametersAre, TwoKinds, some_holds, standard_kind, ProcessClassThere}
 use Rattle.sim_sound.specs.Held.{Among, ArrayOf, ByName, Fits, FitsIn, Holds, In, InBound, IsOfKind, Place, Procedure, Refers, ResultFits, Simply, formal_holds, given_by, key_holds, reference_to, result_holds}
 use Rattle.sim_sound.specs.Statements.{ArmsAre, ConnectionIs, ElementsAre, StatementIs, StatementsAre}

@@ -13,7 +13,6 @@ use Rattle.sim_tree.specs.declared.stmt.TypeName.{TypeName}
 use Rattle.sim_tree.specs.Syntax.{Expression, Expressions, Heading, Statement}
 use Rattle.sim_values.specs.declared.kind.Kind.{Kind}
 use Rattle.sim_values.specs.declared.kind.Kind.TheVariants as kind
-use Rattle.sim_values.specs.declared.operators.Monadic.TheVariants as monadic
 use Rattle.sim_values.specs.Plain.{MainOf, Nothing, Object, Plain, kind_of}
 use Rattle.sim_values.specs.Words.{element_count}
 use Rattle.simset.specs.Instances.{Memberships}

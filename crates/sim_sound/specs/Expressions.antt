@@ -11,7 +11,6 @@ use Rattle.sim_scope.specs.declared.types.FormalKind.TheVariants as shape
 use Rattle.sim_scope.specs.declared.types.Mode.{Mode}
 use Rattle.sim_scope.specs.declared.types.Mode.TheVariants as mode
 use Rattle.sim_scope.specs.declared.types.SimType.{SimType}
-use Rattle.sim_scope.specs.declared.types.SimType.TheVariants as sim_type
 use Rattle.sim_scope.specs.declared.types.StandardClass.TheVariants as standard_class
 use Rattle.sim_scope.specs.Levels.{base, has_level, is_for_prefixing, is_simulation_block}
 use Rattle.sim_scope.specs.Scopes.{entry_of}
