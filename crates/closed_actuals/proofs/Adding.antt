@@ -7,7 +7,7 @@ use Rattle.sim_tree.specs.declared.expr.Identifier.{Identifier}
 use Rattle.sim_tree.specs.Syntax.{Also, Arrayed, Arrays, BoundPair, Declarations, DeclareClass, DeclareProcedure, Expressions, NoDeclaration, NoMore, NoStatement, Schedule, Statements, Then, Variables, With}
 use Rattle.sim_tree.specs.Syntax as syntax
 use Rattle.sim_values.specs.declared.kind.Kind.{Kind}
-use Rattle.sim_meaning.specs.Closing.{Left, LeftAddress, LeftCell, LeftNamed, LeftReference, LeftText, LeftUnbuilt, close_left}
+use Rattle.sim_meaning.specs.Closing.{Left, LeftAddress, LeftCell, LeftNamed, LeftReference, LeftText, NoLeftSide, close_left}
 use Rattle.sim_meaning.specs.Entries.{arrays_declared, arrays_of, bounds_of, first_array, further_arrays, segments_of}
 use Rattle.sim_meaning.specs.Objects.{declared, level_work, levels_work, no_line, process_begun, process_done, with_inner}
 use Rattle.sim_meaning.specs.Pending.{Do, Eval, Further, Instances, Item, Level, NoTerm, Op, Target, Terms, ToAddress, ToCell, ToNamed, ToPlace, ToReference, ToReferenceAt, ToText, ToTextAt, ToTextOf, is_evaluation}
@@ -89,7 +89,7 @@ lefts_adds s m i (l ∷ ls) x is {w = w} {v = v} a = by_left (close_left s m i l
     by_left (LeftText line t) (Some y) is rest = found _ (let same : record { work = Do (Eval t) ∷ y.work; targets = ToText line ∷ y.targets } ≡ x = cc in same) (adds_operator (rest y refl))
     by_left (LeftReference line t) (Some y) is rest = found _ (let same : record { work = Do (Eval t) ∷ y.work; targets = ToReference line ∷ y.targets } ≡ x = cc in same) (adds_operator (rest y refl))
     by_left (LeftNamed k line t) (Some y) is rest = found _ (let same : record { work = Do (Eval t) ∷ y.work; targets = ToNamed k line ∷ y.targets } ≡ x = cc in same) (adds_operator (rest y refl))
-    by_left LeftUnbuilt y is rest = absurd (cc)
+    by_left NoLeftSide y is rest = absurd (cc)
     by_left (LeftCell j key) None is rest = absurd (cc)
     by_left (LeftAddress t) None is rest = absurd (cc)
     by_left (LeftText line t) None is rest = absurd (cc)

@@ -22,7 +22,7 @@ use Rattle.sim_meaning.specs.Attributes.{attribute_procedure, entry_attribute, b
 use Rattle.sim_meaning.specs.Closing.{actual_term, array_place, array_term, by_name, class_parameters, class_passed, close, close_actual_by, close_actuals, close_all, close_passed, close_place, close_procedure, declared_place, declared_procedure, declared_term, dot_term, formal_place, formal_procedure, formal_term, formals_at, home_of, home_of_class, image_place, in_instance, is_attribute, is_placed, is_procedure_kind, is_text, is_text_type, is_variable, name_term, named_array, named_array_place, named_place, named_term, procedure_denoted, qualified_if, signed_term, sort_of, stream_of, two_term, typed_token, variable_place, variable_term}
 use Rattle.sim_meaning.specs.Attributes.{fitting}
 use Rattle.sim_meaning.specs.Levels.{class_at, qualification}
-use Rattle.sim_meaning.specs.Pending.{ActualOf, CallOf, Cell, Either, Further, Instances, One, Term, Terms, Unbuilt, Use}
+use Rattle.sim_meaning.specs.Pending.{ActualOf, CallOf, Cell, Either, Further, Instances, One, Term, Terms, NoMeaning, Use}
 
 module _ (s : Source) (m n : Instances) (i : ℕ) (same : (level : ℕ) → at_level n level i ≡ at_level m level i) where
   home_same : (d : DeclNo) → home_of s n i d ≡ home_of s m i d
@@ -34,7 +34,7 @@ module _ (s : Source) (m n : Instances) (i : ℕ) (same : (level : ℕ) → at_l
   in_same d f = ap (λ (j : Option ℕ). in_instance j f) (home_same d)
 
   connected_same : (k : ℕ) → connected_object s n i k ≡ connected_object s m i k
-  connected_same k = ap (λ (j : Option ℕ). if_any j (λ j. Cell j (cell_of_connection s k)) Unbuilt) (same (level_of s k))
+  connected_same k = ap (λ (j : Option ℕ). if_any j (λ j. Cell j (cell_of_connection s k)) NoMeaning) (same (level_of s k))
 
   this_same : (found : Option ℕ) → this_term s n i found ≡ this_term s m i found
   this_same None = refl
@@ -249,7 +249,7 @@ module _ (s : Source) (m n : Instances) (i : ℕ) (same : (level : ℕ) → at_l
         let terms = close_all_same es in
         let this = this_same (found_at s name.token.0) in
         any_same (transfer_at s name.token.0) _ _ _ _ (λ t. transfer_same t line _ _ _ _ this terms)
-        (any_same (connection_at s name.token.0) _ _ _ _ (λ k. any_same (declared_attribute (denoted s name.token.0)) _ _ Unbuilt Unbuilt
+        (any_same (connection_at s name.token.0) _ _ _ _ (λ k. any_same (declared_attribute (denoted s name.token.0)) _ _ NoMeaning NoMeaning
         (λ d. attribute_same line es (connected_object s n i k) (connected_object s m i k) (close_all s n i es) (close_all s m i es) _ _ d (connected_same k) terms (close_actuals_same line es (formals_at s d))) refl)
         (any_same (own_attribute s name.token.0) _ _ _ _
         (λ d. own_same (entry_of s.tables d) _ _ _ _ line _ _ (block_same (found_at s name.token.0)) (close_actuals_same line es (formals_at s d))
@@ -266,7 +266,7 @@ module _ (s : Source) (m n : Instances) (i : ℕ) (same : (level : ℕ) → at_l
         let line = line_at s name.token.0 in
         let terms = close_all_same es in
         any_same (connection_at s name.token.0) _ _ _ _
-        (λ k. any_same (declared_attribute (denoted s name.token.0)) _ _ Unbuilt Unbuilt (λ d. place_of_same line es _ _ _ _ d (connected_same k) terms) refl)
+        (λ k. any_same (declared_attribute (denoted s name.token.0)) _ _ NoMeaning NoMeaning (λ d. place_of_same line es _ _ _ _ d (connected_same k) terms) refl)
         (named_place_same line (denoted s name.token.0) es (close_all s n i es) ∙ ap (named_place s m i line (denoted s name.token.0) es) terms)
     close_place_same (syntax.Dot token a name es) =
         let object = close_same a in
@@ -287,7 +287,7 @@ module _ (s : Source) (m n : Instances) (i : ℕ) (same : (level : ℕ) → at_l
     close_procedure_same (syntax.Named name NoMore) =
         let line = line_at s name.token.0 in
         any_same (connection_at s name.token.0) _ _ _ _
-        (λ k. any_same (declared_attribute (denoted s name.token.0)) _ _ Unbuilt Unbuilt (λ d. ap (λ (z : Term). attribute_procedure s line z d) (connected_same k)) refl)
+        (λ k. any_same (declared_attribute (denoted s name.token.0)) _ _ NoMeaning NoMeaning (λ d. ap (λ (z : Term). attribute_procedure s line z d) (connected_same k)) refl)
         (procedure_same line (denoted s name.token.0))
     close_procedure_same (syntax.Dot token a name NoMore) =
         let object = close_same a in

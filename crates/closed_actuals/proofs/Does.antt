@@ -1,11 +1,11 @@
 -- What a step does to the instances and to the chains.
-use Rattle.std.proofs.Common.{◌≡◌, ℕ, zero, suc, Bool, true, false, List, [], ◌∷◌, ◌++◌, length, Option, Some, None, refl, ap, ◌∙◌, subst}
-use Rattle.std.specs.Prelude.{if◌then◌else◌, slice_get, slice_set}
+use Rattle.std.proofs.Common.{◌≡◌, ◌⊎◌, ℕ, zero, suc, Bool, true, false, List, [], ◌∷◌, ◌++◌, length, Option, Some, None, refl, ap, ◌∙◌, subst}
+use Rattle.std.specs.Prelude.{⊤, if◌then◌else◌, slice_get, slice_set}
 use Rattle.sim_tree.specs.Syntax.{Expression}
 use Rattle.sim_chains.specs.Chains.{Cut, cut_at}
 use Rattle.sim_chains.specs.Components.{AttachedObject, NoObject, ResumedObject, Standing, TerminatedObject}
-use Rattle.sim_code.specs.Instances.{Instance, cells_of, cells_put, entered, given, given_in, kept_at, kept_further, kept_on, live, system_head, unless_given, with_instance}
-use Rattle.closed_actuals.specs.Evaluations.{Adds, EndsInstance, Transfers}
+use Rattle.sim_code.specs.Instances.{Instance, cells_of, cells_put, entered, given, given_in, is_live, kept_at, kept_further, kept_on, live, system_head, unless_given, with_instance}
+use Rattle.closed_actuals.specs.Evaluations.{Adds, BeginsEvaluation, EndsInstance, Enters, Generates, Transfers}
 use Rattle.sim_meaning.specs.Pending.{Activation, CloseOp, Configuration, Do, EndEvaluation, EndLevel, EndObject, Held, Instances, Item, Key, Op, Use, Val, is_evaluation, cell_made, cell_set, made_in, owner, put_in}
 
 -- ---- instances
@@ -137,24 +137,29 @@ pub data IsOwn : List Item → Type 0 where
   own_operator : {op : Op} {w : List Item} → IsOwn w → IsOwn (Do op ∷ w)
   own_level : {text : ℕ} {w : List Item} → IsOwn w → IsOwn (EndLevel text ∷ w)
 
+-- The encloser of a new instance is the operating one, or one that lives.
+abbrev pub EnteredFrom : Instances → (operating : ℕ) → (encloser : Option ℕ) → Type 0
+EnteredFrom m i None = ⊤
+EnteredFrom m i (Some e) = (e ≡ i) ⊎ (is_live m e ≡ true)
+
 -- An operator was taken from the work of the activation on top, which is for the instance i, and w is left of that.
-pub data Does (m : Instances) (i : ℕ) (w : List Item) (rest : List Activation) : Configuration → Type 0 where
+pub data Does (op : Op) (m : Instances) (i : ℕ) (w : List Item) (rest : List Activation) : Configuration → Type 0 where
   -- other work comes in its place
-  works : {n : Instances} {v : List Item} {vals : List Val} → Alike m n → Adds w v → Does m i w rest (record { chain = act i v vals ∷ rest; memory = n })
+  works : {n : Instances} {v : List Item} {vals : List Val} → Alike m n → Adds w v → Does op m i w rest (record { chain = act i v vals ∷ rest; memory = n })
   -- the evaluation of an actual parameter begins
-  begins : (home : ℕ) (as_procedure : Bool) (e : Expression) (wanted : Use) {vals : List Val}
-      → Does m i w rest (record { chain = act home (Do (CloseOp as_procedure e) ∷ EndEvaluation wanted ∷ []) [] ∷ act i w vals ∷ rest; memory = m })
+  begins : BeginsEvaluation op → (home : ℕ) (as_procedure : Bool) (e : Expression) (wanted : Use) {vals : List Val}
+      → Does op m i w rest (record { chain = act home (Do (CloseOp as_procedure e) ∷ EndEvaluation wanted ∷ []) [] ∷ act i w vals ∷ rest; memory = m })
   -- an instance is entered
-  enters : (n : Instances) (x : Instance (List Held)) {v : List Item} {vals : List Val} → Alike m n → IsOwn v → Does m i w rest (record { chain = act (length n.instances) v [] ∷ act i w vals ∷ rest; memory = entered n x (NoObject None) })
-  generates : (x : Instance (List Held)) {v : List Item} {vals : List Val} → IsOwn v → Does m i w rest (record { chain = act (length m.instances) v [] ∷ act i w vals ∷ rest; memory = entered m x AttachedObject })
+  enters : Enters op → (n : Instances) (x : Instance (List Held)) {v : List Item} {vals : List Val} → EnteredFrom m i x.encloser → Alike m n → IsOwn v → Does op m i w rest (record { chain = act (length n.instances) v [] ∷ act i w vals ∷ rest; memory = entered n x (NoObject None) })
+  generates : Generates op → (x : Instance (List Held)) {v : List Item} {vals : List Val} → EnteredFrom m i x.encloser → IsOwn v → Does op m i w rest (record { chain = act (length m.instances) v [] ∷ act i w vals ∷ rest; memory = entered m x AttachedObject })
   -- control is transferred
   transfers : {vals : List Val} {operating : List Activation} {standings : List (Standing Activation)}
-      → Transfers owner (system_head m) (record { operating = act i w vals ∷ rest; standings = m.standings }) (record { operating = operating; standings = standings })
-      → Does m i w rest (record { chain = operating; memory = record m { standings = standings } })
+      → Transfers owner (system_head m) (record { operating = act i w vals ∷ rest; standings = m.standings }) op (record { operating = operating; standings = standings })
+      → Does op m i w rest (record { chain = operating; memory = record m { standings = standings } })
 
 -- What is done with the first item of the work of the activation on top.
 pub data ItemDoes (m : Instances) (i : ℕ) (w : List Item) (rest : List Activation) : Item → Configuration → Type 0 where
-  operator_does : {op : Op} {d : Configuration} → Does m i w rest d → ItemDoes m i w rest (Do op) d
+  operator_does : {op : Op} {d : Configuration} → Does op m i w rest d → ItemDoes m i w rest (Do op) d
   level_ends : {text : ℕ} {vals : List Val} → ItemDoes m i w rest (EndLevel text) (record { chain = act i w vals ∷ rest; memory = m })
   -- an instance ends, but no object
   leaves : {end : Item} {n : Instances} {vals : List Val} (a : Activation) (below : List Activation) → EndsInstance end → Alike m n → rest ≡ a ∷ below
@@ -173,7 +178,7 @@ WorkDoes m i rest (x ∷ w) d = ItemDoes m i w rest x d
 
 -- the first step of a program
 pub data FirstDoes (m : Instances) : Configuration → Type 0 where
-  first_enters : (x : Instance (List Held)) {v : List Item} → length m.instances ≡ 0 → IsOwn v → FirstDoes m (record { chain = act (length m.instances) v [] ∷ []; memory = entered m x (NoObject None) })
+  first_enters : (x : Instance (List Held)) {v : List Item} → x.encloser ≡ None → length m.instances ≡ 0 → IsOwn v → FirstDoes m (record { chain = act (length m.instances) v [] ∷ []; memory = entered m x (NoObject None) })
 
 -- what a step does
 abbrev pub ChainDoes : Instances → List Activation → Configuration → Type 0

@@ -12,3 +12,6 @@ mod Neat
 mod Pending
 mod Numbers
 mod Chains
+mod Remaining
+mod After
+mod One

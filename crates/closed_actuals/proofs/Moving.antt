@@ -4,9 +4,10 @@ use Rattle.std.specs.Prelude.{⊤, Result, Ok, Err, slice_index_or, slice_set}
 use Rattle.sim_base.specs.declared.run_error.RunError.{RunError}
 use Rattle.sim_chains.specs.Chains.{Cut, cut_at, outermost, upper}
 use Rattle.sim_chains.specs.Components.{AttachedObject, Components, DetachedObject, NoObject, ResumedObject, Standing, TerminatedObject, call_by, detach_by, give_up_at, kept, kept_as, kept_by, leave_at, main_at, main_by, resume_at, resume_by, standing_of}
+use Rattle.sim_chains.specs.WellFormed.{chain_in}
 use Rattle.sim_chains.proofs.Cuts.{cut_is}
-use Rattle.sim_meaning.specs.Pending.{Activation, evaluates, owner}
-use Rattle.closed_actuals.specs.Evaluations.{Transfers, calls, detaches, kept_chain, main_resumes, resumes}
+use Rattle.sim_meaning.specs.Pending.{Activation, Op, evaluates, owner}
+use Rattle.closed_actuals.specs.Evaluations.{Transfers, calls, detaches, resumes, schedules, schedules_main}
 
 -- the outermost activation of a chain is an instance
 abbrev pub Rooted : List Activation → Type 0
@@ -41,7 +42,7 @@ module _ (P : Activation → Type 0) where
 
   abbrev pub AllKept : List (Standing Activation) → Type 0
   AllKept [] = ⊤
-  AllKept (x ∷ xs) = AllOn (kept_chain x) × AllKept xs
+  AllKept (x ∷ xs) = AllOn (chain_in x) × AllKept xs
 
   pub all_joined : (xs ys : List Activation) → AllOn xs → AllOn ys → AllOn (xs ++ ys)
   all_joined [] ys a b = b
@@ -55,16 +56,16 @@ module _ (P : Activation → Type 0) where
   all_behind [] ys a = a
   all_behind (x ∷ xs) ys a = all_behind xs ys a.1
 
-  pub kept_more : (xs : List (Standing Activation)) (x : Standing Activation) → AllKept xs → AllOn (kept_chain x) → AllKept (xs ++ x ∷ [])
+  pub kept_more : (xs : List (Standing Activation)) (x : Standing Activation) → AllKept xs → AllOn (chain_in x) → AllKept (xs ++ x ∷ [])
   kept_more [] x a b = (b, tt)
   kept_more (y ∷ xs) x a b = (a.0, kept_more xs x a.1 b)
 
-  pub kept_set : (xs : List (Standing Activation)) (j : ℕ) (x : Standing Activation) → AllKept xs → AllOn (kept_chain x) → AllKept (slice_set xs j x)
+  pub kept_set : (xs : List (Standing Activation)) (j : ℕ) (x : Standing Activation) → AllKept xs → AllOn (chain_in x) → AllKept (slice_set xs j x)
   kept_set [] j x a b = tt
   kept_set (y ∷ xs) zero x a b = (b, a.1)
   kept_set (y ∷ xs) (suc j) x a b = (a.0, kept_set xs j x a.1 b)
 
-  pub kept_at : (xs : List (Standing Activation)) (j : ℕ) → AllKept xs → AllOn (kept_chain (slice_index_or xs j (NoObject None)))
+  pub kept_at : (xs : List (Standing Activation)) (j : ℕ) → AllKept xs → AllOn (chain_in (slice_index_or xs j (NoObject None)))
   kept_at [] j a = tt
   kept_at (y ∷ xs) zero a = a.0
   kept_at (y ∷ xs) (suc j) a = kept_at xs j a.1
@@ -94,8 +95,8 @@ module _ (P : Activation → Type 0) where
       record { above = all_before k.above (k.here ∷ k.below) whole; here = behind.0; below = behind.1; rooted = rooted_behind k.above (k.here ∷ k.below) (subst Rooted same root) }
 
   module _ (c : Components Activation) (all : AllIn c) where
-    standing_all : (y : ℕ) (x : Standing Activation) → standing_of c y ≡ x → AllOn (kept_chain x)
-    standing_all y x is = subst (λ (z : Standing Activation). AllOn (kept_chain z)) is (kept_at c.standings y all.kept)
+    standing_all : (y : ℕ) (x : Standing Activation) → standing_of c y ≡ x → AllOn (chain_in x)
+    standing_all y x is = subst (λ (z : Standing Activation). AllOn (chain_in z)) is (kept_at c.standings y all.kept)
 
     called_all : (y : ℕ) (a : Activation) (rest : List Activation) → c.operating ≡ a ∷ rest → (x : Standing Activation) → standing_of c y ≡ x → AllThere (call_by x c y)
     called_all y a rest top (NoObject main) is = tt
@@ -180,10 +181,11 @@ module _ (P : Activation → Type 0) where
   all_ok : (r : Result (Components Activation) RunError) (d : Components Activation) → r ≡ Ok d → AllThere r → AllIn d
   all_ok r d is a = subst AllThere is a
 
-  pub transfers_all : (head : ℕ → ℕ) (c d : Components Activation) (a : Activation) (rest : List Activation) → c.operating ≡ a ∷ rest → AllIn c → Transfers owner head c d → AllIn d
-  transfers_all head c d a rest top all (calls None is) = absurd (cc)
-  transfers_all head c d a rest top all (calls (Some y) is) = all_ok _ d is (called_all c all y a rest top (standing_of c y) refl)
-  transfers_all head c d a rest top all (detaches x is) = all_ok _ d is (detached_all c all (head x) x (standing_of c x))
-  transfers_all head c d a rest top all (resumes None is) = absurd (cc)
-  transfers_all head c d a rest top all (resumes (Some y) is) = all_ok _ d is (resuming_all c all (head y) y (standing_of c y) refl)
-  transfers_all head c d a rest top all (main_resumes s is) = all_ok _ d is (main_all c all s (standing_of c s) refl)
+  pub transfers_all : (op : Op) (head : ℕ → ℕ) (c d : Components Activation) (a : Activation) (rest : List Activation) → c.operating ≡ a ∷ rest → AllIn c → Transfers owner head c op d → AllIn d
+  transfers_all op head c d a rest top all (calls None is) = absurd (cc)
+  transfers_all op head c d a rest top all (calls (Some y) is) = all_ok _ d is (called_all c all y a rest top (standing_of c y) refl)
+  transfers_all op head c d a rest top all (detaches x is) = all_ok _ d is (detached_all c all (head x) x (standing_of c x))
+  transfers_all op head c d a rest top all (resumes None is) = absurd (cc)
+  transfers_all op head c d a rest top all (resumes (Some y) is) = all_ok _ d is (resuming_all c all (head y) y (standing_of c y) refl)
+  transfers_all op head c d a rest top all (schedules by y is) = all_ok _ d is (resuming_all c all (head y) y (standing_of c y) refl)
+  transfers_all op head c d a rest top all (schedules_main by s is) = all_ok _ d is (main_all c all s (standing_of c s) refl)

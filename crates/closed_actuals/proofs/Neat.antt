@@ -5,12 +5,13 @@ use Rattle.std.specs.Prelude.{slice_set}
 use Rattle.std.proofs.lemmas.Option.{get_or_from_slice_get}
 use Rattle.sim_base.specs.declared.limits.Limits.{Limits}
 use Rattle.sim_chains.specs.Components.{AttachedObject, NoObject, Standing, TerminatedObject}
+use Rattle.sim_chains.specs.WellFormed.{chain_in}
 use Rattle.sim_scope.specs.Source.{Source}
 use Rattle.sim_code.specs.Instances.{components, system_head}
 use Rattle.sim_code.specs.Outcome.{Ended, Ending, Going, Run, World, after}
 use Rattle.sim_meaning.specs.Meaning.{run, step}
 use Rattle.sim_meaning.specs.Pending.{Activation, Configuration, Do, EndLevel, Instances, Item, Op, evaluates}
-use Rattle.closed_actuals.specs.Evaluations.{Adds, adds_level, adds_nothing, adds_operator, kept_chain}
+use Rattle.closed_actuals.specs.Evaluations.{Adds, adds_level, adds_nothing, adds_operator}
 use Rattle.closed_actuals.proofs.Does.{ChainDoes, Does, IsOwn, ItemDoes, WorkDoes, act, attached_ends, begins, enters, first_enters, generates, gives, is_last, leaves, level_ends, operator_does, own_end, own_level, own_operator, resumed_ends, transfers, works}
 use Rattle.closed_actuals.proofs.Lifts.{Goes}
 use Rattle.closed_actuals.proofs.Moving.{AllIn, AllKept, AllOn, Rooted, all_joined, kept_at, kept_more, kept_set, parts, rooted_behind, rooted_under, transfers_all}
@@ -89,17 +90,17 @@ rooted_below a rest root = rooted_behind (a ∷ []) rest root
 module _ (m : Instances) (i : ℕ) (rest : List Activation) (kept : AllKept WholeActivation m.standings) (below : AllOn WholeActivation rest) where
   -- with the work that is left on top
   module _ (w : List Item) (whole : IsWhole w) (root : (a : Activation) → evaluates a.work ≡ evaluates w → Rooted (a ∷ rest)) where
-    does_neat : (d : Configuration) → Does m i w rest d → Neat d
-    does_neat d (works {v = v} {vals = vals} alike a) = record { operating = (whole_adds a whole, below); kept = subst (AllKept WholeActivation) (sym alike.standings) kept; rooted = root (act i v vals) (adds_evaluates a whole) }
-    does_neat d (begins home p e wanted {vals = vals}) = record { operating = (whole_operator (whole_end refl), (whole, below)); kept = kept; rooted = root (act i w vals) refl }
-    does_neat d (enters n x {vals = vals} alike own) =
+    does_neat : (op : Op) (d : Configuration) → Does op m i w rest d → Neat d
+    does_neat op d (works {v = v} {vals = vals} alike a) = record { operating = (whole_adds a whole, below); kept = subst (AllKept WholeActivation) (sym alike.standings) kept; rooted = root (act i v vals) (adds_evaluates a whole) }
+    does_neat op d (begins by home p e wanted {vals = vals}) = record { operating = (whole_operator (whole_end refl), (whole, below)); kept = kept; rooted = root (act i w vals) refl }
+    does_neat op d (enters by n x {vals = vals} from alike own) =
         record { operating = (own_whole own, (whole, below)); kept = kept_more WholeActivation n.standings (NoObject None) (subst (AllKept WholeActivation) (sym alike.standings) kept) tt; rooted = root (act i w vals) refl }
-    does_neat d (generates x {vals = vals} own) = record { operating = (own_whole own, (whole, below)); kept = kept_more WholeActivation m.standings AttachedObject kept tt; rooted = root (act i w vals) refl }
-    does_neat d (transfers {vals = vals} {operating = operating} {standings = standings} moved) =
-        transfers_all WholeActivation (system_head m) (record { operating = act i w vals ∷ rest; standings = m.standings }) (record { operating = operating; standings = standings }) (act i w vals) rest refl (record { operating = (whole, below); kept = kept; rooted = root (act i w vals) refl }) moved
+    does_neat op d (generates by x {vals = vals} from own) = record { operating = (own_whole own, (whole, below)); kept = kept_more WholeActivation m.standings AttachedObject kept tt; rooted = root (act i w vals) refl }
+    does_neat op d (transfers {vals = vals} {operating = operating} {standings = standings} moved) =
+        transfers_all WholeActivation op (system_head m) (record { operating = act i w vals ∷ rest; standings = m.standings }) (record { operating = operating; standings = standings }) (act i w vals) rest refl (record { operating = (whole, below); kept = kept; rooted = root (act i w vals) refl }) moved
 
   item_neat : (x : Item) (w : List Item) → IsWhole (x ∷ w) → ((a : Activation) → evaluates a.work ≡ evaluates (x ∷ w) → Rooted (a ∷ rest)) → (d : Configuration) → ItemDoes m i w rest x d → Neat d
-  item_neat x w whole root d (operator_does {op = op} a) = does_neat w (whole_behind whole) (λ b same. root b (same ∙ sym (operator_evaluates op w whole))) d a
+  item_neat x w whole root d (operator_does {op = op} a) = does_neat w (whole_behind whole) (λ b same. root b (same ∙ sym (operator_evaluates op w whole))) op d a
   item_neat x w whole root d (level_ends {text = text} {vals = vals}) = record { operating = (level_behind whole, below); kept = kept; rooted = root (act i w vals) (sym (level_evaluates text w whole)) }
   item_neat x w whole root d (leaves {vals = vals} a under ends alike is) =
       let parts : AllOn WholeActivation (a ∷ under) = subst (AllOn WholeActivation) is below in
@@ -110,7 +111,7 @@ module _ (m : Instances) (i : ℕ) (rest : List Activation) (kept : AllKept Whol
   item_neat x w whole root d (attached_ends is) = record { operating = below; kept = kept_set WholeActivation m.standings i TerminatedObject kept tt; rooted = rooted_below (act i (x ∷ w) []) rest (root (act i (x ∷ w) []) refl) }
   item_neat x w whole root d (resumed_ends k main is cut at) =
       let p = parts WholeActivation (system_head m i) rest k cut below (rooted_below (act i (x ∷ w) []) rest (root (act i (x ∷ w) []) refl)) in
-      let before : AllOn WholeActivation main = subst (λ (z : Standing Activation). AllOn WholeActivation (kept_chain z)) (get_or_from_slice_get m.standings (system_head m i) (NoObject (Some main)) (NoObject None) at) (kept_at WholeActivation m.standings (system_head m i) kept) in
+      let before : AllOn WholeActivation main = subst (λ (z : Standing Activation). AllOn WholeActivation (chain_in z)) (get_or_from_slice_get m.standings (system_head m i) (NoObject (Some main)) (NoObject None) at) (kept_at WholeActivation m.standings (system_head m i) kept) in
       record {
         operating = all_joined WholeActivation main (k.here ∷ k.below) before (p.here, p.below);
         kept = kept_set WholeActivation (slice_set m.standings (system_head m i) (NoObject None)) i TerminatedObject (kept_set WholeActivation m.standings (system_head m i) (NoObject None) kept tt) tt;
@@ -118,7 +119,7 @@ module _ (m : Instances) (i : ℕ) (rest : List Activation) (kept : AllKept Whol
       }
 
 chain_neat : (m : Instances) (chain : List Activation) (d : Configuration) → AllIn WholeActivation (record { operating = chain; standings = m.standings }) → ChainDoes m chain d → Neat d
-chain_neat m [] d neat (first_enters x empty own) = record { operating = (own_whole own, tt); kept = kept_more WholeActivation m.standings (NoObject None) neat.kept tt; rooted = own_evaluates own }
+chain_neat m [] d neat (first_enters x alone empty own) = record { operating = (own_whole own, tt); kept = kept_more WholeActivation m.standings (NoObject None) neat.kept tt; rooted = own_evaluates own }
 chain_neat m (a ∷ rest) d neat does = by_work a.work refl does
   where
     by_work : (w : List Item) → a.work ≡ w → WorkDoes m a.instance rest w d → Neat d

@@ -8,8 +8,8 @@ use Rattle.sim_chains.specs.Chains.{Cut, cut_at, is_instance, outermost, under, 
 use Rattle.sim_chains.specs.Components.{AttachedObject, Components, DetachedObject, NoObject, ResumedObject, Standing, TerminatedObject, call, call_by, detach, detach_by, dropped, finish, finish_by, give_up_at, kept, kept_as, kept_by, leave_at, main_at, main_by, resume, resume_at, resume_by, resume_main, returned, standing_of, with_standing}
 use Rattle.sim_chains.specs.WellFormed.{is_object}
 use Rattle.sim_chains.proofs.Cuts.{cut_is, is_itself}
-use Rattle.sim_meaning.specs.Pending.{Activation, owner}
-use Rattle.closed_actuals.specs.Evaluations.{Transfers, calls, detaches, instances_in, instances_on, itself, main_resumes, resumes, with_owner, without_evaluations}
+use Rattle.sim_meaning.specs.Pending.{Activation, Item, Op, evaluates, owner}
+use Rattle.closed_actuals.specs.Evaluations.{OnChain, Transfers, in_front, on_chain, waiting, calls, detaches, instances_in, instances_on, itself, schedules, schedules_main, resumes, with_owner, without_evaluations}
 
 -- ---- lists
 
@@ -35,15 +35,36 @@ joined_same (x ∷ xs) ys = ap (with_owner (owner x)) (joined_same xs ys) ∙ by
 own_same : (x : ℕ) (a : Activation) (rest : List Activation) → owner a ≡ Some x → instances_on (a ∷ rest) ≡ x ∷ instances_on rest
 own_same x a rest is = ap (λ (u : Option ℕ). with_owner u (instances_on rest)) is
 
+-- ---- chains
+
+abbrev pub number : OnChain → ℕ
+number x = x.instance
+
+-- the instances of a chain, with their work or without
+pub numbers_on : (chain : List Activation) → instances_on chain ≡ map number (on_chain chain)
+numbers_on [] = refl
+numbers_on (a ∷ rest) = ap (with_owner (owner a)) (numbers_on rest) ∙ by_flag (evaluates a.work)
+  where
+    in_front_same : (w : List Item) (xs : List OnChain) → map number (in_front w xs) ≡ map number xs
+    in_front_same w [] = refl
+    in_front_same w (x ∷ xs) = refl
+
+    by_flag : (is : Bool) → with_owner (if is then None else Some a.instance) (map number (on_chain rest)) ≡ map number (if is then in_front a.work (on_chain rest) else waiting a.instance a.work ∷ on_chain rest)
+    by_flag true = sym (in_front_same a.work (on_chain rest))
+    by_flag false = refl
+
+pub numbers_are : (chain : List Activation) (xs : List OnChain) → on_chain chain ≡ xs → instances_on chain ≡ map number xs
+numbers_are chain xs is = numbers_on chain ∙ ap (map number) is
+
 -- ---- cuts
 
 some_number : (x i : ℕ) → is_instance x (Some i) ≡ true → i ≡ x
 some_number x i same = eqb-true i x same
 
-abbrev cut_without : ℕ → Cut Activation → Cut ℕ
+abbrev pub cut_without : ℕ → Cut Activation → Cut ℕ
 cut_without x k = record { above = instances_on k.above; here = x; below = instances_on k.below }
 
-abbrev cut_of : ℕ → Option (Cut Activation) → Option (Cut ℕ)
+abbrev pub cut_of : ℕ → Option (Cut Activation) → Option (Cut ℕ)
 cut_of x None = None
 cut_of x (Some k) = Some (cut_without x k)
 
@@ -86,7 +107,7 @@ with_same y x c = ap (λ (z : List (Standing ℕ)). record { operating = instanc
 pub components_are : (xs ys : List ℕ) (s t : List (Standing ℕ)) → xs ≡ ys → s ≡ t → ◌≡◌ {A = Components ℕ} (record { operating = xs; standings = s }) (record { operating = ys; standings = t })
 components_are xs ys s t operating standings = ap (λ (z : List ℕ). record { operating = z; standings = s }) operating ∙ ap (λ (z : List (Standing ℕ)). record { operating = ys; standings = z }) standings
 
-outermost_same : (u : List Activation) (z : ℕ) → outermost owner u ≡ Some z → outermost itself (instances_on u) ≡ Some z
+pub outermost_same : (u : List Activation) (z : ℕ) → outermost owner u ≡ Some z → outermost itself (instances_on u) ≡ Some z
 outermost_same [] z is = absurd (cc)
 outermost_same (a ∷ []) z is = ap (λ (v : Option ℕ). outermost itself (with_owner v [])) is
 outermost_same (a ∷ b ∷ u) z is = over (owner a) (instances_on (b ∷ u)) (outermost_same (b ∷ u) z is)
@@ -199,11 +220,12 @@ module _ (head : ℕ → ℕ) (c : Components Activation) (good : IsGood head c)
   pub detach_same : (x : ℕ) → detach itself head W x ≡ result_without (detach owner head c x)
   detach_same x = ap (λ (z : Standing ℕ). detach_by itself z W (head x) x) (standing_same c x) ∙ detached_same (head x) x (standing_of c x)
 
-  pub transfers_same : (d : Components Activation) → Transfers owner head c d → Transfers itself head W (without_evaluations d)
-  transfers_same d (calls y is) = calls y (call_same y ∙ ap result_without is)
-  transfers_same d (detaches x is) = detaches x (detach_same x ∙ ap result_without is)
-  transfers_same d (resumes y is) = resumes y (resume_same y ∙ ap result_without is)
-  transfers_same d (main_resumes s is) = main_resumes s (main_same s ∙ ap result_without is)
+  pub transfers_same : (op : Op) (d : Components Activation) → Transfers owner head c op d → Transfers itself head W op (without_evaluations d)
+  transfers_same op d (calls y is) = calls y (call_same y ∙ ap result_without is)
+  transfers_same op d (detaches x is) = detaches x (detach_same x ∙ ap result_without is)
+  transfers_same op d (resumes y is) = resumes y (resume_same y ∙ ap result_without is)
+  transfers_same op d (schedules by y is) = schedules by y (resume_same (Some y) ∙ ap result_without is)
+  transfers_same op d (schedules_main by s is) = schedules_main by s (main_same s ∙ ap result_without is)
 
 -- ---- the end of an object
 

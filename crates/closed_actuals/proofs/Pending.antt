@@ -1,5 +1,5 @@
 -- Each step does the first item of what is pending in the instance that operates, evaluations left out.
-use Rattle.std.proofs.Common.{◌≡◌, ℕ, ◌+◌, Bool, true, false, List, [], ◌∷◌, ◌++◌, length, Option, Some, None, refl, sym, ap, ◌∙◌, subst, arith}
+use Rattle.std.proofs.Common.{◌≡◌, ℕ, ◌+◌, Bool, true, false, List, [], ◌∷◌, ◌++◌, length, Option, Some, None, inl, inr, refl, sym, ap, ◌∙◌, subst, arith}
 use Rattle.std.proofs.lemmas.Bool.{eqb-true}
 use Rattle.std.proofs.lemmas.List.{append-nil}
 use Rattle.std.proofs.lemmas.Option.{get_or_from_slice_get}
@@ -13,7 +13,7 @@ use Rattle.sim_code.specs.Instances.{components, system_head}
 use Rattle.sim_code.specs.Outcome.{Ended, Going, Run}
 use Rattle.sim_meaning.specs.Meaning.{step}
 use Rattle.sim_meaning.specs.Pending.{Activation, CloseOp, Configuration, Do, EndEvaluation, EndLevel, EndObject, Instances, Item, Op, evaluates, owner}
-use Rattle.closed_actuals.specs.Evaluations.{Adds, Done, DoesPending, EndsInstance, NextMoments, OnChain, StandAsBefore, WorksOffPending, adds_level, adds_nothing, adds_operator, behind_evaluation, behind_level, by_operator, ended_object, entered_instance, entered_object, evaluation_comes, in_front, inside, left_instance, of_block, of_prefixed, of_procedure, on_chain, transferred_control, waiting, work_comes}
+use Rattle.closed_actuals.specs.Evaluations.{Adds, Done, DoesPending, EndsInstance, NextMoments, OnChain, StandAsBefore, WorksOffPending, adds_level, adds_nothing, adds_operator, began_evaluation, behind_evaluation, behind_level, by_operator, ended_object, entered_instance, entered_object, in_front, inside, left_instance, of_block, of_prefixed, of_procedure, on_chain, transferred_control, waiting}
 use Rattle.closed_actuals.proofs.Does.{ChainDoes, Does, ItemDoes, WorkDoes, act, attached_ends, begins, enters, generates, gives, is_last, leaves, level_ends, operator_does, resumed_ends, transfers, works}
 use Rattle.closed_actuals.proofs.Lifts.{Goes}
 use Rattle.closed_actuals.proofs.Moving.{AllIn, Rooted}
@@ -29,16 +29,16 @@ adds_behind u (adds_level a) = adds_level (adds_behind u a)
 
 -- ---- the first instance of a chain
 
-record FirstOn (chain : List Activation) : Type 0 where
-  instance : ℕ
-  work : List Item
-  others : List OnChain
-  first : on_chain chain ≡ waiting instance work ∷ others
+pub record FirstOn (chain : List Activation) : Type 0 where
+  pub instance : ℕ
+  pub work : List Item
+  pub others : List OnChain
+  pub first : on_chain chain ≡ waiting instance work ∷ others
 
-own_on : (a : Activation) (rest : List Activation) → evaluates a.work ≡ false → on_chain (a ∷ rest) ≡ waiting a.instance a.work ∷ on_chain rest
+pub own_on : (a : Activation) (rest : List Activation) → evaluates a.work ≡ false → on_chain (a ∷ rest) ≡ waiting a.instance a.work ∷ on_chain rest
 own_on a rest is = ap (λ (b : Bool). if b then in_front a.work (on_chain rest) else waiting a.instance a.work ∷ on_chain rest) is
 
-evaluation_on : (a : Activation) (rest : List Activation) → evaluates a.work ≡ true → on_chain (a ∷ rest) ≡ in_front a.work (on_chain rest)
+pub evaluation_on : (a : Activation) (rest : List Activation) → evaluates a.work ≡ true → on_chain (a ∷ rest) ≡ in_front a.work (on_chain rest)
 evaluation_on a rest is = ap (λ (b : Bool). if b then in_front a.work (on_chain rest) else waiting a.instance a.work ∷ on_chain rest) is
 
 -- the activation on top belongs to an instance, whatever its work is, as long as it is an evaluation or not
@@ -70,7 +70,7 @@ evaluation_belongs i rest f = record {
   evaluation = λ e. f.first;
 }
 
-first_on : (a : Activation) (rest : List Activation) → Rooted (a ∷ rest) → FirstOn (a ∷ rest)
+pub first_on : (a : Activation) (rest : List Activation) → Rooted (a ∷ rest) → FirstOn (a ∷ rest)
 first_on a [] root = record { instance = a.instance; work = a.work; others = []; first = own_on a [] root }
 first_on a (b ∷ rest) root = by_flag (evaluates a.work) refl (first_on b rest root)
   where
@@ -130,19 +130,19 @@ module _ (m : Instances) (a : Activation) (rest : List Activation) where
   Now = record { chain = a ∷ rest; memory = m }
 
   module _ (w : List Item) (whole : IsWhole w) (is : Bool) (b : Belongs a.instance rest is) (its : evaluates w ≡ is) where
-    done_operator : (op : Op) → a.work ≡ Do op ∷ w → (d : Configuration) → Does m a.instance w rest d → Done Now b.instance (w ++ b.below) b.others (Do op) d
+    done_operator : (op : Op) → a.work ≡ Do op ∷ w → (d : Configuration) → Does op m a.instance w rest d → Done Now b.instance (w ++ b.below) b.others (Do op) d
     done_operator op work d (works {v = v} {vals = vals} alike more) =
-        inside d by_operator (work_comes (adds_behind b.below more)) (b.on (act a.instance v vals) refl (adds_evaluates more whole ∙ its)) (record { counted = alike.counted; standings = alike.standings })
-    done_operator op work d (begins home p e wanted {vals = vals}) =
-        inside d by_operator (evaluation_comes p e wanted) (ap (in_front (Do (CloseOp p e) ∷ EndEvaluation wanted ∷ [])) (b.on (act a.instance w vals) refl its)) (record { counted = refl; standings = refl })
-    done_operator op work d (enters n x {v = v} {vals = vals} alike own) =
-        entered_instance v d
+        inside d by_operator (adds_behind b.below more) (b.on (act a.instance v vals) refl (adds_evaluates more whole ∙ its)) (record { counted = alike.counted; standings = alike.standings })
+    done_operator op work d (begins by home p e wanted {vals = vals}) =
+        began_evaluation d by p e wanted (ap (in_front (Do (CloseOp p e) ∷ EndEvaluation wanted ∷ [])) (b.on (act a.instance w vals) refl its)) (record { counted = refl; standings = refl })
+    done_operator op work d (enters by n x {v = v} {vals = vals} from alike own) =
+        entered_instance v d by
         (own_on (act (length n.instances) v []) (act a.instance w vals ∷ rest) (own_evaluates own)
         ∙ ap (λ (z : List OnChain). waiting (length n.instances) v ∷ z) (b.on (act a.instance w vals) refl its)
         ∙ ap (λ (z : ℕ). waiting z v ∷ waiting b.instance (w ++ b.below) ∷ b.others) alike.counted)
         (record { counted = longer n.instances x ∙ ap (λ (z : ℕ). z + 1) alike.counted; standings = ap (λ (z : List (Standing Activation)). z ++ NoObject None ∷ []) alike.standings })
-    done_operator op work d (generates x {v = v} {vals = vals} own) =
-        entered_object v d
+    done_operator op work d (generates by x {v = v} {vals = vals} from own) =
+        entered_object v d by
         (own_on (act (length m.instances) v []) (act a.instance w vals ∷ rest) (own_evaluates own) ∙ ap (λ (z : List OnChain). waiting (length m.instances) v ∷ z) (b.on (act a.instance w vals) refl its))
         (record { counted = longer m.instances x; standings = refl })
     done_operator op work d (transfers {vals = vals} moved) = transferred_control d a w vals rest refl work (b.on (act a.instance w vals) refl its) moved refl
@@ -156,7 +156,7 @@ module _ (m : Instances) (a : Activation) (rest : List Activation) where
     done_item : (x : Item) (w : List Item) → IsWhole (x ∷ w) → evaluates (x ∷ w) ≡ is → a.work ≡ x ∷ w → (d : Configuration) → ItemDoes m a.instance w rest x d → Done Now b.instance (w ++ b.below) b.others x d
     done_item (Do op) w whole its work d (operator_does does) = done_operator w (whole_behind whole) is b (sym (operator_evaluates op w whole) ∙ its) op work d does
     done_item (EndLevel text) w whole its work d (level_ends {vals = vals}) =
-        inside d behind_level (work_comes adds_nothing) (b.on (act a.instance w vals) refl (sym (level_evaluates text w whole) ∙ its)) (record { counted = refl; standings = refl })
+        inside d behind_level adds_nothing (b.on (act a.instance w vals) refl (sym (level_evaluates text w whole) ∙ its)) (record { counted = refl; standings = refl })
     done_item x w whole its work d (leaves {vals = vals} below under ends alike there) =
         let last = ends_last x ends in
         let none = nothing_behind last.0 whole in
@@ -165,19 +165,19 @@ module _ (m : Instances) (a : Activation) (rest : List Activation) where
     done_item (EndEvaluation wanted) w whole its work d (gives {vals = vals} below under there) =
         let none = nothing_behind refl whole in
         let evaluation = b.evaluation (sym its ∙ ap (λ (z : List Item). evaluates (EndEvaluation wanted ∷ z)) none) in
-        inside d behind_evaluation (work_comes adds_nothing) (ap on_chain (sym there) ∙ evaluation ∙ ap (λ (z : List Item). waiting b.instance (z ++ b.below) ∷ b.others) (sym none)) (record { counted = refl; standings = refl })
+        inside d behind_evaluation adds_nothing (ap on_chain (sym there) ∙ evaluation ∙ ap (λ (z : List Item). waiting b.instance (z ++ b.below) ∷ b.others) (sym none)) (record { counted = refl; standings = refl })
     done_item EndObject w whole its work d (attached_ends at) =
         let none = nothing_behind refl whole in
         let alone = ap (λ (z : List Item). evaluates (EndObject ∷ z)) none in
         let own = b.own (sym its ∙ alone) in
         let mine : owner a ≡ Some a.instance = ap (λ (z : Bool). if z then None else Some a.instance) (ap evaluates work ∙ alone) in
-        ended_object d (ap (λ (z : List Item). z ++ b.below) none ∙ own.1) (attached_finish a rest m a.instance mine at ∙ ap (finish owner (system_head m) (components Now)) (sym own.0)) refl
+        ended_object d (inl (ap (slice_get m.standings) own.0 ∙ at)) (ap (λ (z : List Item). z ++ b.below) none ∙ own.1) (attached_finish a rest m a.instance mine at ∙ ap (finish owner (system_head m) (components Now)) (sym own.0)) refl
     done_item EndObject w whole its work d (resumed_ends k main at cut kept) =
         let none = nothing_behind refl whole in
         let alone = ap (λ (z : List Item). evaluates (EndObject ∷ z)) none in
         let own = b.own (sym its ∙ alone) in
         let mine : owner a ≡ Some a.instance = ap (λ (z : Bool). if z then None else Some a.instance) (ap evaluates work ∙ alone) in
-        ended_object d (ap (λ (z : List Item). z ++ b.below) none ∙ own.1) (resumed_finish a rest m a.instance mine main k at kept cut ∙ ap (finish owner (system_head m) (components Now)) (sym own.0)) refl
+        ended_object d (inr (ap (slice_get m.standings) own.0 ∙ at)) (ap (λ (z : List Item). z ++ b.below) none ∙ own.1) (resumed_finish a rest m a.instance mine main k at kept cut ∙ ap (finish owner (system_head m) (components Now)) (sym own.0)) refl
 
 -- what is done of a configuration with an activation on top
 chain_pending : (m : Instances) (chain : List Activation) (d : Configuration) → AllIn WholeActivation (record { operating = chain; standings = m.standings }) → (chain ≡ [] → ⊥) → ChainDoes m chain d → DoesPending (record { chain = chain; memory = m }) d

@@ -87,7 +87,7 @@ object_does l o m i w rest = ticking_goes (ItemDoes m i w rest EndObject) l o _ 
 
 module _ (s : Source) (l : Limits) (o : World) (m : Instances) where
   item_does : (i : ℕ) (w : List Item) (vals : List Val) (rest : List Activation) (x : Item) → Goes (ItemDoes m i w rest x) (do_item s l o m i w vals rest x)
-  item_does i w vals rest (Do op) = goes_with (Does m i w rest) (ItemDoes m i w rest (Do op)) (do_item s l o m i w vals rest (Do op)) (λ c a. operator_does a) (op_does s l o m i w vals rest op)
+  item_does i w vals rest (Do op) = goes_with (Does op m i w rest) (ItemDoes m i w rest (Do op)) (do_item s l o m i w vals rest (Do op)) (λ c a. operator_does a) (op_does s l o m i w vals rest op)
   item_does i w vals rest EndBlock = leaving_does s o m i w rest None EndBlock of_block
   item_does i w vals rest (EndProcedure true) = having_goes (ItemDoes m i w rest (EndProcedure true)) (cell m i Result) o _ (λ v. leaving_does s o m i w rest (Some v) (EndProcedure true) of_procedure)
   item_does i w vals rest (EndProcedure false) = leaving_does s o m i w rest None (EndProcedure false) of_procedure
@@ -103,9 +103,9 @@ module _ (s : Source) (l : Limits) (o : World) (m : Instances) where
 
   program_does : length m.instances ≡ 0 → (x : Option Text) → Goes (FirstDoes m) (program_entered s l o m x)
   program_does empty None = none (FirstDoes m) o
-  program_does empty (Some (BlockText begin ds ss)) = entering_goes (FirstDoes m) l _ _ o _ (λ p. first_enters _ empty (own_operator (declarations_own s _ (length m.instances) ds (own_operator (own_end refl refl)))))
+  program_does empty (Some (BlockText begin ds ss)) = entering_goes (FirstDoes m) l _ _ o _ (λ p. first_enters _ refl empty (own_operator (declarations_own s _ (length m.instances) ds (own_operator (own_end refl refl)))))
   program_does empty (Some (ProcedureText result h a)) = none (FirstDoes m) o
-  program_does empty (Some (PrefixedText class arguments ds ss)) = having_goes (FirstDoes m) (levels s 0) o _ (λ xs. entering_goes (FirstDoes m) l _ _ o _ (λ p. first_enters _ empty (own_operator (levels_own xs EndProgram refl refl))))
+  program_does empty (Some (PrefixedText class arguments ds ss)) = having_goes (FirstDoes m) (levels s 0) o _ (λ xs. entering_goes (FirstDoes m) l _ _ o _ (λ p. first_enters _ refl empty (own_operator (levels_own xs EndProgram refl refl))))
   program_does empty (Some _) = none (FirstDoes m) o
 
   chain_does : (chain : List Activation) → Goes (ChainDoes m chain) (do_chain s l o m chain)

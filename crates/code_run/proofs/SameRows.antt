@@ -21,7 +21,7 @@ use Rattle.sim_code.specs.Events.{choosing, entering, having, performing, pop_ma
 use Rattle.sim_code.specs.Arrays.{finding_element, handed_over}
 use Rattle.sim_code.specs.Formals.{all_fit, class_held, copied_for, copying_value, each, formal_in_hand, is_by_name, passing, running_thunk, runs_inside, suiting, thunk_for}
 use Rattle.sim_code.specs.Instances.{CellPlace, ElementPlace, encloser_of, is_live}
-use Rattle.sim_code.specs.Machine.{Activation, Address, ArrayValue, Frames, Machine, Of, ProcedureValue, Value, array_in, arrays_among, at, block_at, cell, cell_at, first_cells, frame_in, in_frame, in_new, in_object, in_prefixed, index, is_there, is_tick, jumping, leaving, link_in, on, operand, own_block, owner, plain, procedure_in, pushing, same_kind, thunk_in, variable_in, waiting, with_result, words_of_block}
+use Rattle.sim_code.specs.Machine.{Activation, Address, ArrayValue, Frames, Machine, Of, ProcedureValue, Value, array_in, arrays_among, at, block_at, cell, cell_at, first_cells, frame_in, has_cell, in_frame, in_new, in_object, in_prefixed, index, is_roomy, is_there, is_tick, jumping, leaving, link_in, on, operand, own_block, owner, plain, procedure_in, pushing, same_kind, thunk_in, variable_in, waiting, with_result, words_of_block}
 use Rattle.sim_code.specs.Classes.{admitting, class_named, class_numbered, in_process, is_in, is_of, levels, qualifying}
 use Rattle.sim_code.specs.Levels.{after_declarations, at_inner, at_stage, block_begun, class_at_level, declarations_done, ending_process, entering_prefixed, generating, inner_reached, leading, level_ended, levelled, object_made, objects_of, own_levels, same_stage, supplied, words_of_object}
 use Rattle.sim_code.specs.Scheduling.{performing_activation, performing_process, performing_simulation}
@@ -29,7 +29,7 @@ use Rattle.sim_code.specs.Sets.{is_set_name, performing_set}
 use Rattle.sim_code.specs.Simulations.{is_process_name, is_simulation_name}
 use Rattle.sim_code.specs.Thunks.{in_thunk, instruction_before, using_name, value_given}
 use Rattle.sim_code.specs.Virtuals.{counting, matching}
-use Rattle.sim_code.specs.Rows.{activation_of, checking, class_at, decided, entering_frame, first_stage, first_step, mrun, mstep, on_chain, on_top, opening, parameter_row, program_begun, pushed, put_back, putting, qualified, room_for, row, standard_of, standard_row, thunk_ended, thunk_given, thunk_pushed, with_value, without_class}
+use Rattle.sim_code.specs.Rows.{activation_of, checking, class_at, decided, entering_frame, first_stage, first_step, mrun, mstep, on_chain, on_top, opening, parameter_row, program_begun, pushed, put_back, putting, qualified, room_for, row, standard_of, standard_row, thunk_ended, thunk_given, thunk_pushed, truth_of, with_value, without_class}
 use Rattle.code_run.specs.Settling.{settled, settled_code, settled_instr}
 use Rattle.code_run.proofs.Names.{settled_as, settled_row}
 use Rattle.code_run.proofs.SameFormals.{agree_fn, agreeing, all_fit_fn, in_hand_same}
@@ -288,7 +288,7 @@ module _ (code : CodeOf) where
 
   using_name_same : (l : Limits) (o : World) (m : Frames) (a : Activation) (below : List Activation) (j c : ℕ) → using_name same l o m a below j c ≡ using_name code l o m a below j c
   using_name_same l o m a below j c =
-      ap (λ (f : World → ℕ → ℕ → Run Machine). having (cell m j c) o (λ v. having (thunk_in v) o (λ t. ticking l o (λ p. f p t.0 t.1))))
+      ap (λ (f : World → ℕ → ℕ → Run Machine). having (cell m j c) o (λ v. having (thunk_in v) o (λ t. when (is_roomy a) o (ticking l o (λ p. f p t.0 t.1)))))
       (fun_ext (λ p. fun_ext (λ t. fun_ext (λ home. in_thunk_same p m t home (waiting a a.stack ∷ below)))))
 
   -- ---- procedures in hand
@@ -307,7 +307,7 @@ module _ (code : CodeOf) where
       ∙ ap (λ (agree : (parent : ℕ) → CodeFormal → CodeActual → Option Bool). checking_by (all_fit code) agree o m a below line z) (agree_fn code m a.home)
 
   running_same : (o : World) (m : Frames) (a : Activation) (below : List Activation) (z : ℤ) → running_thunk same o m a below z ≡ running_thunk code o m a below z
-  running_same o m a below z = ap (λ (f : ℕ → Run Machine). index z o (λ t. when (runs_inside a.thunk t) o (f t))) (fun_ext (λ t. in_thunk_same o m t a.home (waiting a a.stack ∷ below)))
+  running_same o m a below z = ap (λ (f : ℕ → Run Machine). index z o (λ t. when (runs_inside a.thunk t) o (when (is_roomy a) o (f t)))) (fun_ext (λ t. in_thunk_same o m t a.home (waiting a a.stack ∷ below)))
 
   parameter_same : (o : World) (m : Frames) (a : Activation) (below : List Activation) (z t p : ℤ) → parameter_row same o m a below z t p ≡ parameter_row code o m a below z t p
   parameter_same o m a below z t p =
@@ -447,8 +447,8 @@ module _ (code : CodeOf) where
   row_same l o m a below line i.NoText = refl
   row_same l o m a below line (i.Link x) = refl
   row_same l o m a below line (i.This x) = refl
-  row_same l o m a below line (i.Addr x y z) = qualified_same z o (λ q. cell_at m a x y o (λ j c. pushed o m a below (Address (CellPlace j c q))))
-  row_same l o m a below line (i.AddrR x y) = qualified_same y o (λ q. pop_object plain line a.stack o (λ j stack. index x o (λ c. on o m a (Address (CellPlace j c q) ∷ stack) below)))
+  row_same l o m a below line (i.Addr x y z) = qualified_same z o (λ q. cell_at m a x y o (λ j c. when (has_cell m j c) o (pushed o m a below (Address (CellPlace j c q)))))
+  row_same l o m a below line (i.AddrR x y) = qualified_same y o (λ q. pop_object plain line a.stack o (λ j stack. index x o (λ c. when (has_cell m j c) o (on o m a (Address (CellPlace j c q) ∷ stack) below))))
   row_same l o m a below line (i.AddrImg x) = refl
   row_same l o m a below line (i.Elem x y) = qualified_same y o (λ q. index x o (λ n. finding_element plain array_in n line a.stack o (λ array k stack. on o m a (Address (ElementPlace array k q) ∷ stack) below)))
   row_same l o m a below line i.Fetch = refl
@@ -496,8 +496,10 @@ module _ (code : CodeOf) where
   row_same l o m a below line (i.Param x y z) = parameter_same o m a below x y z
   row_same l o m a below line (i.CallV x) = ap (λ (f : BlockKind → ℤ → World → (ℕ → BlockOf → Run Machine) → Run Machine). index x o (λ n. pop_many n [] a.stack o (λ values stack. popping stack o (λ v stack. having (procedure_in v) o (λ q. when (is_live m q.1) o (f block.Procedure (pos q.0) o (λ k b. entering_frame l o m a below line k b q.1 values stack))))))) block_at_fn
   row_same l o m a below line (i.Thunk x) = refl
-  row_same l o m a below line (i.NameVal x y z) = ap (cell_at m a x y o) (fun_ext (λ j. fun_ext (using_name_same l o m a below j)))
-  row_same l o m a below line (i.NameAddr x y z) = ap (cell_at m a x y o) (fun_ext (λ j. fun_ext (using_name_same l o m a below j)))
+  row_same l o m a below line (i.NameVal x y z) =
+      ap (λ (uses : ℕ → ℕ → Run Machine). qualified same z o (λ q. cell_at m a x y o uses)) (fun_ext (λ j. fun_ext (using_name_same l o m a below j)))
+      ∙ qualified_same z o (λ q. cell_at m a x y o (using_name code l o m a below))
+  row_same l o m a below line (i.NameAddr x y z) = ap (λ (uses : ℕ → ℕ → Run Machine). having (truth_of z) o (λ value_too. cell_at m a x y o uses)) (fun_ext (λ j. fun_ext (using_name_same l o m a below j)))
   row_same l o m a below line i.EndThunk = ap (λ (f : Value → Run Machine). having a.thunk o (λ _. popping a.stack o (λ v _. f v))) (fun_ext (λ v. thunk_ended_same l o m v below))
   row_same l o m a below line (i.New x y) = generating_same l o m a below line x y
   row_same l o m a below line (i.Pref x y) = prefixed_same l o m a below line x y

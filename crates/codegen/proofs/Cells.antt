@@ -38,7 +38,7 @@ use Rattle.codegen_expr.proofs.Pieces.{emits_at, emits_classed, emits_push}
 use Rattle.codegen_expr.proofs.Slots.{slot_found, slot_within}
 use Rattle.codegen.specs.declared.left.Left.{Left}
 use Rattle.codegen.specs.declared.left.Left.TheVariants as left
-use Rattle.codegen.specs.CodeLeft.{AtAddress, InCell, NotBuilt, Stored, stored_anew, stored_declared, stored_element, stored_formal, stored_named, stored_result, stored_variable}
+use Rattle.codegen.specs.CodeLeft.{AtAddress, InCell, NoPlace, Stored, stored_anew, stored_declared, stored_element, stored_formal, stored_named, stored_result, stored_variable}
 use Rattle.codegen.specs.EmitLeft.{FindsDeclared, FindsElement, FindsFormal, FindsLeft, FindsOwn, FindsResult, FindsVariable, IsVariable, IsWhole, LoadsCell, StoresCell, operands_in}
 
 -- ---- cells by key
@@ -167,11 +167,11 @@ no_operands : (es : List Expr) → length es ≡ 0 → operands_in es ≡ NoMore
 no_operands [] e = refl
 no_operands (x ∷ xs) e = absurd (cc)
 
-variable_alone : (s : Source) (d : DeclNo) (es : List Expr) → length es ≢ 0 → NotBuilt ≡ stored_variable s d (operands_in es)
+variable_alone : (s : Source) (d : DeclNo) (es : List Expr) → length es ≢ 0 → NoPlace ≡ stored_variable s d (operands_in es)
 variable_alone s d [] ne = absurd (ne refl)
 variable_alone s d (x ∷ xs) ne = refl
 
-result_alone : (k : ℕ) (es : List Expr) → length es ≢ 0 → NotBuilt ≡ stored_result k (operands_in es)
+result_alone : (k : ℕ) (es : List Expr) → length es ≢ 0 → NoPlace ≡ stored_result k (operands_in es)
 result_alone k [] ne = absurd (ne refl)
 result_alone k (x ∷ xs) ne = refl
 
@@ -181,12 +181,12 @@ element_of d (x ∷ xs) line ne = refl
 
 module _ (b : Bound) (w : Spot) where
   -- what is not built is found not to be
-  not_built : (t : Stored) → NotBuilt ≡ t → IsVariable (source_of b) w left.NotBuilt t
-  not_built t e = subst (λ z. IsVariable (source_of b) w left.NotBuilt z) e (λ h. h)
+  not_built : (t : Stored) → NoPlace ≡ t → IsVariable (source_of b) w left.NoPlace t
+  not_built t e = subst (λ z. IsVariable (source_of b) w left.NoPlace z) e (λ h. h)
 
   -- ---- variables
 
-  pub variable_subscripts : (d : DeclNo) (es : List Expr) → length es ≢ 0 → FindsVariable b w d es left.NotBuilt
+  pub variable_subscripts : (d : DeclNo) (es : List Expr) → length es ≢ 0 → FindsVariable b w d es left.NoPlace
   unfolding FindsVariable
   variable_subscripts d es ne = not_built _ (variable_alone (source_of b) d es ne)
 
@@ -194,12 +194,12 @@ module _ (b : Bound) (w : Spot) where
   unfolding FindsVariable
   cell_of d es none r f = subst (λ z. IsVariable (source_of b) w r (stored_variable (source_of b) d z)) (sym (no_operands es none)) f
 
-  pub variable_no_slot : (d : DeclNo) (es : List Expr) (slot : Option ℕ) → length es ≡ 0 → slot ≡ slot_in (source_of b) (block_of (source_of b) d) (Declared d.0) → slot ≡ None → FindsVariable b w d es left.NotBuilt
-  variable_no_slot d es slot alone es' none = cell_of d es alone left.NotBuilt (λ h. let k = h.has in let t : is_there (slot_in (source_of b) (block_of (source_of b) d) (Declared d.0)) ≡ is_there None = ap is_there (sym es' ∙ none) in absurd (let f : true ≡ false = sym k ∙ t in cc))
+  pub variable_no_slot : (d : DeclNo) (es : List Expr) (slot : Option ℕ) → length es ≡ 0 → slot ≡ slot_in (source_of b) (block_of (source_of b) d) (Declared d.0) → slot ≡ None → FindsVariable b w d es left.NoPlace
+  variable_no_slot d es slot alone es' none = cell_of d es alone left.NoPlace (λ h. let k = h.has in let t : is_there (slot_in (source_of b) (block_of (source_of b) d) (Declared d.0)) ≡ is_there None = ap is_there (sym es' ∙ none) in absurd (let f : true ≡ false = sym k ∙ t in cc))
 
-  pub variable_outside : (d : DeclNo) (es : List Expr) (block : ℕ) → length es ≡ 0 → block ≡ block_of (source_of b) d → is_around b.scopes (length b.scopes.blocks) w.text block ≡ false → FindsVariable b w d es left.NotBuilt
+  pub variable_outside : (d : DeclNo) (es : List Expr) (block : ℕ) → length es ≡ 0 → block ≡ block_of (source_of b) d → is_around b.scopes (length b.scopes.blocks) w.text block ≡ false → FindsVariable b w d es left.NoPlace
   unfolding source_of
-  variable_outside d es block none eb out = cell_of d es none left.NotBuilt (λ h. let t : is_around b.scopes (length b.scopes.blocks) w.text block ≡ true = ap (λ z. is_around b.scopes (length b.scopes.blocks) w.text z) eb ∙ h.inside.found in cc)
+  variable_outside d es block none eb out = cell_of d es none left.NoPlace (λ h. let t : is_around b.scopes (length b.scopes.blocks) w.text block ≡ true = ap (λ z. is_around b.scopes (length b.scopes.blocks) w.text z) eb ∙ h.inside.found in cc)
 
   pub variable_cell : (d : DeclNo) (es : List Expr) (block k : ℕ) (slot : Option ℕ) → length es ≡ 0 → slot ≡ slot_in (source_of b) (block_of (source_of b) d) (Declared d.0) → slot ≡ Some k → block ≡ block_of (source_of b) d → is_around b.scopes (length b.scopes.blocks) w.text block ≡ true → FindsVariable b w d es (left.Cell block k)
   unfolding source_of
@@ -211,7 +211,7 @@ module _ (b : Bound) (w : Spot) where
 
   -- ---- elements and results
 
-  pub element_none : (token : TokenNo) (d : DeclNo) (es : List Expr) → length es ≡ 0 → FindsElement b w token d es left.NotBuilt
+  pub element_none : (token : TokenNo) (d : DeclNo) (es : List Expr) → length es ≡ 0 → FindsElement b w token d es left.NoPlace
   unfolding FindsElement
   element_none token d es none = not_built _ (sym (ap (λ z. stored_element d z (line_at (source_of b) token.0)) (no_operands es none)))
 
@@ -219,7 +219,7 @@ module _ (b : Bound) (w : Spot) where
   unfolding FindsElement
   element_found token d l ne = element_of d l.now (line_at (source_of b) token.0) ne
 
-  pub result_subscripts : (k : ℕ) (es : List Expr) → length es ≢ 0 → FindsResult b w k es left.NotBuilt
+  pub result_subscripts : (k : ℕ) (es : List Expr) → length es ≢ 0 → FindsResult b w k es left.NoPlace
   unfolding FindsResult
   result_subscripts k es ne = not_built _ (result_alone k es ne)
 
@@ -227,12 +227,12 @@ module _ (b : Bound) (w : Spot) where
   unfolding FindsResult
   result_of k es none r f = subst (λ z. IsVariable (source_of b) w r (stored_result k z)) (sym (no_operands es none)) f
 
-  pub result_missing : (k : ℕ) (es : List Expr) (o : Option ℕ) → length es ≡ 0 → o ≡ slot_in (source_of b) k Result → o ≡ None → FindsResult b w k es left.NotBuilt
-  result_missing k es o none eo is = result_of k es none left.NotBuilt (λ h. let x = h.has in let u : is_there (slot_in (source_of b) k Result) ≡ false = ap is_there (sym eo ∙ is) in cc)
+  pub result_missing : (k : ℕ) (es : List Expr) (o : Option ℕ) → length es ≡ 0 → o ≡ slot_in (source_of b) k Result → o ≡ None → FindsResult b w k es left.NoPlace
+  result_missing k es o none eo is = result_of k es none left.NoPlace (λ h. let x = h.has in let u : is_there (slot_in (source_of b) k Result) ≡ false = ap is_there (sym eo ∙ is) in cc)
 
-  pub result_outside : (k : ℕ) (es : List Expr) → length es ≡ 0 → is_around b.scopes (length b.scopes.blocks) w.text k ≡ false → FindsResult b w k es left.NotBuilt
+  pub result_outside : (k : ℕ) (es : List Expr) → length es ≡ 0 → is_around b.scopes (length b.scopes.blocks) w.text k ≡ false → FindsResult b w k es left.NoPlace
   unfolding source_of
-  result_outside k es none out = result_of k es none left.NotBuilt (λ h. let t = h.inside.found in cc)
+  result_outside k es none out = result_of k es none left.NoPlace (λ h. let t = h.inside.found in cc)
 
   -- the cell of a result that is there
   pub own_cell : (k place : ℕ) (o : Option ℕ) → o ≡ slot_in (source_of b) k Result → o ≡ Some place → is_around b.scopes (length b.scopes.blocks) w.text k ≡ true → KeyBuilt (source_of b) w.text k Result × (slot_in (source_of b) k Result ≡ Some place)
@@ -243,11 +243,11 @@ module _ (b : Bound) (w : Spot) where
   result_found k place es o none eo is around = let r = own_cell k place o eo is around in result_of k es none (left.Cell k place) (Result, refl, r.0, r.1)
 
   -- the text in it
-  pub own_missing : (k : ℕ) (o : Option ℕ) → o ≡ slot_in (source_of b) k Result → o ≡ None → FindsOwn b w k left.NotBuilt
+  pub own_missing : (k : ℕ) (o : Option ℕ) → o ≡ slot_in (source_of b) k Result → o ≡ None → FindsOwn b w k left.NoPlace
   unfolding FindsOwn
   own_missing k o eo is e line h = let x = h.has in let u : is_there (slot_in (source_of b) k Result) ≡ false = ap is_there (sym eo ∙ is) in cc
 
-  pub own_outside : (k : ℕ) → is_around b.scopes (length b.scopes.blocks) w.text k ≡ false → FindsOwn b w k left.NotBuilt
+  pub own_outside : (k : ℕ) → is_around b.scopes (length b.scopes.blocks) w.text k ≡ false → FindsOwn b w k left.NoPlace
   unfolding FindsOwn source_of
   own_outside k out e line h = let t = h.inside.found in cc
 
@@ -268,7 +268,7 @@ module _ (b : Bound) (w : Spot) where
   whole_of e (left.Named d) t f = absurd f
   whole_of e (left.NamedText d) t f = absurd f
   whole_of e (left.NamedReference d class) t f = absurd f
-  whole_of e left.NotBuilt t f = f
+  whole_of e left.NoPlace t f = f
 
   as_formal : (token : TokenNo) (d : DeclNo) (m m' : Mode) (kind kind' : FormalKind) (es : List Expr) (r : Left) → m ≡ m' → kind ≡ kind' → ((e : Expression) → IsWhole (source_of b) w e r (stored_formal (source_of b) e d (operands_in es) (line_at (source_of b) token.0) m' kind')) → FindsFormal b w token d m kind es r
   unfolding FindsFormal
@@ -276,14 +276,14 @@ module _ (b : Bound) (w : Spot) where
       let s = source_of b in
       subst (λ z. IsWhole s w e r (stored_formal s e d (operands_in es) (line_at s token.0) z kind)) (sym em) (subst (λ z. IsWhole s w e r (stored_formal s e d (operands_in es) (line_at s token.0) m' z)) (sym ek) (f e))
 
-  pub name_simple : (token : TokenNo) (d : DeclNo) (m : Mode) (kind : FormalKind) (es : List Expr) → m ≡ mode.ByName → kind ≡ shape.Simple → FindsFormal b w token d m kind es left.NotBuilt
-  name_simple token d m kind es em ek = as_formal token d m mode.ByName kind shape.Simple es left.NotBuilt em ek (λ e h. h)
+  pub name_simple : (token : TokenNo) (d : DeclNo) (m : Mode) (kind : FormalKind) (es : List Expr) → m ≡ mode.ByName → kind ≡ shape.Simple → FindsFormal b w token d m kind es left.NoPlace
+  name_simple token d m kind es em ek = as_formal token d m mode.ByName kind shape.Simple es left.NoPlace em ek (λ e h. h)
 
-  pub name_procedure : (token : TokenNo) (d : DeclNo) (m : Mode) (kind : FormalKind) (es : List Expr) → m ≡ mode.ByName → kind ≡ shape.Procedure → FindsFormal b w token d m kind es left.NotBuilt
-  name_procedure token d m kind es em ek = as_formal token d m mode.ByName kind shape.Procedure es left.NotBuilt em ek (λ e h. h)
+  pub name_procedure : (token : TokenNo) (d : DeclNo) (m : Mode) (kind : FormalKind) (es : List Expr) → m ≡ mode.ByName → kind ≡ shape.Procedure → FindsFormal b w token d m kind es left.NoPlace
+  name_procedure token d m kind es em ek = as_formal token d m mode.ByName kind shape.Procedure es left.NoPlace em ek (λ e h. h)
 
-  pub name_array_alone : (token : TokenNo) (d : DeclNo) (m : Mode) (kind : FormalKind) (es : List Expr) → m ≡ mode.ByName → kind ≡ shape.Array → length es ≡ 0 → FindsFormal b w token d m kind es left.NotBuilt
-  name_array_alone token d m kind es em ek none = as_formal token d m mode.ByName kind shape.Array es left.NotBuilt em ek (λ e. subst (λ z. IsWhole (source_of b) w e left.NotBuilt (stored_anew e z)) (sym (no_operands es none)) (λ h. h))
+  pub name_array_alone : (token : TokenNo) (d : DeclNo) (m : Mode) (kind : FormalKind) (es : List Expr) → m ≡ mode.ByName → kind ≡ shape.Array → length es ≡ 0 → FindsFormal b w token d m kind es left.NoPlace
+  name_array_alone token d m kind es em ek none = as_formal token d m mode.ByName kind shape.Array es left.NoPlace em ek (λ e. subst (λ z. IsWhole (source_of b) w e left.NoPlace (stored_anew e z)) (sym (no_operands es none)) (λ h. h))
 
   pub name_element : (token : TokenNo) (d : DeclNo) (m : Mode) (kind : FormalKind) (es : List Expr) → m ≡ mode.ByName → kind ≡ shape.Array → length es ≢ 0 → FindsFormal b w token d m kind es left.Attribute
   name_element token d m kind [] em ek some' = absurd (some' refl)
@@ -297,8 +297,8 @@ module _ (b : Bound) (w : Spot) where
   unfolding FindsElement
   value_array token d m kind es r em ek f = as_formal token d m mode.ByValue kind shape.Array es r em ek (λ e. whole_of e r _ f)
 
-  pub value_procedure : (token : TokenNo) (d : DeclNo) (m : Mode) (kind : FormalKind) (es : List Expr) → m ≡ mode.ByValue → kind ≡ shape.Procedure → FindsFormal b w token d m kind es left.NotBuilt
-  value_procedure token d m kind es em ek = as_formal token d m mode.ByValue kind shape.Procedure es left.NotBuilt em ek (λ e h. h)
+  pub value_procedure : (token : TokenNo) (d : DeclNo) (m : Mode) (kind : FormalKind) (es : List Expr) → m ≡ mode.ByValue → kind ≡ shape.Procedure → FindsFormal b w token d m kind es left.NoPlace
+  value_procedure token d m kind es em ek = as_formal token d m mode.ByValue kind shape.Procedure es left.NoPlace em ek (λ e h. h)
 
   pub reference_simple : (token : TokenNo) (d : DeclNo) (m : Mode) (kind : FormalKind) (es : List Expr) (r : Left) → m ≡ mode.ByReference → kind ≡ shape.Simple → FindsVariable b w d es r → FindsFormal b w token d m kind es r
   unfolding FindsVariable
@@ -308,8 +308,8 @@ module _ (b : Bound) (w : Spot) where
   unfolding FindsElement
   reference_array token d m kind es r em ek f = as_formal token d m mode.ByReference kind shape.Array es r em ek (λ e. whole_of e r _ f)
 
-  pub reference_procedure : (token : TokenNo) (d : DeclNo) (m : Mode) (kind : FormalKind) (es : List Expr) → m ≡ mode.ByReference → kind ≡ shape.Procedure → FindsFormal b w token d m kind es left.NotBuilt
-  reference_procedure token d m kind es em ek = as_formal token d m mode.ByReference kind shape.Procedure es left.NotBuilt em ek (λ e h. h)
+  pub reference_procedure : (token : TokenNo) (d : DeclNo) (m : Mode) (kind : FormalKind) (es : List Expr) → m ≡ mode.ByReference → kind ≡ shape.Procedure → FindsFormal b w token d m kind es left.NoPlace
+  reference_procedure token d m kind es em ek = as_formal token d m mode.ByReference kind shape.Procedure es left.NoPlace em ek (λ e h. h)
 
   -- ---- declarations
 
@@ -333,23 +333,23 @@ module _ (b : Bound) (w : Spot) where
   unfolding FindsResult
   declared_result token d o t k es r eo is f = as_declared token d o _ es r eo is (λ e. whole_of e r _ f)
 
-  pub declared_constant : (token : TokenNo) (d : DeclNo) (o : Option Entry) (t : SimType) (es : List Expr) → o ≡ entry_of b.scopes d → o ≡ Some (entry.Constant t) → FindsDeclared b w token d es left.NotBuilt
-  declared_constant token d o t es eo is = as_declared token d o _ es left.NotBuilt eo is (λ e h. h)
+  pub declared_constant : (token : TokenNo) (d : DeclNo) (o : Option Entry) (t : SimType) (es : List Expr) → o ≡ entry_of b.scopes d → o ≡ Some (entry.Constant t) → FindsDeclared b w token d es left.NoPlace
+  declared_constant token d o t es eo is = as_declared token d o _ es left.NoPlace eo is (λ e h. h)
 
-  pub declared_class : (token : TokenNo) (d : DeclNo) (o : Option Entry) (k : ℕ) (es : List Expr) → o ≡ entry_of b.scopes d → o ≡ Some (entry.Class k) → FindsDeclared b w token d es left.NotBuilt
-  declared_class token d o k es eo is = as_declared token d o _ es left.NotBuilt eo is (λ e h. h)
+  pub declared_class : (token : TokenNo) (d : DeclNo) (o : Option Entry) (k : ℕ) (es : List Expr) → o ≡ entry_of b.scopes d → o ≡ Some (entry.Class k) → FindsDeclared b w token d es left.NoPlace
+  declared_class token d o k es eo is = as_declared token d o _ es left.NoPlace eo is (λ e h. h)
 
-  pub declared_virtual : (token : TokenNo) (d : DeclNo) (o : Option Entry) (t : Option SimType) (own : Option DeclNo) (es : List Expr) → o ≡ entry_of b.scopes d → o ≡ Some (entry.Virtual t own) → FindsDeclared b w token d es left.NotBuilt
-  declared_virtual token d o t own es eo is = as_declared token d o _ es left.NotBuilt eo is (λ e h. h)
+  pub declared_virtual : (token : TokenNo) (d : DeclNo) (o : Option Entry) (t : Option SimType) (own : Option DeclNo) (es : List Expr) → o ≡ entry_of b.scopes d → o ≡ Some (entry.Virtual t own) → FindsDeclared b w token d es left.NoPlace
+  declared_virtual token d o t own es eo is = as_declared token d o _ es left.NoPlace eo is (λ e h. h)
 
-  pub declared_unspecified : (token : TokenNo) (d : DeclNo) (o : Option Entry) (m : Option WrittenMode) (es : List Expr) → o ≡ entry_of b.scopes d → o ≡ Some (entry.Unspecified m) → FindsDeclared b w token d es left.NotBuilt
-  declared_unspecified token d o m es eo is = as_declared token d o _ es left.NotBuilt eo is (λ e h. h)
+  pub declared_unspecified : (token : TokenNo) (d : DeclNo) (o : Option Entry) (m : Option WrittenMode) (es : List Expr) → o ≡ entry_of b.scopes d → o ≡ Some (entry.Unspecified m) → FindsDeclared b w token d es left.NoPlace
+  declared_unspecified token d o m es eo is = as_declared token d o _ es left.NoPlace eo is (λ e h. h)
 
-  pub declared_attribute : (token : TokenNo) (d : DeclNo) (o : Option Entry) (n : Standard) (x y : Option SimType) (es : List Expr) → o ≡ entry_of b.scopes d → o ≡ Some (entry.Attribute n x y) → FindsDeclared b w token d es left.NotBuilt
-  declared_attribute token d o n x y es eo is = as_declared token d o _ es left.NotBuilt eo is (λ e h. h)
+  pub declared_attribute : (token : TokenNo) (d : DeclNo) (o : Option Entry) (n : Standard) (x y : Option SimType) (es : List Expr) → o ≡ entry_of b.scopes d → o ≡ Some (entry.Attribute n x y) → FindsDeclared b w token d es left.NoPlace
+  declared_attribute token d o n x y es eo is = as_declared token d o _ es left.NoPlace eo is (λ e h. h)
 
-  pub declared_nowhere : (token : TokenNo) (d : DeclNo) (o : Option Entry) (es : List Expr) → o ≡ entry_of b.scopes d → o ≡ None → FindsDeclared b w token d es left.NotBuilt
-  declared_nowhere token d o es eo is = as_declared token d o _ es left.NotBuilt eo is (λ e h. h)
+  pub declared_nowhere : (token : TokenNo) (d : DeclNo) (o : Option Entry) (es : List Expr) → o ≡ entry_of b.scopes d → o ≡ None → FindsDeclared b w token d es left.NoPlace
+  declared_nowhere token d o es eo is = as_declared token d o _ es left.NoPlace eo is (λ e h. h)
 
   -- ---- identifiers
 
@@ -361,10 +361,10 @@ module _ (b : Bound) (w : Spot) where
   unfolding FindsDeclared
   left_declared token o d es r eo some f = as_named token o _ es r eo some f
 
-  pub left_standard : (token : TokenNo) (o : Option Denotation) (k : StandardName) (es : List Expr) → o ≡ denoted (source_of b) token.0 → o ≡ Some (denotation.Standard k) → FindsLeft b w token es left.NotBuilt
-  left_standard token o k es eo some = as_named token o _ es left.NotBuilt eo some (λ e h. h)
+  pub left_standard : (token : TokenNo) (o : Option Denotation) (k : StandardName) (es : List Expr) → o ≡ denoted (source_of b) token.0 → o ≡ Some (denotation.Standard k) → FindsLeft b w token es left.NoPlace
+  left_standard token o k es eo some = as_named token o _ es left.NoPlace eo some (λ e h. h)
 
-  pub left_nothing : (token : TokenNo) (o : Option Denotation) (es : List Expr) → o ≡ denoted (source_of b) token.0 → o ≡ None → FindsLeft b w token es left.NotBuilt
-  left_nothing token o es eo none = as_named token o _ es left.NotBuilt eo none (λ e h. h)
+  pub left_nothing : (token : TokenNo) (o : Option Denotation) (es : List Expr) → o ≡ denoted (source_of b) token.0 → o ≡ None → FindsLeft b w token es left.NoPlace
+  left_nothing token o es eo none = as_named token o _ es left.NoPlace eo none (λ e h. h)
 
 pub ruleset lefts = (result_slot_first, result_slot_none, variable_subscripts, variable_no_slot, variable_outside, variable_cell, element_none, element_found, result_subscripts, result_missing, result_outside, result_found, name_simple, name_procedure, name_array_alone, name_element, value_simple, value_array, value_procedure, reference_simple, reference_array, reference_procedure, declared_variable, declared_array, declared_formal, declared_result, declared_constant, declared_class, declared_virtual, declared_unspecified, declared_attribute, declared_nowhere, left_declared, left_standard, left_nothing)

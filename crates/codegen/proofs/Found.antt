@@ -28,7 +28,7 @@ use Rattle.codegen_expr.specs.Forms.{FindsForm, FormIs, IsNew, IsOther}
 use Rattle.codegen.specs.declared.left.Left.{Left}
 use Rattle.codegen.specs.declared.left.Left.TheVariants as left
 use Rattle.codegen.specs.BuiltProgram.{LeftBuilt}
-use Rattle.codegen.specs.CodeLeft.{InCell, NotBuilt, Stored, stored_by_sign, stored_found, stored_held, stored_left, stored_match, stored_named, stored_named_by, stored_or_named, stored_result, stored_text}
+use Rattle.codegen.specs.CodeLeft.{InCell, NoPlace, Stored, stored_by_sign, stored_found, stored_held, stored_left, stored_match, stored_named, stored_named_by, stored_or_named, stored_result, stored_text}
 use Rattle.codegen.specs.EmitLeft.{FindsByName, FindsLeft, FindsMatchText, FindsNamed, FindsOwn, FindsOwnNamed, FindsResult, FindsSide, FindsTaken, FindsText, FindsWhole, IsLeft, IsVariable, IsWhole, operands_in, own_if, own_match_if}
 use Rattle.codegen_expr.proofs.Attributes.{selector-Dot, selector-Qua}
 use Rattle.codegen.proofs.Cells.{own_found, own_missing, own_outside, whole_of}
@@ -39,7 +39,7 @@ form_at f g x h is = subst (λ z. FormIs z (syntax_of x)) is h
 
 -- ---- what is no identifier
 
-left_other : (s : Source) (x : Expression) → IsOther x → NotBuilt ≡ stored_left s x
+left_other : (s : Source) (x : Expression) → IsOther x → NoPlace ≡ stored_left s x
 left_other s (If i c a b) h = refl
 left_other s (Binary op i a b) h = refl
 left_other s (Not i a) h = refl
@@ -53,7 +53,7 @@ left_other s (This i k) h = refl
 left_other s (New i k args) h = absurd h
 left_other s (Parentheses i a) h = absurd h
 
-left_new : (s : Source) (x : Expression) → IsNew x → NotBuilt ≡ stored_left s x
+left_new : (s : Source) (x : Expression) → IsNew x → NoPlace ≡ stored_left s x
 left_new s (New i k args) h = refl
 left_new s _ h = absurd h
 
@@ -123,9 +123,9 @@ match_operands s k (x ∷ xs) = refl
 -- ---- variables
 
 module _ (b : Bound) (w : Spot) where
-  not_left : (x : Expr) → NotBuilt ≡ stored_left (source_of b) (syntax_of x) → FindsWhole b w x left.NotBuilt
+  not_left : (x : Expr) → NoPlace ≡ stored_left (source_of b) (syntax_of x) → FindsWhole b w x left.NoPlace
   unfolding FindsWhole
-  not_left x e = subst (λ z. IsWhole (source_of b) w (syntax_of x) left.NotBuilt z) e (λ h. h)
+  not_left x e = subst (λ z. IsWhole (source_of b) w (syntax_of x) left.NoPlace z) e (λ h. h)
 
   pub named_through : (x : Identifier) (es : List Expr) (o : Option ℕ) (k : ℕ) → o ≡ connection_at (source_of b) x.token.0 → o ≡ Some k → FindsNamed b w x es left.Attribute
   unfolding FindsNamed
@@ -169,26 +169,26 @@ module _ (b : Bound) (w : Spot) where
   unfolding FindsTaken
   taken_attribute y i k l o d is eo some e =
       subst (λ z. WholeOf (source_of b) w left.Attribute (selected e (z ∷ []))) (sym (ap selector_syntax is ∙ selector-Dot i k l))
-      (sym (ap (λ z. stored_found (declared_attribute z) (dotted e) NotBuilt) (sym some ∙ eo)))
+      (sym (ap (λ z. stored_found (declared_attribute z) (dotted e) NoPlace) (sym some ∙ eo)))
     where
       dotted : Expression → Expression
       dotted e = Dot i.0 e k (expressions (map syntax_of l.items))
 
-  pub taken_standard : (y : Selector) (i : TokenNo) (k : Identifier) (l : Vec Expr Global) (o : Option Denotation) (n : StandardName) → y ≡ take.Dot i k l → o ≡ denoted (source_of b) k.token.0 → o ≡ Some (denotation.Standard n) → FindsTaken b w y left.NotBuilt
+  pub taken_standard : (y : Selector) (i : TokenNo) (k : Identifier) (l : Vec Expr Global) (o : Option Denotation) (n : StandardName) → y ≡ take.Dot i k l → o ≡ denoted (source_of b) k.token.0 → o ≡ Some (denotation.Standard n) → FindsTaken b w y left.NoPlace
   unfolding FindsTaken
   taken_standard y i k l o n is eo some e =
-      subst (λ z. WholeOf (source_of b) w left.NotBuilt (selected e (z ∷ []))) (sym (ap selector_syntax is ∙ selector-Dot i k l))
-      (subst (λ z. IsWhole (source_of b) w (Dot i.0 e k (expressions (map syntax_of l.items))) left.NotBuilt (stored_found (declared_attribute z) (Dot i.0 e k (expressions (map syntax_of l.items))) NotBuilt)) (sym some ∙ eo) (λ h. h))
+      subst (λ z. WholeOf (source_of b) w left.NoPlace (selected e (z ∷ []))) (sym (ap selector_syntax is ∙ selector-Dot i k l))
+      (subst (λ z. IsWhole (source_of b) w (Dot i.0 e k (expressions (map syntax_of l.items))) left.NoPlace (stored_found (declared_attribute z) (Dot i.0 e k (expressions (map syntax_of l.items))) NoPlace)) (sym some ∙ eo) (λ h. h))
 
-  pub taken_unknown : (y : Selector) (i : TokenNo) (k : Identifier) (l : Vec Expr Global) (o : Option Denotation) → y ≡ take.Dot i k l → o ≡ denoted (source_of b) k.token.0 → o ≡ None → FindsTaken b w y left.NotBuilt
+  pub taken_unknown : (y : Selector) (i : TokenNo) (k : Identifier) (l : Vec Expr Global) (o : Option Denotation) → y ≡ take.Dot i k l → o ≡ denoted (source_of b) k.token.0 → o ≡ None → FindsTaken b w y left.NoPlace
   unfolding FindsTaken
   taken_unknown y i k l o is eo none e =
-      subst (λ z. WholeOf (source_of b) w left.NotBuilt (selected e (z ∷ []))) (sym (ap selector_syntax is ∙ selector-Dot i k l))
-      (subst (λ z. IsWhole (source_of b) w (Dot i.0 e k (expressions (map syntax_of l.items))) left.NotBuilt (stored_found (declared_attribute z) (Dot i.0 e k (expressions (map syntax_of l.items))) NotBuilt)) (sym none ∙ eo) (λ h. h))
+      subst (λ z. WholeOf (source_of b) w left.NoPlace (selected e (z ∷ []))) (sym (ap selector_syntax is ∙ selector-Dot i k l))
+      (subst (λ z. IsWhole (source_of b) w (Dot i.0 e k (expressions (map syntax_of l.items))) left.NoPlace (stored_found (declared_attribute z) (Dot i.0 e k (expressions (map syntax_of l.items))) NoPlace)) (sym none ∙ eo) (λ h. h))
 
-  pub taken_cast : (y : Selector) (i : TokenNo) (k : Identifier) → y ≡ take.Qua i k → FindsTaken b w y left.NotBuilt
+  pub taken_cast : (y : Selector) (i : TokenNo) (k : Identifier) → y ≡ take.Qua i k → FindsTaken b w y left.NoPlace
   unfolding FindsTaken
-  taken_cast y i k is e = subst (λ z. WholeOf (source_of b) w left.NotBuilt (selected e (z ∷ []))) (sym (ap selector_syntax is ∙ selector-Qua i k)) (λ h. h)
+  taken_cast y i k is e = subst (λ z. WholeOf (source_of b) w left.NoPlace (selected e (z ∷ []))) (sym (ap selector_syntax is ∙ selector-Qua i k)) (λ h. h)
 
   pub whole_named : (x : Expr) (f : Form) (k : Bor Identifier) (l : Bor (List Expr)) (r : Left) → FindsForm f x → f ≡ form.Named k l → FindsNamed b w k.now l.now r → FindsWhole b w x r
   unfolding FindsWhole FindsNamed
@@ -204,13 +204,13 @@ module _ (b : Bound) (w : Spot) where
       cases [] ne e = absurd (ne refl)
       cases (z ∷ zs) ne e = behind (source_of b) w r (syntax_of p.now) (selector_syntax z) (map selector_syntax zs) (λ u. subst (λ m. WholeOf (source_of b) w r (selected u (m ∷ []))) (last_is z zs y e) (g u))
 
-  pub whole_closed : (x : Expr) (f : Form) (p : Bor Expr) → FindsForm f x → f ≡ form.Closed p → FindsWhole b w x left.NotBuilt
+  pub whole_closed : (x : Expr) (f : Form) (p : Bor Expr) → FindsForm f x → f ≡ form.Closed p → FindsWhole b w x left.NoPlace
   whole_closed x f p h is = not_left x (sym (ap (stored_left (source_of b)) (form_at f (form.Closed p) x h is).1))
 
-  pub whole_new : (x : Expr) (f : Form) → FindsForm f x → f ≡ form.New → FindsWhole b w x left.NotBuilt
+  pub whole_new : (x : Expr) (f : Form) → FindsForm f x → f ≡ form.New → FindsWhole b w x left.NoPlace
   whole_new x f h is = not_left x (left_new (source_of b) (syntax_of x) (form_at f form.New x h is))
 
-  pub whole_other : (x : Expr) (f : Form) → FindsForm f x → f ≡ form.Other → FindsWhole b w x left.NotBuilt
+  pub whole_other : (x : Expr) (f : Form) → FindsForm f x → f ≡ form.Other → FindsWhole b w x left.NoPlace
   whole_other x f h is = not_left x (left_other (source_of b) (syntax_of x) (form_at f form.Other x h is))
 
   -- ---- texts
@@ -235,7 +235,7 @@ module _ (b : Bound) (w : Spot) where
   as_left e line (left.Element token d es) t f = f
   as_left e line left.Text t f = absurd f
   as_left e line (left.Result level slot) t f = absurd f
-  as_left e line left.NotBuilt t f = f
+  as_left e line left.NoPlace t f = f
 
   as_side : (sign sign' : Assignment) (x : Expr) (r : Left) (o : Option DeclNo) (t u : Bool) → o ≡ by_name (source_of b) (syntax_of x) → o ≡ None → t ≡ is_text (source_of b) (syntax_of x) → t ≡ u → sign ≡ sign' → ((line : ℕ) → IsLeft (source_of b) w (syntax_of x) line r (stored_by_sign u sign' (source_of b) line (syntax_of x))) → FindsSide b w sign x r
   unfolding FindsSide
@@ -266,9 +266,9 @@ module _ (b : Bound) (w : Spot) where
   name_reference sign x d t o k et is es eo some =
       as_name sign assignment.Reference x d (left.NamedReference d k) t false et is es (λ w line. ap (λ z. stored_held d z line) (sym eo ∙ some))
 
-  pub name_unheld : (sign : Assignment) (x : Expr) (d : DeclNo) (t : Bool) (o : Option ℕ) → t ≡ is_text (source_of b) (syntax_of x) → t ≡ false → sign ≡ assignment.Reference → o ≡ class_of_formal (source_of b) d → o ≡ None → FindsByName b sign x d left.NotBuilt
+  pub name_unheld : (sign : Assignment) (x : Expr) (d : DeclNo) (t : Bool) (o : Option ℕ) → t ≡ is_text (source_of b) (syntax_of x) → t ≡ false → sign ≡ assignment.Reference → o ≡ class_of_formal (source_of b) d → o ≡ None → FindsByName b sign x d left.NoPlace
   name_unheld sign x d t o et is es eo none =
-      as_name sign assignment.Reference x d left.NotBuilt t false et is es (λ w line h. subst (λ z. LeftBuilt (source_of b) w.text (stored_held d z line)) (sym eo ∙ none) h)
+      as_name sign assignment.Reference x d left.NoPlace t false et is es (λ w line h. subst (λ z. LeftBuilt (source_of b) w.text (stored_held d z line)) (sym eo ∙ none) h)
 
   pub side_named : (sign : Assignment) (x : Expr) (r : Left) (o : Option DeclNo) (d : DeclNo) → o ≡ by_name (source_of b) (syntax_of x) → o ≡ Some d → FindsByName b sign x d r → FindsSide b w sign x r
   unfolding FindsSide FindsByName

@@ -76,9 +76,9 @@ module _ (b : Bound) (w : Spot) where
       (emits_then w ⊤ _ (λ final site p q. Pushes final site 0 (i.Load (pos (level_of s home)) (pos (slot_of s final home Result))) p q) (λ final site p q. (u : ℕ) × ExprAt s final site 1 (syntax_of v) p u × At final i.AssignT at u q) c0 c1 c3 (emits_load b w 0 c0 c1 home place Result l.2 e1)
       (emits_then w _ ⊤ (λ z site. ExprAt s z site 1 (syntax_of v)) (λ final site p q. At final i.AssignT at p q) c1 c2 c3 h (emits_at w c2 c3 i.AssignT at (ec ∙ ap (with_instr c2 i.AssignT) el) (λ z. cc) refl))))
 
-  pub one_unbuilt : (a c : DraftOf) (x : Side) (v : Expr) (r : Left) → FindsSide b w x.sign x.left.now r → r ≡ left.NotBuilt → c ≡ given_up a → WritesOne b w a c (side_in x) v
+  pub one_unbuilt : (a c : DraftOf) (x : Side) (v : Expr) (r : Left) → FindsSide b w x.sign x.left.now r → r ≡ left.NoPlace → c ≡ given_up a → WritesOne b w a c (side_in x) v
   unfolding WritesOne
-  one_unbuilt a c x v r f er ec = emits_nothing w a c _ _ (λ h. at_side b w x r left.NotBuilt f er h.0) ec
+  one_unbuilt a c x v r f er ec = emits_nothing w a c _ _ (λ h. at_side b w x r left.NoPlace f er h.0) ec
 
   pub one_attribute : (c0 c1 c2 c3 : DraftOf) (x : Side) (v : Expr) (r : Left) → FindsSide b w x.sign x.left.now r → r ≡ left.Attribute → WritesPlace b w 0 c0 c1 0 x.left.now → Writes b w 1 c1 c2 v → c3 ≡ with_instr c2 i.Put 0 → WritesOne b w c0 c3 (side_in x) v
   unfolding WritesOne WritesPlace PutsPlace Writes Puts

@@ -29,7 +29,7 @@ use Rattle.codegen.specs.declared.left.Left.{Left}
 use Rattle.codegen.specs.declared.left.Left.TheVariants as left
 use Rattle.codegen.specs.BuiltProgram.{AssignBuilt, LeftBuilt, LeftsBuilt}
 use Rattle.codegen.specs.declared.several.Side.{Side}
-use Rattle.codegen.specs.CodeLeft.{AssignAt, AtAddress, AtAttribute, GivesAt, GoesAt, InCell, LeftsAt, NotBuilt, StoreAt, Stored, ToNamed, ToNamedReference, ToNamedText, ToReference, ToResult, ToText, below, each_stored, stored}
+use Rattle.codegen.specs.CodeLeft.{AssignAt, AtAddress, AtAttribute, GivesAt, GoesAt, InCell, LeftsAt, NoPlace, StoreAt, Stored, ToNamed, ToNamedReference, ToNamedText, ToReference, ToResult, ToText, below, each_stored, stored}
 use Rattle.codegen.specs.Emit.{WritesAssignment}
 use Rattle.codegen.specs.EmitLeft.{FindsSide, IsLeft, LoadsCell, StoresCell, WritesReferencePlace, operands_in}
 use Rattle.codegen.specs.EmitSeveral.{EndsOn, GiveAt, HasGiven, OwesAddresses, SideOf, WritesAddress, WritesAddresses, WritesGive, WritesGives, after, side_in, sides, stored_all, stored_side}
@@ -115,7 +115,7 @@ lefts_next s code site (ToResult home line) ts n k End p x q f g = (f.0, f.1, su
 lefts_next s code site (ToNamed d line) ts n k End p x q f g = (f.0, f.1, subst (λ z. LeftsAt s code site z ts End f.0 q) f.2.0 (subst (λ z. LeftsAt s code site k ts End z q) f.2.1 g))
 lefts_next s code site (ToNamedReference d class line) ts n k End p x q f g = (f.0, f.1, subst (λ z. LeftsAt s code site z ts End f.0 q) f.2.0 (subst (λ z. LeftsAt s code site k ts End z q) f.2.1 g))
 lefts_next s code site (ToNamedText d line) ts n k End p x q f g = (f.0, f.1, f.2, f.3, subst (λ z. LeftsAt s code site z ts End f.1 q) f.4.0 (subst (λ z. LeftsAt s code site k ts End z q) f.4.1 g))
-lefts_next s code site NotBuilt ts n k End p x q f g = absurd f
+lefts_next s code site NoPlace ts n k End p x q f g = absurd f
 
 -- the left sides, and what follows
 lefts_then : (s : Source) (code : CodeOf) (site : Site) (ts : List Stored) (n m : ℕ) (End : ℕ → ℕ → ℕ → Type 0) (p x q : ℕ) → LeftsAt s code site n ts (EndsOn m) p x → End m x q → LeftsAt s code site n ts End p q
@@ -129,7 +129,7 @@ lefts_then s code site (ToResult home line ∷ ts) n m End p x q f g = (f.0, f.1
 lefts_then s code site (ToNamed d line ∷ ts) n m End p x q f g = (f.0, f.1, lefts_then s code site ts (suc n) m End f.0 x q f.2 g)
 lefts_then s code site (ToNamedReference d class line ∷ ts) n m End p x q f g = (f.0, f.1, lefts_then s code site ts (suc n) m End f.0 x q f.2 g)
 lefts_then s code site (ToNamedText d line ∷ ts) n m End p x q f g = (f.0, f.1, f.2, f.3, lefts_then s code site ts (suc n) m End f.1 x q f.4 g)
-lefts_then s code site (NotBuilt ∷ ts) n m End p x q f g = absurd f
+lefts_then s code site (NoPlace ∷ ts) n m End p x q f g = absurd f
 
 after_more : (us : List Stored) (t : Stored) (n : ℕ) → after (us ++ (t ∷ [])) n ≡ below t (after us n)
 after_more [] t n = refl
@@ -266,9 +266,9 @@ module _ (b : Bound) (w : Spot) where
       (emits_as w _ _ _ _ a c (λ h. (h, tt)) (λ h. h.0) (λ final site p q _ _ h. (h.0, q, h.1, record { line = 0; is = h.2 }, (em, refl)))
       (emits_then w _ ⊤ (λ final site p q. ByNameAt s final site k d NoMore (ForPlace false (line_at s x.token.0)) p q) (λ final site p q. At final i.Fetch 0 p q) a c0 c g (emits_at w c0 c i.Fetch 0 ec (λ z. cc) refl)))
 
-  pub address_unbuilt : (a c : DraftOf) (k m : ℕ) (x : Side) (r : Left) → FindsSide b w x.sign x.left.now r → r ≡ left.NotBuilt → c ≡ given_up a → WritesAddress b w k a c m (side_in x)
+  pub address_unbuilt : (a c : DraftOf) (k m : ℕ) (x : Side) (r : Left) → FindsSide b w x.sign x.left.now r → r ≡ left.NoPlace → c ≡ given_up a → WritesAddress b w k a c m (side_in x)
   unfolding WritesAddress
-  address_unbuilt a c k m x r f er ec = emits_nothing w a c _ _ (λ h. at_side x r left.NotBuilt f er h) ec
+  address_unbuilt a c k m x r f er ec = emits_nothing w a c _ _ (λ h. at_side x r left.NoPlace f er h) ec
 
   pub addresses_all : (a : DraftOf) (xs : List SideOf) → OwesAddresses b w a xs 0 a xs
   unfolding OwesAddresses
@@ -400,9 +400,9 @@ module _ (b : Bound) (w : Spot) where
       (emits_push w a c k (i.Load (pos (level_of s w.text)) (pos w.used)) 0 (ec ∙ ap (λ z. with_push a k z 0) load) (λ z. cc) refl)
       (emits_then w ⊤ ⊤ (λ final site p q. HeldAt s final site k at (class_number s final class) p q) (λ final site p q. At final i.Put at p q) c e d g (emits_at w e d i.Put at (ed ∙ ap (with_instr e i.Put) el) (λ z. cc) refl))))
 
-  pub give_unbuilt : (a c : DraftOf) (k m : ℕ) (v : Side) (r : Left) → FindsSide b w v.sign v.left.now r → r ≡ left.NotBuilt → c ≡ given_up a → WritesGive b w k a c m (side_in v)
+  pub give_unbuilt : (a c : DraftOf) (k m : ℕ) (v : Side) (r : Left) → FindsSide b w v.sign v.left.now r → r ≡ left.NoPlace → c ≡ given_up a → WritesGive b w k a c m (side_in v)
   unfolding WritesGive
-  give_unbuilt a c k m v r f er ec = λ built. given_nothing a c _ (λ u. at_side v r left.NotBuilt f er (built u)) ec
+  give_unbuilt a c k m v r f er ec = λ built. given_nothing a c _ (λ u. at_side v r left.NoPlace f er (built u)) ec
 
   pub gives_none : (a : DraftOf) (n : ℕ) (xs : List SideOf) → xs ≡ [] → HasGiven b w n a a n xs
   unfolding HasGiven

@@ -53,7 +53,7 @@ use Rattle.codegen.specs.declared.left.Left.{Left}
 use Rattle.codegen.specs.declared.left.Left.TheVariants as left
 use Rattle.codegen.specs.BuiltProgram.{AssignBuilt, BlockBuilt, CalledBuilt, ElementsBuilt, EnterBuilt, ForBuilt, LeftBuilt, ListBuilt, PrefixBuilt, StatementBuilt, StatementsBuilt, StepsBuilt, VariableBuilt}
 use Rattle.codegen.specs.CodeFor.{ForAt, GivesVariable, ListAt, LoadsVariable, OfCell, OfPlace, OfReference, StoresVariable, TakesValues, Variable, VariableThere, assigned_by, is_empty, variable_of, variable_stored}
-use Rattle.codegen.specs.CodeLeft.{AssignAt, AtAddress, AtAttribute, InCell, NotBuilt, Stored, ToNamed, ToNamedReference, ToNamedText, ToReference, ToResult, ToText, each_stored, stored_left}
+use Rattle.codegen.specs.CodeLeft.{AssignAt, AtAddress, AtAttribute, InCell, NoPlace, Stored, ToNamed, ToNamedReference, ToNamedText, ToReference, ToResult, ToText, each_stored, stored_left}
 use Rattle.sim_meaning.specs.Closing.{formals_at, is_text, is_text_type}
 use Rattle.codegen.specs.CodeStm.{ActivatesAt, ArmsAt, BlockAt, CalledAt, ConnectsAt, DropsAt, EnterAt, InspectAt, PrefixedAt, StmAt, StmsAt}
 use Rattle.codegen.specs.EmitTargets.{Controls, ElementsOver, ListOver, WritesLoaded, WritesStored, line_in, takes_values}
@@ -155,8 +155,8 @@ module _ (b : Bound) (w : Spot) where
       (emits_loop w (IsBuilt s w.text (syntax_of h)) (StatementBuilt s w.text (statement_syntax y)) (λ z site. ExprAt s z site 0 (syntax_of h)) (λ z site. StmAt s z site 0 (statement_syntax y)) c1 c2 c3 c4 c5 c6 new start end jump es e2 f ej e4 g e6 ee en)))
 
   -- what is not built
-  unbuilt : (a c : DraftOf) (x : Stmt) (y : Statement) → statement_syntax x ≡ y → (StatementBuilt (source_of b) w.text y → ⊥) → c ≡ given_up a → WritesStatement b w a c x
-  unbuilt a c x y is never ec = stm_as a c x y is (emits_nothing w a c _ _ never ec)
+  no_meaning : (a c : DraftOf) (x : Stmt) (y : Statement) → statement_syntax x ≡ y → (StatementBuilt (source_of b) w.text y → ⊥) → c ≡ given_up a → WritesStatement b w a c x
+  no_meaning a c x y is never ec = stm_as a c x y is (emits_nothing w a c _ _ never ec)
 
   pub write_prefixed : (a c d : DraftOf) (x : Stmt) (p : BlockPrefix) (k : Block) (ys : List Expr) → x ≡ t.PrefixedBlock p k → ys ≡ p.arguments.items → c ≡ with_instr a i.Tick 0 → WritesPrefixed b w c d p.class ys k.token → WritesStatement b w a d x
   unfolding WritesPrefixed
@@ -167,7 +167,7 @@ module _ (b : Bound) (w : Spot) where
       (tick_then (PrefixBuilt s w.text es (block_around s k.token.0)) (λ final site. PrefixedAt s final site 0 (line_at s p.class.token.0) es (block_around s k.token.0)) a c d ec f)
 
   pub write_inner : (a c : DraftOf) (x : Stmt) (k : TokenNo) → x ≡ t.Inner k → c ≡ given_up a → WritesStatement b w a c x
-  write_inner a c x k is ec = unbuilt a c x _ (ap statement_syntax is ∙ v.syntax-Inner k) (λ z. z) ec
+  write_inner a c x k is ec = no_meaning a c x _ (ap statement_syntax is ∙ v.syntax-Inner k) (λ z. z) ec
 
   pub write_connects : (a c d : DraftOf) (x : Stmt) (k : TokenNo) (h : Expr) (n : TokenNo) (p : Box Stmt Global) (m : TokenNo) (o : Option (Box Stmt Global)) (y : Stmt) → x ≡ t.Inspect k h n p m o → y ≡ p.value → c ≡ with_instr a i.Tick 0 → WritesInspect b w c d h n y o → WritesStatement b w a d x
   unfolding WritesInspect
@@ -475,11 +475,11 @@ module _ (b : Bound) (w : Spot) where
   no_for s o (ToNamed d line) es Body h = absurd h
   no_for s o (ToNamedText d line) es Body h = absurd h
   no_for s o (ToNamedReference d class line) es Body h = absurd h
-  no_for s o NotBuilt es Body h = absurd h
+  no_for s o NoPlace es Body h = absurd h
 
-  pub write_for_unbuilt : (a c : DraftOf) (name : Identifier) (o : Option ℕ) (es : List syntax.Element) (z : Stmt) (r : Left) → FindsNamed b w name [] r → r ≡ left.NotBuilt → c ≡ given_up a → WritesFor b w a c name o es z
+  pub write_for_unbuilt : (a c : DraftOf) (name : Identifier) (o : Option ℕ) (es : List syntax.Element) (z : Stmt) (r : Left) → FindsNamed b w name [] r → r ≡ left.NoPlace → c ≡ given_up a → WritesFor b w a c name o es z
   unfolding WritesFor
-  write_for_unbuilt a c name o es z r f er ec = emits_nothing w a c _ _ (λ h. for_is name r left.NotBuilt f er (no_for (source_of b) o _ es _ h)) ec
+  write_for_unbuilt a c name o es z r f er ec = emits_nothing w a c _ _ (λ h. for_is name r left.NoPlace f er (no_for (source_of b) o _ es _ h)) ec
 
   pub write_for_text : (a c : DraftOf) (name : Identifier) (o : Option ℕ) (es : List syntax.Element) (z : Stmt) (r : Left) → FindsNamed b w name [] r → r ≡ left.Text → c ≡ given_up a → WritesFor b w a c name o es z
   write_for_text a c name o es z r f er ec = absurd (for_is name r left.Text f er)

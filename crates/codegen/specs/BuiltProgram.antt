@@ -20,7 +20,7 @@ use Rattle.codegen_expr.specs.CodeExpr.{Listed, parameters_at, gives}
 use Rattle.codegen_expr.specs.Sites.{Varies, frame_text, prefix_of}
 use Rattle.codegen.specs.Agrees.{Agrees, is_prefixed}
 use Rattle.codegen.specs.CodeFor.{OfCell, OfPlace, OfReference, Variable, assigned_by, variable_of}
-use Rattle.codegen.specs.CodeLeft.{AtAddress, AtAttribute, InCell, NotBuilt, Stored, ToNamed, ToNamedReference, ToNamedText, ToReference, ToResult, ToText, each_stored}
+use Rattle.codegen.specs.CodeLeft.{AtAddress, AtAttribute, InCell, NoPlace, Stored, ToNamed, ToNamedReference, ToNamedText, ToReference, ToResult, ToText, each_stored}
 use Rattle.codegen.specs.CodeStm.{inner_of}
 
 -- ---- assignments
@@ -36,7 +36,7 @@ LeftBuilt s text (ToResult home line) = KeyBuilt s text home Result
 LeftBuilt s text (ToNamed d line) = CellBuilt s text d
 LeftBuilt s text (ToNamedText d line) = CellBuilt s text d
 LeftBuilt s text (ToNamedReference d class line) = CellBuilt s text d
-LeftBuilt s text NotBuilt = ⊥
+LeftBuilt s text NoPlace = ⊥
 
 -- left sides, each of which is built
 abbrev pub LeftsBuilt : Source → (text : ℕ) → List Stored → Type 0

@@ -39,42 +39,42 @@ pub data Stored : Type 0 where
   ToNamed : DeclNo → (line : ℕ) → Stored
   ToNamedText : DeclNo → (line : ℕ) → Stored
   ToNamedReference : DeclNo → (class line : ℕ) → Stored
-  NotBuilt : Stored
+  NoPlace : Stored
 
 abbrev pub stored_variable : Source → DeclNo → Expressions → Stored
 stored_variable s d NoMore = InCell (block_of s d) (Declared d.0)
-stored_variable s d (Then e es) = NotBuilt
+stored_variable s d (Then e es) = NoPlace
 
 abbrev pub stored_element : DeclNo → Expressions → (line : ℕ) → Stored
-stored_element d NoMore line = NotBuilt
+stored_element d NoMore line = NoPlace
 stored_element d (Then e es) line = AtAddress d (Then e es) line
 
 -- an element of an array by name is found anew, as the whole left side is
 abbrev pub stored_anew : Expression → Expressions → Stored
-stored_anew e NoMore = NotBuilt
+stored_anew e NoMore = NoPlace
 stored_anew e (Then a es) = AtAttribute e
 
 abbrev pub stored_formal : Source → Expression → DeclNo → Expressions → (line : ℕ) → Mode → FormalKind → Stored
-stored_formal s e d es line mode.ByName shape.Simple = NotBuilt
+stored_formal s e d es line mode.ByName shape.Simple = NoPlace
 stored_formal s e d es line mode.ByName shape.Array = stored_anew e es
 stored_formal s e d es line mode shape.Simple = stored_variable s d es
 stored_formal s e d es line mode shape.Array = stored_element d es line
-stored_formal s e d es line mode shape.Procedure = NotBuilt
+stored_formal s e d es line mode shape.Procedure = NoPlace
 
 abbrev pub stored_result : (text : ℕ) → Expressions → Stored
 stored_result text NoMore = InCell text Result
-stored_result text (Then e es) = NotBuilt
+stored_result text (Then e es) = NoPlace
 
 abbrev pub stored_declared : Source → Expression → DeclNo → Expressions → (line : ℕ) → Option Entry → Stored
 stored_declared s e d es line (Some (entry.Variable type)) = stored_variable s d es
 stored_declared s e d es line (Some (entry.Array element dimensions)) = stored_element d es line
 stored_declared s e d es line (Some (entry.Formal f)) = stored_formal s e d es line f.mode f.kind
 stored_declared s e d es line (Some (entry.Procedure result text)) = stored_result text es
-stored_declared s e d es line _ = NotBuilt
+stored_declared s e d es line _ = NoPlace
 
 abbrev pub stored_named : Source → Expression → Option Denotation → Expressions → (line : ℕ) → Stored
 stored_named s e (Some (denotation.Declared d)) es line = stored_declared s e d es line (entry_of s.tables d)
-stored_named s e _ es line = NotBuilt
+stored_named s e _ es line = NoPlace
 
 -- what is seen behind a dot or through a connection is an attribute of an object
 abbrev pub stored_found : {A : Type 0} → Option A → Expression → Stored → Stored
@@ -89,8 +89,8 @@ stored_match (Some text) other = InCell text Result
 -- a variable as a left side
 abbrev pub stored_left : Source → Expression → Stored
 stored_left s (syntax.Named name es) = stored_found (connection_at s name.token.0) (syntax.Named name es) (stored_match (text_of_procedure s (own_match s (syntax.Named name es))) (stored_named s (syntax.Named name es) (denoted s name.token.0) es (line_at s name.token.0)))
-stored_left s (syntax.Dot token a name es) = stored_found (declared_attribute (denoted s name.token.0)) (syntax.Dot token a name es) NotBuilt
-stored_left s e = NotBuilt
+stored_left s (syntax.Dot token a name es) = stored_found (declared_attribute (denoted s name.token.0)) (syntax.Dot token a name es) NoPlace
+stored_left s e = NoPlace
 
 -- a text to which a text is assigned, with the line of the sign
 abbrev pub stored_text : Option ℕ → Expression → (line : ℕ) → Stored
@@ -104,7 +104,7 @@ stored_by_sign false assignment.Value s line e = stored_left s e
 stored_by_sign false assignment.Reference s line e = ToReference e line
 
 abbrev pub stored_held : DeclNo → (class : Option ℕ) → (line : ℕ) → Stored
-stored_held d None line = NotBuilt
+stored_held d None line = NoPlace
 stored_held d (Some k) line = ToNamedReference d k line
 
 abbrev pub stored_named_by : (text : Bool) → Assignment → Source → DeclNo → (line : ℕ) → Stored
@@ -143,7 +143,7 @@ LeftsAt s code site n (ToResult text line ∷ rest) End p q = (x : ℕ) × Resul
 LeftsAt s code site n (ToNamed d line ∷ rest) End p q = (x : ℕ) × ByNameAt s code site n d NoMore (ForPlace false line) p x × LeftsAt s code site (suc n) rest End x q
 LeftsAt s code site n (ToNamedText d line ∷ rest) End p q = (x : ℕ) × (y : ℕ) × ByNameAt s code site n d NoMore (ForPlace false line) p x × Is code i.Fetch x y × LeftsAt s code site (suc n) rest End y q
 LeftsAt s code site n (ToNamedReference d class line ∷ rest) End p q = (x : ℕ) × ByNameAt s code site n d NoMore (ForPlace false line) p x × LeftsAt s code site (suc n) rest End x q
-LeftsAt s code site n (NotBuilt ∷ rest) End p q = ⊥
+LeftsAt s code site n (NoPlace ∷ rest) End p q = ⊥
 
 -- the value on top of n others goes to one left side
 abbrev pub StoreAt : Source → CodeOf → Site → ℕ → Stored → ℕ → ℕ → Type 0
@@ -156,7 +156,7 @@ StoreAt s code site n (ToResult text line) p q = At code i.AssignT line p q
 StoreAt s code site n (ToNamed d line) p q = Is code i.Put p q
 StoreAt s code site n (ToNamedText d line) p q = At code i.AssignT line p q
 StoreAt s code site n (ToNamedReference d class line) p q = (x : ℕ) × HeldAt s code site n line (class_number s code class) p x × At code i.Put line x q
-StoreAt s code site n NotBuilt p q = ⊥
+StoreAt s code site n NoPlace p q = ⊥
 
 abbrev pub addresses : List Stored → ℕ
 addresses [] = 0

@@ -42,7 +42,7 @@ LoadsCell b n old new k place = new ≡ with_push old n (i.Load (pos (level_of (
 abbrev pub IsVariable : Source → Spot → Left → Stored → Type 0
 IsVariable s w (left.Cell home place) t = (key : Key) × (t ≡ InCell home key) × KeyBuilt s w.text home key × (slot_in s home key ≡ Some place)
 IsVariable s w (left.Element token d es) t = t ≡ AtAddress d (operands_in es.now) (line_at s token.0)
-IsVariable s w left.NotBuilt t = LeftBuilt s w.text t → ⊥
+IsVariable s w left.NoPlace t = LeftBuilt s w.text t → ⊥
 IsVariable s w _ t = ⊥
 
 -- what an expression is found to be as a variable

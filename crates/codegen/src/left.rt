@@ -52,8 +52,8 @@ pub(crate) enum Left<'a> {
         declaration: DeclNo,
         class: u32,
     },
-    /// It is not built.
-    NotBuilt,
+    /// It is no place, which no left side of an allowed program is.
+    NoPlace,
 }
 
 /// A variable or a parameter that is a value.
@@ -69,16 +69,16 @@ fn find_variable<'a>(
     ensures { FindsVariable bound.now spot declaration subscripts.now result }
 {
     if subscripts.len() != 0 {
-        return Left::NotBuilt;
+        return Left::NoPlace;
     }
     let Some(place) = slot_of(bound, cells, declaration) else {
-        return Left::NotBuilt;
+        return Left::NoPlace;
     };
     let home = block_of(bound, declaration);
     if is_around(&bound.scopes, spot.text, home) {
         return Left::Cell { home, place };
     }
-    Left::NotBuilt
+    Left::NoPlace
 }
 
 /// An element of an array. The token is that of its identifier.
@@ -93,7 +93,7 @@ fn find_element<'a>(
     ensures { FindsElement bound.now spot token declaration subscripts.now result }
 {
     if subscripts.len() == 0 {
-        return Left::NotBuilt;
+        return Left::NoPlace;
     }
     Left::Element {
         token,
@@ -127,15 +127,15 @@ fn find_result<'a>(
     ensures { FindsResult bound.now spot text subscripts.now result }
 {
     if subscripts.len() != 0 {
-        return Left::NotBuilt;
+        return Left::NoPlace;
     }
     let Some(place) = result_slot(bound, cells, text) else {
-        return Left::NotBuilt;
+        return Left::NoPlace;
     };
     if is_around(&bound.scopes, spot.text, text) {
         return Left::Cell { home: text, place };
     }
-    Left::NotBuilt
+    Left::NoPlace
 }
 
 /// A formal parameter. The token is that of its identifier.
@@ -157,22 +157,22 @@ fn find_formal<'a>(
         Mode::ByName => match kind {
             FormalKind::Array => {
                 if subscripts.len() == 0 {
-                    return Left::NotBuilt;
+                    return Left::NoPlace;
                 }
                 Left::Attribute
             }
-            FormalKind::Simple => Left::NotBuilt,
-            FormalKind::Procedure => Left::NotBuilt,
+            FormalKind::Simple => Left::NoPlace,
+            FormalKind::Procedure => Left::NoPlace,
         },
         Mode::ByValue => match kind {
             FormalKind::Simple => find_variable(bound, cells, spot, declaration, subscripts),
             FormalKind::Array => find_element(bound, spot, token, declaration, subscripts),
-            FormalKind::Procedure => Left::NotBuilt,
+            FormalKind::Procedure => Left::NoPlace,
         },
         Mode::ByReference => match kind {
             FormalKind::Simple => find_variable(bound, cells, spot, declaration, subscripts),
             FormalKind::Array => find_element(bound, spot, token, declaration, subscripts),
-            FormalKind::Procedure => Left::NotBuilt,
+            FormalKind::Procedure => Left::NoPlace,
         },
     }
 }
@@ -206,12 +206,12 @@ fn find_declared<'a>(
             )
         }
         Some(Entry::Procedure { block, .. }) => find_result(bound, cells, spot, block, subscripts),
-        Some(Entry::Constant(_)) => Left::NotBuilt,
-        Some(Entry::Class { .. }) => Left::NotBuilt,
-        Some(Entry::Virtual { .. }) => Left::NotBuilt,
-        Some(Entry::Attribute { .. }) => Left::NotBuilt,
-        Some(Entry::Unspecified { .. }) => Left::NotBuilt,
-        None => Left::NotBuilt,
+        Some(Entry::Constant(_)) => Left::NoPlace,
+        Some(Entry::Class { .. }) => Left::NoPlace,
+        Some(Entry::Virtual { .. }) => Left::NoPlace,
+        Some(Entry::Attribute { .. }) => Left::NoPlace,
+        Some(Entry::Unspecified { .. }) => Left::NoPlace,
+        None => Left::NoPlace,
     }
 }
 
@@ -231,8 +231,8 @@ fn find_left<'a>(
         Some(Denotation::Declared(declaration)) => {
             find_declared(bound, cells, spot, token, declaration, subscripts)
         }
-        Some(Denotation::Standard(_)) => Left::NotBuilt,
-        None => Left::NotBuilt,
+        Some(Denotation::Standard(_)) => Left::NoPlace,
+        None => Left::NoPlace,
     }
 }
 
@@ -266,10 +266,10 @@ fn find_taken<'a>(bound: &Bound, spot: Spot, last: &Selector) -> Left<'a>
     match last {
         Selector::Dot { name, .. } => match denoted(bound, name.token) {
             Some(Denotation::Declared(_)) => Left::Attribute,
-            Some(Denotation::Standard(_)) => Left::NotBuilt,
-            None => Left::NotBuilt,
+            Some(Denotation::Standard(_)) => Left::NoPlace,
+            None => Left::NoPlace,
         },
-        Selector::Qua { .. } => Left::NotBuilt,
+        Selector::Qua { .. } => Left::NoPlace,
     }
 }
 
@@ -282,9 +282,9 @@ fn find_whole<'a>(bound: &Bound, cells: &Cells, spot: Spot, left: &'a Expr) -> L
     match form_of(left) {
         Form::Named { name, arguments } => find_named(bound, cells, spot, name, arguments),
         Form::Taken { rest, .. } => find_taken(bound, spot, &rest[rest.len() - 1]),
-        Form::Closed { .. } => Left::NotBuilt,
-        Form::New => Left::NotBuilt,
-        Form::Other => Left::NotBuilt,
+        Form::Closed { .. } => Left::NoPlace,
+        Form::New => Left::NoPlace,
+        Form::Other => Left::NoPlace,
     }
 }
 
@@ -373,12 +373,12 @@ fn find_own<'a>(bound: &Bound, cells: &Cells, spot: Spot, text: u32) -> Left<'a>
     ensures { FindsOwn bound.now spot text result }
 {
     let Some(place) = result_slot(bound, cells, text) else {
-        return Left::NotBuilt;
+        return Left::NoPlace;
     };
     if is_around(&bound.scopes, spot.text, text) {
         return Left::Result { home: text, place };
     }
-    Left::NotBuilt
+    Left::NoPlace
 }
 
 /// The text that is assigned to.
@@ -415,7 +415,7 @@ fn find_by_name<'a>(
         Assignment::Value => Left::Named(declaration),
         Assignment::Reference => match formal_qualification(bound, cells, declaration) {
             Some(class) => Left::NamedReference { declaration, class },
-            None => Left::NotBuilt,
+            None => Left::NoPlace,
         },
     }
 }

@@ -101,7 +101,7 @@ pub(crate) fn emit_one(
             draft.put(Instr::Put, line_at(bound, side.token))?;
             Ok(())
         }
-        Left::NotBuilt => {
+        Left::NoPlace => {
             draft.give_up();
             Ok(())
         }
@@ -218,7 +218,7 @@ fn emit_address(
             let values = deeper(depth)?;
             Ok(values)
         }
-        Left::NotBuilt => {
+        Left::NoPlace => {
             draft.give_up();
             Ok(depth)
         }
@@ -316,7 +316,7 @@ fn emit_give(
             draft.put(Instr::Put, line_at(bound, item.token))?;
             Ok(shallower(depth))
         }
-        Left::NotBuilt => {
+        Left::NoPlace => {
             draft.give_up();
             Ok(depth)
         }

@@ -394,7 +394,7 @@ pub(crate) fn emit_for(
             draft.give_up();
             Ok(())
         }
-        Left::NotBuilt => {
+        Left::NoPlace => {
             draft.give_up();
             Ok(())
         }

@@ -75,6 +75,20 @@ fn ends(rt: HostRuntime) -> Result<(), Fail> {
             CodeEnd::TickLimit { ticks: 7 },
             b"".as_slice(),
         ),
+        // No frame has so many cells, which is no want of memory.
+        (
+            [
+                Instr::Tick,
+                Instr::Addr {
+                    level: 1,
+                    cell: 4294967296,
+                    class: 0,
+                },
+            ]
+            .as_slice(),
+            CodeEnd::BadCode { at: 1 },
+            b"".as_slice(),
+        ),
         // A jump leads back to a tick alone.
         (
             [Instr::Char(65), Instr::Pop, Instr::Jump(0)].as_slice(),

@@ -9,6 +9,8 @@ mod code_runs;
 #[cfg(test)]
 mod images;
 #[cfg(test)]
+mod parameters;
+#[cfg(test)]
 mod scheduling;
 #[cfg(test)]
 mod texts;

@@ -70,3 +70,5 @@ pub mod ThunkRows
 pub mod Fitted
 pub mod Formals
 pub mod Copies
+mod ToldRows
+mod PlacedRows

@@ -1,19 +1,21 @@
 -- Levels, cells and writes into them.
 use Rattle.std.proofs.Common.{◌≡◌, ℕ, ◌+◌, ◌≤◌, List, length, length-set, sym, subst, refl, ap, ◌∙◌}
 use Rattle.std.proofs.lemmas.Option.{slice_get_within}
-use Rattle.std.specs.Prelude.{ℤ, true, false, Option, Some, None}
+use Rattle.std.specs.Prelude.{ℤ, true, false, nat_lt, Option, Some, None}
 use Rattle.sim_values.specs.declared.value.FrameRef.{FrameRef}
 use Rattle.sim_base.specs.declared.limits.Limits.{Limits}
 use Rattle.sim_chains.specs.Components.{Standing}
-use Rattle.sim_code.specs.Instances.{Instance, at_level, cells_of, cells_put, live}
+use Rattle.sim_code.specs.Instances.{Instance, at_level, cells_in, cells_of, cells_put, is_live, is_live_in, live, unless_given}
 use Rattle.sim_code.specs.Events.{having, no_rule}
-use Rattle.sim_code.specs.Machine.{Activation, Cells, Frames, Machine, Value, cell_at, cell_set, index, level, number, on, put_in}
+use Rattle.sim_code.specs.Machine.{Activation, Cells, Frames, Machine, Value, cell_at, cell_set, has_cell, has_cell_in, index, level, number, on, put_in}
 use Rattle.sim_code.specs.Outcome.{ArrayOf, World, Run}
 use Rattle.frame_arena.specs.declared.frames.Frame.{Frame}
+use Rattle.frame_arena.specs.declared.frames.Span.{Span}
 use Rattle.frame_arena.specs.declared.slot.Slot.{Slot}
 use Rattle.frame_arena.specs.Arrays.{AllLeadArrays, ElementsLead, HoldsArrays, RegionOf, SlotLeadsArray}
-use Rattle.frame_arena.specs.Frames.{AllLead, Has, Holds, HoldsAfter, Leads, LeadsAfter, SlotLeads}
+use Rattle.frame_arena.specs.Frames.{AllLead, Has, Holds, HoldsAfter, IsSpan, Leads, LeadsAfter, SlotLeads, frame_at}
 use Rattle.frame_arena.specs.Stacks.{slot_at, values_of}
+use Rattle.frame_arena.proofs.Reading.{cell_count}
 use Rattle.object_machine.specs.declared.machine.Storage.{Storage}
 use Rattle.object_machine.specs.declared.machine.Registers.{Registers}
 use Rattle.object_machine.specs.declared.machine.Activation as working
@@ -60,6 +62,40 @@ module _ (m : Frames) (a : Activation) (z c : ℤ) (o : World) (go : ℕ → ℕ
   pub at_cell : (j k : ℕ) → level m a z o Then ≡ having (Some j) o Then → Some k ≡ number c → cell_at m a z c o go ≡ go j k
   unfolding cell_at having index
   at_cell j k e n = e ∙ ap (λ k. having k o (λ c. go j c)) (sym n)
+
+  -- a cell that the frame has, or has not
+  pub not_in_frame : (j : ℕ) (go2 : ℕ → Run Machine) → level m a z o Then ≡ having (Some j) o Then → Then j ≡ having None o go2 → cell_at m a z c o go ≡ no_rule o
+  unfolding cell_at having
+  not_in_frame j go2 e e2 = e ∙ e2
+
+  pub in_frame : (j k : ℕ) (go2 : ℕ → Run Machine) → level m a z o Then ≡ having (Some j) o Then → Then j ≡ having (Some k) o go2 → cell_at m a z c o go ≡ go2 k
+  unfolding cell_at having
+  in_frame j k go2 e e2 = e ∙ e2
+
+-- ---- the cells of a frame
+
+module _ (fs : List Frame) (cells : List Slot) (m : Frames) (h : Holds fs cells m) where
+  pub cells_counted : (span : Span) → IsSpan fs span → (c : ℕ) → has_cell m span.number c ≡ nat_lt c span.cells
+  cells_counted span is c =
+      let f = frame_at fs span.region in
+      ap (λ x. has_cell_in (cells_in (unless_given x)) c) (h.known span.region span.number is.has) ∙ ap (nat_lt c) (cell_count cells f.base f.cells ∙ is.cells)
+
+cells_gone : (x : Option (Instance Cells)) (c : ℕ) → (is_live_in x ≡ true → ⊥) → has_cell_in (cells_in x) c ≡ false
+cells_gone None c gone = refl
+cells_gone (Some x) c gone = absurd (gone refl)
+
+pub no_cells : (m : Frames) (j c : ℕ) → (is_live m j ≡ true → ⊥) → has_cell m j c ≡ false
+no_cells m j c gone = cells_gone (live m j) c gone
+
+none_found : (r : Option ℕ) (o : World) (go : ℕ → Run Machine) → ((n : ℕ) → go n ≡ no_rule o) → having r o go ≡ no_rule o
+unfolding having
+none_found None o go none = refl
+none_found (Some n) o go none = none n
+
+-- whatever the index, there is no rule
+pub never : (z : ℤ) (o : World) (go : ℕ → Run Machine) → ((n : ℕ) → go n ≡ no_rule o) → index z o go ≡ no_rule o
+unfolding index
+never z o go none = none_found (number z) o go none
 
 -- ---- what a slot among all is led to
 

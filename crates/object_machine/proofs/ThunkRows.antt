@@ -1,6 +1,6 @@
 -- Rows of parameters by name.
-use Rattle.std.proofs.Common.{◌≡◌, ℕ, zero, suc, ◌+◌, ◌-◌, List, [], ◌∷◌, ◌++◌, length, sym, subst, refl, ap, ◌∙◌, arith}
-use Rattle.std.specs.Prelude.{Bool, true, false, ℤ, Option, Some, None, Err, IfSome, slice_get}
+use Rattle.std.proofs.Common.{◌≡◌, ℕ, zero, suc, ◌+◌, ◌-◌, ◌<◌, ◌≤◌, List, [], ◌∷◌, ◌++◌, length, sym, subst, refl, ap, ◌∙◌, arith}
+use Rattle.std.specs.Prelude.{Bool, true, false, nat_lt, ℤ, Option, Some, None, Err, IfSome, slice_get}
 use Rattle.sim_base.specs.declared.limits.Limits.{Limits}
 use Rattle.sim_base.specs.declared.numbering.Line.{Line}
 use Rattle.sim_base.specs.declared.run_error.RunError.TheVariants.{ActualIsNoVariable, OutsideQualification}
@@ -12,7 +12,7 @@ use Rattle.sim_code.specs.declared.stage.Stage.TheVariants as stage
 use Rattle.sim_code.specs.Code.{CodeOf}
 use Rattle.sim_code.specs.Events.{having, no_rule, popping, stopping, when}
 use Rattle.sim_code.specs.Instances.{is_live}
-use Rattle.sim_code.specs.Machine.{Activation, Address, ArrayValue, Frames, Link, Machine, Of, ProcedureValue, ThunkValue, Value, at, place_in, thunk_in, waiting}
+use Rattle.sim_code.specs.Machine.{Activation, Address, ArrayValue, Frames, Link, Machine, Of, ProcedureValue, ThunkValue, Value, at, is_roomy, place_in, thunk_in, waiting}
 use Rattle.sim_code.specs.Outcome.{Going, Run, RunFault, World}
 use Rattle.sim_code.specs.Rows.{row, thunk_ended, thunk_given}
 use Rattle.sim_code.specs.Thunks.{in_thunk, instruction_before, is_place, locating, value_given}
@@ -41,6 +41,7 @@ use Rattle.object_machine.proofs.Departures.{below_more, get_last}
 use Rattle.object_machine.proofs.Going.{act, goes_on}
 use Rattle.object_machine.proofs.Having.{having_none, having_some}
 use Rattle.object_machine.proofs.Parks.{get_front}
+use Rattle.object_machine.proofs.ReadOperands.{values_count}
 use Rattle.object_machine.proofs.VirtualRows.{when_fails, when_holds}
 
 -- ---- the thunk that a slot has
@@ -73,6 +74,13 @@ home_leads None fs m s h led = tt
 home_leads (Some t) fs m s h led = h fs m led
 
 -- ---- a thunk begins
+
+-- an operand stack has room for one more value where it is not full
+pub roomy : (r : Registers) (stack : List Slot) → r.depth ≤ length stack → r.depth < length stack → is_roomy (activation_at r stack) ≡ true
+roomy r stack fits free = let e = values_count r.depth stack fits in let n : nat_lt (length (values_of r.depth stack)) (length stack) ≡ true = grind (arith, e, free) in n
+
+pub full : (r : Registers) (stack : List Slot) → r.depth ≤ length stack → length stack ≤ r.depth → is_roomy (activation_at r stack) ≡ false
+full r stack fits filled = let e = values_count r.depth stack fits in let n : nat_lt (length (values_of r.depth stack)) (length stack) ≡ false = grind (arith, e, filled) in n
 
 module _ (code : CodeOf) (o : World) (m : Frames) (t home : ℕ) (below : List Activation) where
   abbrev Begun_at : ThunkRecord → Run Machine

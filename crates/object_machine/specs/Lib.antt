@@ -7,6 +7,7 @@ pub mod Entering
 pub mod Running
 pub mod Stretching
 pub mod FrameEnds
+pub mod Placed
 pub mod Placing
 pub mod Settled
 pub mod Named

@@ -132,7 +132,7 @@ fn runs_inside(running: Option<u32>, thunk: usize) -> bool
     }
 }
 
-// A thunk is run for the frame at work, which waits behind its instruction.
+// A thunk is run for the frame at work, which has room for what the thunk gives, and waits behind its instruction.
 fn run_thunk(
     alloc: Global,
     instrs: &[Lined],
@@ -154,6 +154,9 @@ fn run_thunk(
         return Flow::NoRule;
     };
     if !runs_inside(top.registers.thunk, number) {
+        return Flow::NoRule;
+    }
+    if top.registers.depth >= top.stack.len() {
         return Flow::NoRule;
     }
     let Some(_thunk) = thunks.get(number) else {

@@ -1,8 +1,8 @@
 //! Rows on frames and their cells.
 ghost use Rattle.std.specs.Prelude.{◌≡◌, ℕ, ◌+◌, ◌<◌, ◌≤◌, ◌^◌, List, Option, IfSome, length};
-ghost use Rattle.sim_code.specs.Events.{having, popping};
+ghost use Rattle.sim_code.specs.Events.{having, popping, when};
 ghost use Rattle.sim_code.specs.Instances.{CellPlace};
-ghost use Rattle.sim_code.specs.Machine.{Activation as ActivationOf, Address, Frames, Link as LinkTo, Machine, cell as cell_value_of, cell_at, cell_set, level as at_level_of, on};
+ghost use Rattle.sim_code.specs.Machine.{Activation as ActivationOf, Address, Frames, Link as LinkTo, Machine, cell as cell_value_of, cell_at, cell_set, has_cell, index as index_of, level as at_level_of, on};
 ghost use Rattle.sim_code.specs.Outcome.{Run, World};
 ghost use Rattle.sim_code.specs.Code.{CodeOf};
 ghost use Rattle.sim_code.specs.declared.instr.Instr.{Instr};
@@ -151,8 +151,34 @@ pub fn store(
     Flow::NoRule
 }
 
-/// Pushes the address of a cell, where no class is named. It stops as for want of memory where the cell's number is 2^32 or more: no
-/// frame has such a cell. `own` is the span of some frame.
+/// The number of a cell of a frame, where it has such a cell.
+#[inline(always)]
+pub fn cell_of(span: Span, cell: i64) -> Option<u32>
+    ensures row { (frames : List Frame) (cells : List Slot) (m : Frames) (o : World) (go : ℕ → Run Machine) → Holds frames cells m → IsSpan frames span →
+        index_of cell o (λ c. when (has_cell m span.number c) o (go c)) ≡ having result o go }
+{
+    let Some(number) = index(cell) else {
+        return None;
+    };
+    if number >= span.cells as usize {
+        return None;
+    }
+    Some(number as u32)
+}
+
+/// The same of a frame that a reference leads to, if it was not given back.
+#[inline(always)]
+pub fn frame_cell(frames: &[Frame], at: FrameRef, cell: i64) -> Option<u32>
+    ensures row { (cells : List Slot) (m : Frames) (o : World) (go : ℕ → Run Machine) → Holds frames.now cells m → Leads frames.now m at →
+        index_of cell o (λ c. when (has_cell m at.stamp c) o (go c)) ≡ having result o go }
+{
+    let Some(_place) = frames::find(frames, at) else {
+        return None;
+    };
+    cell_of(frames::span_at(frames, at.frame), cell)
+}
+
+/// Pushes the address of a cell, where no class is named. `own` is the span of some frame.
 #[inline(always)]
 pub fn address(
     frames: &[Frame],
@@ -178,9 +204,9 @@ pub fn address(
     Some(plain_address(frames, own, stack, regs, level, cell))
 }
 
-// The same, without a class.
+/// The same, without a class.
 #[inline(always)]
-fn plain_address(
+pub fn plain_address(
     frames: &[Frame],
     own: Span,
     stack: &mut [Slot],
@@ -194,16 +220,13 @@ fn plain_address(
     ensures fits { regs.new.depth ≤ length stack.new }
     ensures next { Advances result regs.old regs.new }
     ensures row { (l : Limits) (line : ℕ) (p : Storage) (below : List Activation) (now : Outside) → p.frames.items ≡ frames.now →
-        Obeys result l line (λ o m a b. cell_at m a level cell o (λ j c. pushed o m a b (Address (CellPlace j c 0)))) p p regs.old regs.new stack.old stack.new below below now now }
+        Obeys result l line (λ o m a b. cell_at m a level cell o (λ j c. when (has_cell m j c) o (pushed o m a b (Address (CellPlace j c 0))))) p p regs.old regs.new stack.old stack.new below below now now }
 {
     let Some(span) = level_span(frames, own, regs.home, level) else {
         return Flow::NoRule;
     };
-    let Some(number) = index(cell) else {
+    let Some(number) = cell_of(span, cell) else {
         return Flow::NoRule;
-    };
-    let Ok(short) = u32::try_from(number) else {
-        return Flow::Memory;
     };
     if span.number >= 1 << 63 {
         return Flow::Memory;
@@ -212,7 +235,7 @@ fn plain_address(
         frame: span.region,
         stamp: span.number,
     };
-    push(stack, regs, Slot::cell(frame, short, 0))
+    push(stack, regs, Slot::cell(frame, number, 0))
 }
 
 /// Whether no class is named.

@@ -7,6 +7,7 @@ ghost use Rattle.object_machine.specs.Transferring.{CutsAt, JoinsChain, LeavesCh
 
 use crate::machine::{Activation, Flow};
 use crate::owners::is_thunk;
+use std::alloc::Global;
 use std::mem;
 
 // Whether an activation is that of an instance, and no thunk.
@@ -18,6 +19,16 @@ fn is_frame_of(activation: &Activation, instance: u64) -> bool
         return false;
     }
     activation.registers.home.stamp == instance
+}
+
+/// A chain without activations, with room for one where there is memory for it: most components stand alone on theirs.
+pub fn new_chain(alloc: Global) -> Vec<Activation>
+    ensures { result.items ≡ [] }
+{
+    match Vec::with_capacity(alloc, 1) {
+        Ok(chain) => chain,
+        Err(_) => Vec::new(alloc),
+    }
 }
 
 /// Whether an instance stands on the operating chain, looked for from the top down.

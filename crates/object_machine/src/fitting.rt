@@ -137,7 +137,9 @@ fn all_fit(classes: &[ClassRecord], formals: &[CodeFormal], actuals: &[CodeActua
     true
 }
 
-/// Holds actual parameters against formal ones: there are as many, and each fits, but for the instances to which classes belong.
+/// Holds the actual parameters of a call against the formal ones of the procedure that is called, before any of them is evaluated. Another
+/// number is `WrongNumberOfParameters`, a kind or type that does not fit is `WrongParameter`. The numbers of classes are those of `classes`,
+/// from 1 on. Whether the classes of two references belong to the same instance is not asked here.
 pub fn fits_now(
     classes: &[ClassRecord],
     formals: &[CodeFormal],

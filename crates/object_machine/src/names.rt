@@ -316,6 +316,20 @@ pub fn quiet_standard(
     }
 }
 
+/// How many operands a quiet standard name takes and leaves, if this is the number of one.
+pub fn quiet_name(operand: i64) -> Option<(u32, u32)> {
+    let Some(name) = name_of(operand) else {
+        return None;
+    };
+    match manner_of(name) {
+        Manner::Ports => None,
+        _ => {
+            let takes = operand_count(name).min(3) as u32;
+            Some((takes, u32::from(name.result().is_some())))
+        }
+    }
+}
+
 /// The name of a simulation block of which this is the number, if it is one.
 pub fn simulation_name(operand: i64) -> Option<Standard>
     ensures is { IfSome result (λ name. standard_of operand ≡ Some name) }

@@ -6,9 +6,9 @@ ghost use Rattle.sim_code.specs.declared.instr.Instr.{Instr};
 ghost use Rattle.sim_code.specs.Arrays.{finding_element};
 ghost use Rattle.sim_code.specs.Classes.{class_named as class_named_of, qualifying as qualifying_of};
 ghost use Rattle.sim_code.specs.Code.{CodeOf};
-ghost use Rattle.sim_code.specs.Events.{having, pop_object, pop_plain, pop_reference};
+ghost use Rattle.sim_code.specs.Events.{having, pop_object, pop_plain, pop_reference, when};
 ghost use Rattle.sim_code.specs.Instances.{CellPlace, ElementPlace};
-ghost use Rattle.sim_code.specs.Machine.{Address, Frames, Of, array_in, cell_at, index as index_of, level as at_level_of, on, place_in, plain};
+ghost use Rattle.sim_code.specs.Machine.{Address, Frames, Of, array_in, cell_at, has_cell, index as index_of, level as at_level_of, on, place_in, plain};
 ghost use Rattle.sim_code.specs.Rows.{pushed, qualified, row};
 ghost use Rattle.frame_arena.specs.Frames.{Holds, SlotLeads};
 ghost use Rattle.frame_arena.specs.Slots.{value_of};
@@ -17,12 +17,11 @@ ghost use Rattle.object_machine.specs.Classing.{admits, class_in_place, tests, u
 ghost use Rattle.object_machine.specs.Standing.{HasImages, Obeys, Outside};
 
 use crate::arrays::{element_address, put_down};
-use crate::cells::level_frame;
+use crate::cells::{frame_cell, level_frame};
 use crate::classes::{
     Qualification, Reference, class_named, in_class, main_in_class, may_stand, qualify,
     reference_in, test,
 };
-use crate::constants::index;
 use crate::machine::{Activation, Flow, Registers, Storage};
 use crate::operands::push;
 use crate::placing::is_image;
@@ -156,30 +155,32 @@ pub fn test_class(
     Flow::On
 }
 
-// The address of a cell of the object on top. It stops as for want of memory where the cell's number is 2^32 or more: no frame has
-// such a cell.
-fn attribute(stack: &mut [Slot], regs: &mut Registers, cell: i64, class: u32) -> Flow
+// The address of a cell of the object on top.
+fn attribute(
+    frames: &[Frame],
+    stack: &mut [Slot],
+    regs: &mut Registers,
+    cell: i64,
+    class: u32,
+) -> Flow
     requires fits { regs.old.depth ≤ length stack.old }
     requires short { regs.old.pc + 1 < 2 ^ 64 }
     ensures fits { regs.new.depth ≤ length stack.new }
-    ensures row { (l : LimitsOf) (line : ℕ) (p : StorageOf) (below : List Activation) (now : Outside) →
-        Obeys result l line (λ o m a b. pop_object plain line a.stack o (λ j st. index_of cell o (λ c. on o m a (Address (CellPlace j c class) ∷ st) b))) p p regs.old regs.new stack.old stack.new below below now now }
+    ensures row { (l : LimitsOf) (line : ℕ) (p : StorageOf) (below : List Activation) (now : Outside) → p.frames.items ≡ frames.now →
+        Obeys result l line (λ o m a b. pop_object plain line a.stack o (λ j st. index_of cell o (λ c. when (has_cell m j c) o (on o m a (Address (CellPlace j c class) ∷ st) b)))) p p regs.old regs.new stack.old stack.new below below now now }
 {
     let Some(at) = stack::pop(stack, regs.depth) else {
         return Flow::NoRule;
     };
     match reference_in(stack[at]) {
         Reference::Object(object) => {
-            let Some(number) = index(cell) else {
+            let Some(number) = frame_cell(frames, object, cell) else {
                 return Flow::NoRule;
-            };
-            let Ok(short) = u32::try_from(number) else {
-                return Flow::Memory;
             };
             if object.stamp >= 1 << 63 {
                 return Flow::Memory;
             }
-            stack[at] = Slot::cell(object, short, class);
+            stack[at] = Slot::cell(object, number, class);
             regs.pc += 1;
             Flow::On
         }
@@ -191,6 +192,7 @@ fn attribute(stack: &mut [Slot], regs: &mut Registers, cell: i64, class: u32) ->
 
 /// The address of a cell of the object on top, with a class.
 pub fn attribute_address(
+    frames: &[Frame],
     classes: &[ClassRecord],
     stack: &mut [Slot],
     regs: &mut Registers,
@@ -200,17 +202,17 @@ pub fn attribute_address(
     requires fits { regs.old.depth ≤ length stack.old }
     requires short { regs.old.pc + 1 < 2 ^ 64 }
     ensures fits { regs.new.depth ≤ length stack.new }
-    ensures row { (code : CodeOf) (l : LimitsOf) (line : ℕ) (p : StorageOf) (below : List Activation) (now : Outside) → code.classes ≡ classes.now →
+    ensures row { (code : CodeOf) (l : LimitsOf) (line : ℕ) (p : StorageOf) (below : List Activation) (now : Outside) → code.classes ≡ classes.now → p.frames.items ≡ frames.now →
         Obeys result l line (λ o m a b. row code l o m a b line (Instr.AddrR cell class)) p p regs.old regs.new stack.old stack.new below below now now }
 {
     match qualify(classes, class) {
-        Qualification::Class(number) => attribute(stack, regs, cell, number),
+        Qualification::Class(number) => attribute(frames, stack, regs, cell, number),
         Qualification::NoRule => Flow::NoRule,
         Qualification::Memory => Flow::Memory,
     }
 }
 
-// Pushes the address of a cell. It stops as for want of memory where the cell's number is 2^32 or more: no frame has such a cell.
+// Pushes the address of a cell.
 fn cell_address(
     frames: &[Frame],
     stack: &mut [Slot],
@@ -223,21 +225,18 @@ fn cell_address(
     requires short { regs.old.pc + 1 < 2 ^ 64 }
     ensures fits { regs.new.depth ≤ length stack.new }
     ensures row { (l : LimitsOf) (line : ℕ) (p : StorageOf) (below : List Activation) (now : Outside) → p.frames.items ≡ frames.now →
-        Obeys result l line (λ o m a b. cell_at m a level cell o (λ j c. pushed o m a b (Address (CellPlace j c class)))) p p regs.old regs.new stack.old stack.new below below now now }
+        Obeys result l line (λ o m a b. cell_at m a level cell o (λ j c. when (has_cell m j c) o (pushed o m a b (Address (CellPlace j c class))))) p p regs.old regs.new stack.old stack.new below below now now }
 {
     let Some(frame) = level_frame(frames, regs.home, level) else {
         return Flow::NoRule;
     };
-    let Some(number) = index(cell) else {
+    let Some(number) = frame_cell(frames, frame, cell) else {
         return Flow::NoRule;
-    };
-    let Ok(short) = u32::try_from(number) else {
-        return Flow::Memory;
     };
     if frame.stamp >= 1 << 63 {
         return Flow::Memory;
     }
-    push(stack, regs, Slot::cell(frame, short, class))
+    push(stack, regs, Slot::cell(frame, number, class))
 }
 
 /// Pushes the address of a cell, with a class.

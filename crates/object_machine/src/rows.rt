@@ -169,7 +169,9 @@ pub fn obey_other(
         Instr::Addr { level, cell, class } => {
             qualified_address(&storage.frames, classes, stack, regs, level, cell, class)
         }
-        Instr::AddrR { cell, class } => attribute_address(classes, stack, regs, cell, class),
+        Instr::AddrR { cell, class } => {
+            attribute_address(&storage.frames, classes, stack, regs, cell, class)
+        }
         Instr::Elem { subscripts, class } => {
             qualified_element(&storage.arrays, classes, stack, regs, subscripts, class)
         }

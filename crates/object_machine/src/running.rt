@@ -7,6 +7,7 @@ ghost use Rattle.object_machine.specs.Taking.{TakesNothing};
 use crate::begin::Begun;
 use crate::ending::answer;
 use crate::first::begin;
+use crate::layout::place;
 use crate::machine::Flow;
 use crate::start::start;
 use crate::steps::steps;
@@ -34,6 +35,9 @@ pub fn run<I: Source, O: Sink>(
     let Ok(mut storage) = start(alloc, &code.texts, code.blocks.len(), limits) else {
         return Ending::Memory;
     };
+    let Ok(placed) = place(alloc, code) else {
+        return Ending::Memory;
+    };
     let begun = begin(
         alloc,
         &code.blocks,
@@ -48,6 +52,7 @@ pub fn run<I: Source, O: Sink>(
             let mut below = Vec::new(alloc);
             let stop = steps(
                 alloc,
+                &placed,
                 &code.blocks,
                 &code.instrs,
                 &code.texts,

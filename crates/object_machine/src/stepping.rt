@@ -25,7 +25,7 @@ use crate::rows::obey_other;
 use crate::scheduling::schedule;
 use crate::stages::{inner, next_declarations};
 use crate::texts::constant;
-use crate::thunks::{end_thunk, push_thunk, use_name};
+use crate::thunks::{end_thunk, push_thunk, use_place, use_value};
 use crate::transfers::{attach, detach, resume};
 use crate::virtuals::call_value;
 use sim_base::{ByteString, Limits};
@@ -149,15 +149,15 @@ pub fn step<I: Source, O: Sink>(
             let flow = push_thunk(thunks, &mut top.stack, &mut top.registers, number);
             without_ports(flow)
         }
-        Instr::NameVal { level, cell, .. } => {
-            let flow = use_name(
-                alloc, instrs, thunks, limits, storage, top, below, level, cell,
+        Instr::NameVal { level, cell, class } => {
+            let flow = use_value(
+                alloc, instrs, classes, thunks, limits, storage, top, below, level, cell, class,
             );
             without_ports(flow)
         }
-        Instr::NameAddr { level, cell, .. } => {
-            let flow = use_name(
-                alloc, instrs, thunks, limits, storage, top, below, level, cell,
+        Instr::NameAddr { level, cell, value } => {
+            let flow = use_place(
+                alloc, instrs, thunks, limits, storage, top, below, level, cell, value,
             );
             without_ports(flow)
         }

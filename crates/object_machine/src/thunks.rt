@@ -168,8 +168,9 @@ pub fn begin_thunk(
     cover(top, below, next)
 }
 
-/// The thunk in a cell is run for its frame, after its tick. The frame at work waits behind its instruction.
-pub fn use_name(
+// The thunk in a cell is run for its frame, after its tick. The frame at work, which has room for what the thunk gives, waits behind its
+// instruction.
+fn use_name(
     alloc: Global,
     instrs: &[Lined],
     thunks: &[ThunkRecord],
@@ -193,11 +194,78 @@ pub fn use_name(
     let Some(used) = named_thunk(storage, top.registers.home, level, cell) else {
         return Flow::NoRule;
     };
+    if top.registers.depth >= top.stack.len() {
+        return Flow::NoRule;
+    }
     if storage.ticks >= limits.ticks {
         return Flow::TickLimit;
     }
     storage.ticks += 1;
     begin_thunk(alloc, instrs, thunks, storage, top, below, used)
+}
+
+/// A use of a parameter by name for its value, which is held against a class.
+pub fn use_value(
+    alloc: Global,
+    instrs: &[Lined],
+    classes: &[ClassRecord],
+    thunks: &[ThunkRecord],
+    limits: &Limits,
+    storage: &mut Storage,
+    top: &mut Activation,
+    below: &mut Vec<Activation>,
+    level: i64,
+    cell: i64,
+    class: i64,
+) -> Flow
+    requires short { top.old.registers.pc + 1 < 2 ^ 64 }
+    requires fits { top.old.registers.depth ≤ length top.old.stack.items }
+    requires others { AllFit below.old.items }
+    ensures fits { top.new.registers.depth ≤ length top.new.stack.items }
+    ensures others { AllFit below.new.items }
+    ensures texts { storage.new.texts ≡ storage.old.texts }
+    ensures image { storage.new.image ≡ storage.old.image }
+    ensures row { (code : CodeOf) (line : ℕ) (now : Outside) → code.classes ≡ classes.now → code.thunks ≡ thunks.now → code.instrs ≡ instrs.now →
+        Obeys result limits.now line (λ o m a b. row code limits.now o m a b line (Instr.NameVal level cell class)) storage.old storage.new top.old.registers top.new.registers top.old.stack.items top.new.stack.items below.old.items below.new.items now now }
+{
+    match qualify(classes, class) {
+        Qualification::Class(_) => use_name(
+            alloc, instrs, thunks, limits, storage, top, below, level, cell,
+        ),
+        Qualification::NoRule => Flow::NoRule,
+        Qualification::Memory => Flow::Memory,
+    }
+}
+
+/// A use of a parameter by name for where it lies, or else for its value if that is enough.
+pub fn use_place(
+    alloc: Global,
+    instrs: &[Lined],
+    thunks: &[ThunkRecord],
+    limits: &Limits,
+    storage: &mut Storage,
+    top: &mut Activation,
+    below: &mut Vec<Activation>,
+    level: i64,
+    cell: i64,
+    value_too: i64,
+) -> Flow
+    requires short { top.old.registers.pc + 1 < 2 ^ 64 }
+    requires fits { top.old.registers.depth ≤ length top.old.stack.items }
+    requires others { AllFit below.old.items }
+    ensures fits { top.new.registers.depth ≤ length top.new.stack.items }
+    ensures others { AllFit below.new.items }
+    ensures texts { storage.new.texts ≡ storage.old.texts }
+    ensures image { storage.new.image ≡ storage.old.image }
+    ensures row { (code : CodeOf) (line : ℕ) (now : Outside) → code.thunks ≡ thunks.now → code.instrs ≡ instrs.now →
+        Obeys result limits.now line (λ o m a b. row code limits.now o m a b line (Instr.NameAddr level cell value_too)) storage.old storage.new top.old.registers top.new.registers top.old.stack.items top.new.stack.items below.old.items below.new.items now now }
+{
+    let Some(_either) = truth(value_too) else {
+        return Flow::NoRule;
+    };
+    use_name(
+        alloc, instrs, thunks, limits, storage, top, below, level, cell,
+    )
 }
 
 // Whether a slot tells where something lies.

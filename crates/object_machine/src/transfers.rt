@@ -14,7 +14,7 @@ ghost use Rattle.frame_arena.specs.Stacks.{values_of};
 ghost use Rattle.object_machine.specs.Standing.{AllFit, Leaves, Obeys, Outside, Stands, activation_at, below_of};
 ghost use Rattle.object_machine.specs.Transferring.{controlling};
 
-use crate::chains::{cut_above, join_chain, leave_chain, stands_on};
+use crate::chains::{cut_above, join_chain, leave_chain, new_chain, stands_on};
 use crate::classes::{Reference, reference_in};
 use crate::kept_chains::{keep_above, keep_by_object, keep_chain, stand, take_chain};
 use crate::machine::{Activation, Flow, Storage};
@@ -43,7 +43,7 @@ fn leave_object(
         Leaves result l line storage.new top.new.registers top.new.stack.items below.new.items before now (transferring owner Detaching line o (activation_at top.old.registers top.old.stack.items ∷ below_of below.old.items) m (Object object)) }
 {
     let alloc = *storage.frames.allocator();
-    let mut kept = Vec::new(alloc);
+    let mut kept = new_chain(alloc);
     let flow = leave_chain(object, top, below, &mut kept);
     match flow {
         Flow::On => {}
@@ -71,7 +71,7 @@ fn give_to_main(
         Leaves result l line storage.new top.new.registers top.new.stack.items below.new.items before now (controlling line o (activation_at top.old.registers top.old.stack.items ∷ below_of below.old.items) m head.stamp None) }
 {
     let alloc = *storage.frames.allocator();
-    let mut above = Vec::new(alloc);
+    let mut above = new_chain(alloc);
     if !cut_above(head.stamp, top, below, &mut above) {
         return Flow::Memory;
     }
@@ -127,7 +127,7 @@ fn take_turn(
         Leaves result l line storage.new top.new.registers top.new.stack.items below.new.items before now (transferring owner Resuming line o (activation_at top.old.registers top.old.stack.items ∷ below_of below.old.items) m (Object object)) }
 {
     let alloc = *storage.frames.allocator();
-    let mut above = Vec::new(alloc);
+    let mut above = new_chain(alloc);
     if !cut_above(head.stamp, top, below, &mut above) {
         return Flow::Memory;
     }

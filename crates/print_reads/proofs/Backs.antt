@@ -19,9 +19,9 @@ use Rattle.sim_print.specs.Tokens as token
 use Rattle.sim_print.specs.Unnumbered.{unnumbered}
 use Rattle.sim_readings.specs.Readable.{TreeOrFault, fault, tree}
 use Rattle.print_reads.specs.ReadBack.{IsSame, lexeme_of}
-use Rattle.print_reads.proofs.ReadBack.{Item, Whole, items, program_read}
-use Rattle.print_reads.proofs.ReadExpressions.{is_full-Full}
-use Rattle.print_reads.proofs.ReadPrograms.{read_program}
+use Rattle.sim_tree.proofs.ReadBack.{Item, Whole, items, program_read}
+use Rattle.sim_tree.proofs.ReadExpressions.{is_full-Full}
+use Rattle.sim_tree.proofs.ReadPrograms.{read_program}
 use Rattle.print_reads.proofs.Ahead.{canon, no_true}
 use Rattle.print_reads.proofs.Carried.{Lists, last, none, part, whole}
 use Rattle.print_reads.proofs.Carry.{Again, Spans, carry}

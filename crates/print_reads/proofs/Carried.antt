@@ -21,8 +21,8 @@ use Rattle.sim_tree.specs.SyntaxOfProgram.{Arm}
 use Rattle.sim_print.specs.Tokens as token
 use Rattle.sim_print.specs.Tokens.{behind_comma, name, one}
 use Rattle.sim_print.specs.Unnumbered as u
-use Rattle.print_reads.proofs.ReadBack as r
-use Rattle.print_reads.proofs.ReadBack.{Contents, Item}
+use Rattle.sim_tree.proofs.ReadBack as r
+use Rattle.sim_tree.proofs.ReadBack.{Contents, Item}
 
 -- what a token that is kept is written by
 abbrev pub lexeme : TokenKind → TokenValue → Lexeme

@@ -13,8 +13,8 @@ use Rattle.sim_print.specs.Spelling.{each}
 use Rattle.sim_print.specs.Tokens as token
 use Rattle.sim_print.specs.Tokens.{name, one}
 use Rattle.sim_print.specs.Unnumbered as u
-use Rattle.print_reads.proofs.ReadBack as r
-use Rattle.print_reads.proofs.ReadBack.{Contents, Item, item_of}
+use Rattle.sim_tree.proofs.ReadBack as r
+use Rattle.sim_tree.proofs.ReadBack.{Contents, Item, item_of}
 use Rattle.print_reads.proofs.Carried.{Carried, IsProtecting, Lists, SameContents, actuals, also, any, ap2, ap3, begun, behind, body, lead, class, contents_tokens, declaration, ended, head, here, here_at, here_else, inside, kept, kind, last, led, mark, names, no_more, none, of_name, of_type, only, part, procedure, protecting, statement, then, unless, virtuals, whole}
 use Rattle.print_reads.proofs.CarriedExpressions.{Gives}
 

@@ -17,8 +17,8 @@ use Rattle.sim_print.specs.Spelling.{each}
 use Rattle.sim_print.specs.Tokens as token
 use Rattle.sim_print.specs.Tokens.{behind_comma, name, one}
 use Rattle.sim_print.specs.Unnumbered as u
-use Rattle.print_reads.proofs.ReadBack as r
-use Rattle.print_reads.proofs.ReadBack.{Item, item_of}
+use Rattle.sim_tree.proofs.ReadBack as r
+use Rattle.sim_tree.proofs.ReadBack.{Item, item_of}
 use Rattle.print_reads.proofs.Carried.{Carried, InRows, Lists, also, ap2, ap3, behind, bound, lead, const, first, head, here_at, here_else, kept, kind, kind_of, last, later, mark, moding, names, next_bound, next_name, next_segment, next_variable, no_more, none, of_type, only, part, procedure, segment, sort, specifying, then, unless, value, valued, variable, virtually, virtuals}
 use Rattle.print_reads.proofs.CarriedExpressions.{Gives}
 

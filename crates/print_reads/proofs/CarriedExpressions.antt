@@ -16,8 +16,8 @@ use Rattle.sim_tree.specs.Syntax.{Expression, Expressions}
 use Rattle.sim_print.specs.Tokens as token
 use Rattle.sim_print.specs.Tokens.{name, one, operator_kind}
 use Rattle.sim_print.specs.Unnumbered as u
-use Rattle.print_reads.proofs.ReadBack as r
-use Rattle.print_reads.proofs.ReadBack.{Item, item_of}
+use Rattle.sim_tree.proofs.ReadBack as r
+use Rattle.sim_tree.proofs.ReadBack.{Item, item_of}
 use Rattle.print_reads.proofs.Carried.{Carried, Each, InRows, IsStep, IsValue, Lists, actuals, ap2, ap3, behind, lead, each_more, each_none, first, front, here_at, here_else, kept, last, later, many, mark, next_value, none, only, part, perhaps, sort, unless, no_more, step, then, value}
 
 -- What a part gives, in both derivations.

@@ -17,8 +17,8 @@ use Rattle.sim_print.specs.Spelling.{each}
 use Rattle.sim_print.specs.Tokens as token
 use Rattle.sim_print.specs.Tokens.{behind_comma, name, one}
 use Rattle.sim_print.specs.Unnumbered as u
-use Rattle.print_reads.proofs.ReadBack as r
-use Rattle.print_reads.proofs.ReadBack.{Contents, Item, item_of}
+use Rattle.sim_tree.proofs.ReadBack as r
+use Rattle.sim_tree.proofs.ReadBack.{Contents, Item, item_of}
 use Rattle.print_reads.proofs.Carried.{Carried, Lists, actuals, after_operand, also, ap2, ap3, arm, begun, behind, body, lead, doing, element, first, for_part, here, here_at, here_else, kept, last, later, led, mark, next_element, no_more, none, only, part, side, sort, statement, step, tail, then, timed, unless, value, whens}
 use Rattle.print_reads.proofs.CarriedExpressions.{Gives}
 

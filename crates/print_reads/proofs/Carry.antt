@@ -11,7 +11,7 @@ use Rattle.sim_tree.specs.Grammar as g
 use Rattle.sim_tree.specs.Grammar.{Any, Here, Kept, Many, Mark, Maybe, Of, Once, Part, Symbol, Times, is, one_of, right_side, rows}
 use Rattle.sim_tree.specs.Reading.{Forest, Reads, after, done, finish, inside_depth, is_too_deep, kind_at, leaf, may_skip, node, place, reads-any, reads-done, reads-here, reads-kept, reads-mark, reads-none, reads-part, reads-skip, value_at}
 use Rattle.sim_tree.proofs.Completion.{is_same, is_self, left_true, right_true}
-use Rattle.print_reads.proofs.ReadBack.{Also, Item, Tok, item_of, items}
+use Rattle.sim_tree.proofs.ReadBack.{Also, Item, Tok, item_of, items}
 use Rattle.print_reads.proofs.Carried.{Among, Carried, InRows, Lists, any, behind, ended, first, here, here_at, kept, later, lexeme, mark, no_more, none, only, part, sort, unless}
 use Rattle.print_reads.proofs.CarriedBlocks.{both_ways, hidden, protected}
 use Rattle.print_reads.proofs.CarriedDeclarations.{is_choice, is_ref, type_name}

@@ -15,10 +15,6 @@ mod Leaves
 mod Expressions
 mod Trees
 pub mod Printed
-mod ReadBack
-mod ReadExpressions
-mod ReadStatements
-mod ReadPrograms
 mod Carried
 mod CarriedExpressions
 mod CarriedDeclarations

@@ -1,9 +1,15 @@
 // `exec`: what is wrong with a code file, and what the run of its code comes to.
 
 use crate::top_call::{Wanted, answer_of, check, sound};
+use std::alloc::Global;
+use std::process::Abort;
 
 const PROGRAM: &[u8] =
     b"begin\n  integer array a(1:4); integer k, i;\n  integer procedure sum(v, lo, hi, term); name v, term; integer v, lo, hi, term;\n  begin integer s;\n    v := lo;\n    while v <= hi do begin s := s + term; v := v + 1 end;\n    sum := s\n  end;\n  for i := 1 step 1 until 4 do a(i) := i + 10;\n  outint(sum(k, 1, 4, a(k)*k), 6); outimage\nend";
+
+// A simulation block that is entered twice. Each time it has a process of its own.
+const TWO_ENTRIES: &[u8] =
+    b"begin\nclass k; ;\nref(k) keep, y; integer i;\nfor i := 1, 2 do\nsimulation begin\nprocess class p; ;\nref(p) x;\nx :- new p;\nif i = 1 then keep :- y\nelse\nactivate\nx\nend\nend";
 
 // One block of level 1 with zeros else, and one instruction, `Pop` at line 1.
 const POP: [u8; 101] =
@@ -75,4 +81,56 @@ fn compiled_code(rt: HostRuntime) {
         diag: b"output fault\n",
     };
     check(&rt, rt.alloc(), 3, &["exec", "source.sim"], failing, wanted);
+}
+
+// A file with other bytes at some places.
+fn with_bytes(rt: &impl Abort, alloc: Global, file: &[u8], changes: &[(usize, u8)]) -> Vec<u8> {
+    let mut changed = Vec::new(alloc);
+    changed
+        .extend_from_slice(file)
+        .expect(rt, "memory is ample");
+    for (place, byte) in changes.iter() {
+        assert!(rt; *place < changed.len());
+        changed[*place] = *byte;
+    }
+    changed
+}
+
+// In the second entry of a simulation block the process of the first one is activated. No source comes to that: the code that keeps
+// nothing in the first entry, and takes the block's own process in the second, is changed.
+#[test]
+fn process_of_another_entry(rt: HostRuntime) {
+    let compiled = answer_of(
+        &rt,
+        rt.alloc(),
+        &["compile", "source.sim"],
+        sound(TWO_ENTRIES),
+    );
+    assert!(rt; compiled.status == 0);
+    let changes = [
+        // In the first entry `Load 2 0`, `Store 1 0` and a jump behind them, in place of an address and what `y` has.
+        (1719, 0x0f),
+        (1720, 2),
+        (1736, 0),
+        (1748, 0x10),
+        (1757, 0),
+        (1777, 0x26),
+        (1778, 42),
+        // In the second one `Load 1 0`.
+        (1894, 1),
+    ];
+    let changed = with_bytes(&rt, rt.alloc(), compiled.out.bytes(), &changes);
+    let wanted = Wanted {
+        status: 2,
+        out: b"",
+        diag: b"line 11: E53 process of another simulation\n",
+    };
+    check(
+        &rt,
+        rt.alloc(),
+        0,
+        &["exec", "source.sim"],
+        sound(&changed),
+        wanted,
+    );
 }

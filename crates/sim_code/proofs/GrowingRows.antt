@@ -37,7 +37,7 @@ use Rattle.sim_code.specs.Sets.{enrolled, is_set_name}
 use Rattle.sim_code.specs.Simulations.{begun_in, is_process_name, is_simulation_name, joined, joined_at, located, with_simulation}
 use Rattle.sim_code.specs.Scheduling.{Timing, component_of, deciding, going_to}
 use Rattle.sim_code.specs.Transfers.{Calling, Detaching, Resuming, Transfer, component_in, transferred, transferring}
-use Rattle.sim_code.specs.Machine.{Activation, Address, ArrayValue, Cells, Frames, Link, Machine, Of, ProcedureValue, ThunkValue, Value, array_in, arrays_among, arrays_by_value, block_at, cell, cell_at, cell_set, frame_in, index, jumping, leaving, level, link_in, number, operand, own_block, owner, place_in, plain, procedure_in, pushing, pushing_any, same_kind, thunk_in, value_at, variable_in, waiting, with_result, words_of_block}
+use Rattle.sim_code.specs.Machine.{Activation, Address, ArrayValue, Cells, Frames, Link, Machine, Of, ProcedureValue, ThunkValue, Value, array_in, arrays_among, arrays_by_value, block_at, cell, cell_at, cell_set, frame_in, has_cell, index, is_roomy, jumping, leaving, level, link_in, number, operand, own_block, owner, place_in, plain, procedure_in, pushing, pushing_any, same_kind, thunk_in, value_at, variable_in, waiting, with_result, words_of_block}
 use Rattle.sim_code.specs.Classes.{admitting, class_named, in_process, is_in, is_of, may_stand, qualifying}
 use Rattle.sim_code.specs.Levels.{after_declarations, at_inner, at_stage, class_at_level, declarations_done, ended_by_kind, ending_process, entering_prefixed, generating, inner_reached, is_process_class, is_simulation_class, leading, level_ended, levelled, linkage_of_class, objects_of, outermost_ended, own_levels, words_of_object}
 use Rattle.sim_code.specs.Rows.{activation_of, checking, class_at, code_of, comparison_of, decided, element_kind, entering_frame, entering_procedure, entering_value, first_stage, mrun, mstep, no_class, on_chain, one_row, opening, parameter_row, program_begun, pushed, put_back, putting, qualified, row, standard_of, standard_row, storing, thunk_ended, thunk_given, thunk_pushed, truth_of, two_row, without_class}
@@ -385,7 +385,7 @@ thunk_begins code o m t home below =
     grows_when Machine (is_live m home) o _ (grows_having Machine ThunkRecord (slice_get code.thunks t) o _ (λ x _. grows_having Machine Lined (slice_get code.instrs x.entry) o _ (λ y _. going o _)))
 
 using_grows : (code : CodeOf) (l : Limits) (o : World) (m : Frames) (a : Activation) (below : List Activation) (j c : ℕ) → Here o (using_name code l o m a below j c)
-using_grows code l o m a below j c = grows_having Machine Value (cell m j c) o _ (λ v _. grows_having Machine (ℕ × ℕ) (thunk_in v) o _ (λ t _. grows_ticking Machine l o _ (λ p. thunk_begins code p m t.0 t.1 _)))
+using_grows code l o m a below j c = grows_having Machine Value (cell m j c) o _ (λ v _. grows_having Machine (ℕ × ℕ) (thunk_in v) o _ (λ t _. grows_when Machine (is_roomy a) o _ (grows_ticking Machine l o _ (λ p. thunk_begins code p m t.0 t.1 _))))
 
 -- parameters of procedures in hand
 text_grows : (l : Limits) (line : ℕ) (t : TextVal) (o : World) (go : TextVal → World → Run Machine) → ((t : TextVal) (p : World) → Here p (go t p)) → Here o (making_text l line (copy o.store.frames t) o go)
@@ -406,7 +406,7 @@ thunk_goes : (code : CodeOf) (o : World) (m : Frames) (a : Activation) (below : 
 thunk_goes code o m a below z = index_grows z o _ (λ t. grows_having Machine ThunkRecord (slice_get code.thunks t) o _ (λ _ _. push_grows o m a below _))
 
 thunk_runs : (code : CodeOf) (o : World) (m : Frames) (a : Activation) (below : List Activation) (z : ℤ) → Here o (running_thunk code o m a below z)
-thunk_runs code o m a below z = index_grows z o _ (λ t. grows_when Machine (runs_inside a.thunk t) o _ (thunk_begins code o m t a.home _))
+thunk_runs code o m a below z = index_grows z o _ (λ t. grows_when Machine (runs_inside a.thunk t) o _ (grows_when Machine (is_roomy a) o _ (thunk_begins code o m t a.home _)))
 
 parameter_grows : (code : CodeOf) (o : World) (m : Frames) (a : Activation) (below : List Activation) (n t p : ℤ) → Here o (parameter_row code o m a below n t p)
 parameter_grows code o m a below n t p =
@@ -499,8 +499,8 @@ row_grows code l o m a below line i.None = push_grows o m a below _
 row_grows code l o m a below line i.NoText = push_grows o m a below _
 row_grows code l o m a below line (i.Link z) = level_grows m a z o _ (λ j. push_grows o m a below _)
 row_grows code l o m a below line (i.This z) = level_grows m a z o _ (λ j. push_grows o m a below _)
-row_grows code l o m a below line (i.Addr z c class) = qualified_grows code class o _ (λ q. cell_grows m a z c o _ (λ j c. push_grows o m a below _))
-row_grows code l o m a below line (i.AddrR c class) = qualified_grows code class o _ (λ q. grows_object Machine Value plain line a.stack o _ (λ j stack. index_grows c o _ (λ c. going o _)))
+row_grows code l o m a below line (i.Addr z c class) = qualified_grows code class o _ (λ q. cell_grows m a z c o _ (λ j c. grows_when Machine (has_cell m j c) o _ (push_grows o m a below _)))
+row_grows code l o m a below line (i.AddrR c class) = qualified_grows code class o _ (λ q. grows_object Machine Value plain line a.stack o _ (λ j stack. index_grows c o _ (λ c. grows_when Machine (has_cell m j c) o _ (going o _))))
 row_grows code l o m a below line (i.AddrImg z) = index_grows z o _ (λ n. grows_having Machine TextVal (image_at o.store n) o _ (λ _ _. push_grows o m a below _))
 row_grows code l o m a below line (i.Elem n class) = qualified_grows code class o _ (λ q. index_grows n o _ (λ n. grows_finding Machine Value plain array_in n line a.stack o _ (λ array k stack. going o _)))
 row_grows code l o m a below line i.Fetch = grows_popping Machine Value plain a.stack o _ (λ v stack. grows_having Machine (Place ℕ ℕ) (place_in v) o _ (λ p _. grows_having Machine Value (value_at o m p) o _ (λ v _. going o _)))
@@ -542,8 +542,8 @@ row_grows code l o m a below line (i.Check z) = checking_grows code o m a below 
 row_grows code l o m a below line (i.Param n t p) = parameter_grows code o m a below n t p
 row_grows code l o m a below line (i.CallV n) = value_grows code l o m a below line n
 row_grows code l o m a below line (i.Thunk z) = thunk_goes code o m a below z
-row_grows code l o m a below line (i.NameVal z c class) = cell_grows m a z c o _ (λ j c. using_grows code l o m a below j c)
-row_grows code l o m a below line (i.NameAddr z c value) = cell_grows m a z c o _ (λ j c. using_grows code l o m a below j c)
+row_grows code l o m a below line (i.NameVal z c class) = qualified_grows code class o _ (λ q. cell_grows m a z c o _ (λ j c. using_grows code l o m a below j c))
+row_grows code l o m a below line (i.NameAddr z c value) = grows_having Machine Bool (truth_of value) o _ (λ value_too _. cell_grows m a z c o _ (λ j c. using_grows code l o m a below j c))
 row_grows code l o m a below line i.EndThunk = grows_having Machine ℕ a.thunk o _ (λ t _. grows_popping Machine Value plain a.stack o _ (λ v stack. thunk_ends code l o m v below))
 row_grows code l o m a below line (i.New class n) = new_grows code l o m a below line class n
 row_grows code l o m a below line (i.Pref k n) = prefixed_grows code l o m a below line k n

@@ -111,6 +111,10 @@ one_level d s e = code (main 0 [] 1 0 ∷ objects_with 1 [] [] ∷ []) (class 0 
 abbrev pub begun : (declarations : ℕ) → List CodeFormal → CodeOf
 begun d formals = code (main 0 [] 1 0 ∷ objects_with 1 (type.Integer ∷ []) formals ∷ []) (class 0 1 d 2 2 ∷ []) (at 1 (i.Link (pos 1)) ∷ at 2 (i.New (pos 1) (pos 0)) ∷ at 3 (i.NextDecl (pos 0)) ∷ [])
 
+-- a cell that the object has not
+abbrev pub foreign_cell : CodeOf
+foreign_cell = code (main 0 [] 1 0 ∷ objects_with 1 (type.Integer ∷ []) [] ∷ []) (class 0 1 3 4 5 ∷ []) (at 1 (i.Link (pos 1)) ∷ at 2 (i.New (pos 1) (pos 0)) ∷ at 3 (i.AddrR (pos 1) (pos 0)) ∷ at 4 (i.NextDecl (pos 0)) ∷ at 5 (i.Inner (pos 0)) ∷ at 6 (i.EndLevel (pos 0)) ∷ [])
+
 -- the end of a level in a sub-block, which has none
 abbrev pub no_levels : CodeOf
 no_levels = code (main 0 [] 1 0 ∷ inner 0 [] 1 1 ∷ []) [] (at 1 (i.Enter (pos 1)) ∷ at 2 (i.EndLevel (pos 0)) ∷ [])
@@ -135,6 +139,7 @@ pub record Worked : Type 0 where
   pub through_none : seen none_code (limits 1000 100) 100 ≡ shows (codes "") 1 5 (RunFault AccessThroughNone 12)
   pub is_none : seen not_none_code (limits 1000 100) 100 ≡ shows (codes "") 1 4 (RunFault AccessThroughNone 2)
   pub no_such_class : stops_at foreign_class 1 ≡ Some 0
+  pub no_such_attribute : stops_at foreign_cell 6 ≡ Some 2
   pub no_class_tested : stops_at class_zero 2 ≡ Some 1
   pub of_no_class : stops_at no_object 2 ≡ Some 1
   pub own_parameter : parameter_cell object_code 2 1 ≡ Some 2

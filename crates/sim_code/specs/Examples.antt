@@ -91,6 +91,10 @@ foreign_image = code (main 0 [] 2 0 ∷ []) (at 1 (i.AddrImg (pos 1)) ∷ at 2 (
 abbrev pub third_image : CodeOf
 third_image = code (main 0 [] 2 0 ∷ []) (at 1 (i.AddrImg (pos 2)) ∷ [])
 
+-- the address of a cell that the frame has, although no value is in it, and of one that it has not
+abbrev pub without_the_cell : CodeOf
+without_the_cell = code (main 1 (type.Nothing ∷ []) 2 0 ∷ []) (at 1 (i.Addr (pos 1) (pos 0) (pos 0)) ∷ at 2 (i.Addr (pos 1) (pos 1) (pos 0)) ∷ [])
+
 -- nothing to drop
 abbrev pub empty_stack : CodeOf
 empty_stack = code (main 0 [] 0 0 ∷ []) (at 1 i.Pop ∷ [])
@@ -142,6 +146,7 @@ pub record Worked : Type 0 where
   pub image_moved : seen image_code (limits 1000 100) 100 ≡ shows (codes "  c4 81\n") 1 4 Normal
   pub not_an_image : stops_at foreign_image 4 ≡ Some 3
   pub no_third_image : stops_at third_image 1 ≡ Some 0
+  pub no_such_cell : stops_at without_the_cell 2 ≡ Some 1
   pub without_value : stops_at empty_stack 1 ≡ Some 0
   pub without_room : stops_at no_room 2 ≡ Some 1
   pub without_tick : stops_at wild_jump 3 ≡ Some 2

@@ -1,6 +1,6 @@
 -- Small codes with procedures in hand and their parameters. The code of the procedures and of the thunks is all on line 1; after it the lines count
 -- from 2, one for each instruction.
-use Rattle.std.specs.Prelude.{◌≡◌, ℕ, true, false, pos, List, [], ◌∷◌, ◌++◌, Option, Some, None, Ok, Err, codes}
+use Rattle.std.specs.Prelude.{◌≡◌, ℕ, zero, suc, true, false, pos, List, [], ◌∷◌, ◌++◌, Option, Some, None, Ok, Err, codes}
 use Rattle.sim_base.specs.declared.run_error.RunError.TheVariants.{OutsideQualification, WrongNumberOfParameters, WrongParameter}
 use Rattle.sim_code.specs.declared.code.BlockKind.TheVariants as kind
 use Rattle.sim_code.specs.declared.code.CodeActual.{CodeActual}
@@ -133,6 +133,24 @@ within = with_procedures (called 1 0 4 9)
 abbrev pub lesser_within : CodeOf
 lesser_within = with_procedures (called 1 0 5 9)
 
+-- what a thunk gives has no room in the frame for which it is run, nor in the one that uses it; and a use with a class that is not there
+abbrev pub with_room : (room block : ℕ) → List BlockOf → List BlockOf
+with_room room k [] = []
+with_room room zero (b ∷ bs) = record b { room = room } ∷ bs
+with_room room (suc k) (b ∷ bs) = b ∷ with_room room k bs
+
+abbrev pub small : (room block : ℕ) → CodeOf → CodeOf
+small room k code = record code { blocks = with_room room k code.blocks }
+
+abbrev pub passed_without_room : CodeOf
+passed_without_room = small 1 0 with_integer
+
+abbrev pub named_without_room : CodeOf
+named_without_room = small 0 2 with_name
+
+abbrev pub named_without_class : CodeOf
+named_without_class = with_procedures (i.Thunk (pos 0) ∷ i.Store (pos 1) (pos 1) ∷ i.NameVal (pos 1) (pos 1) (pos 3) ∷ [])
+
 -- a parameter that the procedure has not, one without a procedure, and procedures that are none
 abbrev pub no_parameter : CodeOf
 no_parameter = with_procedures (i.Link (pos 1) ∷ i.ProcVal (pos 1) ∷ i.Int (pos 5) ∷ i.Param (pos 1) (pos 0) (pos 0) ∷ [])
@@ -166,6 +184,9 @@ pub record Worked : Type 0 where
   pub type_checked : seen text_for_integer (limits 1000 100) 200 ≡ shows (codes "") 1 7 (RunFault WrongParameter 4)
   pub greater_within : seen within (limits 1000 100) 200 ≡ shows (codes " 5\n") 2 7 Normal
   pub no_lesser_within : stops_at lesser_within 7 ≡ Some 48
+  pub no_room_for_value : stops_at passed_without_room 4 ≡ Some 55
+  pub no_room_for_named : stops_at named_without_room 6 ≡ Some 10
+  pub no_class_named : stops_at named_without_class 3 ≡ Some 54
   pub no_such_parameter : stops_at no_parameter 4 ≡ Some 55
   pub nothing_in_hand : stops_at no_procedure 2 ≡ Some 53
   pub no_procedure_value : stops_at program_as_procedure 2 ≡ Some 53

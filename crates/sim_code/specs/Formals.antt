@@ -21,7 +21,7 @@ use Rattle.sim_code.specs.Classes.{admitting, block_in_record, class_numbered, l
 use Rattle.sim_code.specs.Code.{BlockOf, CodeOf}
 use Rattle.sim_code.specs.Events.{choosing, having, making_text, stopping, text_val, when}
 use Rattle.sim_code.specs.Instances.{Memory, at_level}
-use Rattle.sim_code.specs.Machine.{Activation, ArrayValue, Frames, Machine, Of, Value, array_in, at, index, is_nothing, plain, procedure_in, pushing, same_kind, waiting}
+use Rattle.sim_code.specs.Machine.{Activation, ArrayValue, Frames, Machine, Of, Value, array_in, at, index, is_nothing, is_roomy, plain, procedure_in, pushing, same_kind, waiting}
 use Rattle.sim_code.specs.Outcome.{Run, RunFault, World}
 use Rattle.sim_code.specs.Thunks.{in_thunk}
 
@@ -187,9 +187,9 @@ abbrev pub runs_inside : (running : Option ℕ) → (thunk : ℕ) → Bool
 runs_inside None t = true
 runs_inside (Some s) t = nat_lt s t
 
--- a thunk is run for the frame on top, which waits behind its instruction
+-- a thunk is run for the frame on top, which has room for what it gives, and waits behind its instruction
 abbrev pub running_thunk : CodeOf → World → Frames → Activation → List Activation → (thunk : ℤ) → Run Machine
-running_thunk code o m a below z = index z o (λ t. when (runs_inside a.thunk t) o (in_thunk code o m t a.home (waiting a a.stack ∷ below)))
+running_thunk code o m a below z = index z o (λ t. when (runs_inside a.thunk t) o (when (is_roomy a) o (in_thunk code o m t a.home (waiting a a.stack ∷ below))))
 
 abbrev pub copied_for : CodeFormal → Copied
 copied_for f = by_mode f.mode f.shape f.code_type

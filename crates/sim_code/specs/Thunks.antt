@@ -1,5 +1,5 @@
--- Parameters by name. The actual parameter is code of its own, a thunk, which is run at each use of the formal parameter for the frame in which
--- the actual stands. It gives a value, or where a variable lies. The meaning and the machine use the same words.
+-- Parameters by name, and those of checked calls. The actual parameter is code of its own, a thunk, which is run for the frame in which the actual
+-- stands: at each use of a formal parameter by name, and once at a checked call. It gives a value, or where a variable lies. The meaning and the machine use the same words.
 use Rattle.std.specs.Prelude.{ℕ, zero, suc, Bool, true, false, List, [], ◌∷◌, slice_get, Option, Some, None}
 use Rattle.sim_base.specs.declared.limits.Limits.{Limits}
 use Rattle.sim_base.specs.declared.run_error.RunError.TheVariants.{ActualIsNoVariable}
@@ -8,7 +8,7 @@ use Rattle.sim_code.specs.declared.stage.Stage.TheVariants as stage
 use Rattle.sim_code.specs.Code.{CodeOf}
 use Rattle.sim_code.specs.Events.{having, stopping, ticking, when}
 use Rattle.sim_code.specs.Instances.{is_live}
-use Rattle.sim_code.specs.Machine.{Activation, Address, Frames, Machine, Value, cell, thunk_in, value_at, waiting}
+use Rattle.sim_code.specs.Machine.{Activation, Address, Frames, Machine, Value, cell, is_roomy, thunk_in, value_at, waiting}
 use Rattle.sim_code.specs.Outcome.{Going, Run, RunFault, World}
 
 -- ---- what meaning and machine share
@@ -36,11 +36,11 @@ in_thunk code o m t home below =
     when (is_live m home) o (having (slice_get code.thunks t) o (λ x. having (slice_get code.instrs x.entry) o (λ _.
     Going o (record { chain = record { thunk = Some t; home = home; pc = x.entry; stack = []; room = x.room; stage = stage.NoStage } ∷ below; memory = m }))))
 
--- A use of a formal parameter by name, which is in a cell, takes a tick and runs its thunk. The frame on top waits behind its instruction, which tells
--- what is done with what the thunk gives.
+-- A use of a formal parameter by name, which is in a cell, takes a tick and runs its thunk. The frame on top, which has room for what the thunk gives,
+-- waits behind its instruction, which tells what is done with that.
 abbrev pub using_name : CodeOf → Limits → World → Frames → Activation → List Activation → (frame cell : ℕ) → Run Machine
 using_name code l o m a below j c =
-    having (cell m j c) o (λ v. having (thunk_in v) o (λ t. ticking l o (λ p. in_thunk code p m t.0 t.1 (waiting a a.stack ∷ below))))
+    having (cell m j c) o (λ v. having (thunk_in v) o (λ t. when (is_roomy a) o (ticking l o (λ p. in_thunk code p m t.0 t.1 (waiting a a.stack ∷ below)))))
 
 -- the instruction for which a thunk is run: the one in front of the place where the activation goes on that waits for it
 abbrev pub instruction_before : CodeOf → (pc : ℕ) → Option Lined

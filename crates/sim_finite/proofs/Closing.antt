@@ -30,7 +30,7 @@ use Rattle.sim_code.specs.Transfers.{Calling, Detaching, Resuming, Transfer}
 use Rattle.sim_meaning.specs.Constants.{text_constant}
 use Rattle.sim_meaning.specs.Levels.{class_at, qualification, is_process_itself}
 use Rattle.sim_meaning.specs.Names.{procedure_named}
-use Rattle.sim_meaning.specs.Pending.{ActualOf, AttributeOf, CallOf, Cell, CopyOf, Declared, Either, ElementOf, FitsOf, Further, Given, ImageOf, Instances, Joined, KeptOf, MemberOf, NamedOf, NewOf, NoTerm, NotNoneOf, One, PlaceOf, ProcessOf, QuaOf, QualifiedElementOf, QualifiedPlaceOf, RemoteCallOf, SetOf, SimulationOf, StandardOf, Term, Terms, TransferOf, Two, Unbuilt, Use, ValueAt, CheckedOf, MatchOf, OriginOf, ProcedureOf, RemoteProcedureOf}
+use Rattle.sim_meaning.specs.Pending.{ActualOf, AttributeOf, CallOf, Cell, CopyOf, Declared, Either, ElementOf, FitsOf, Further, Given, ImageOf, Instances, Joined, KeptOf, MemberOf, NamedOf, NewOf, NoTerm, NotNoneOf, One, PlaceOf, ProcessOf, QuaOf, QualifiedElementOf, QualifiedPlaceOf, RemoteCallOf, SetOf, SimulationOf, StandardOf, Term, Terms, TransferOf, Two, NoMeaning, Use, ValueAt, CheckedOf, MatchOf, OriginOf, ProcedureOf, RemoteProcedureOf}
 use Rattle.sim_meaning.specs.Texts.{constant_of}
 use Rattle.sim_finite.proofs.Weights.{expression_weight, expressions_weight, term_weight, terms_weight}
 
@@ -509,7 +509,7 @@ mutual
   -- those of a class, whose arrays by reference are kept
   close_kept_small : (s : Source) (m : Instances) (i line : ℕ) (es : Expressions) (fs : List Formal) → terms_weight (with_arrays_kept fs (close_actuals s m i line es fs)) ≤ expressions_weight es
   close_kept_small s m i line NoMore [] = omega arith
-  close_kept_small s m i line NoMore (f ∷ fs) = omega (arith, kept_small f.mode f.kind Unbuilt, none_kept fs)
+  close_kept_small s m i line NoMore (f ∷ fs) = omega (arith, kept_small f.mode f.kind NoMeaning, none_kept fs)
   close_kept_small s m i line (Then e es) [] = omega arith
   close_kept_small s m i line (Then e es) (f ∷ fs) =
       let a = actual_term line f.mode f.kind (is_text_type f.ty) (close s m i e) (close_procedure s m i e) (ActualOf i (is_procedure_kind f.kind) e) in
@@ -553,7 +553,7 @@ qualified_small k (MatchOf a v line) = omega arith
 qualified_small k (CheckedOf a leaves home es line) = omega arith
 qualified_small k (ActualOf j p e) = omega arith
 qualified_small k (NamedOf j key wanted) = omega arith
-qualified_small k Unbuilt = omega arith
+qualified_small k NoMeaning = omega arith
 
 close_actual_small : (s : Source) (m : Instances) (i : ℕ) (e : Expression) → term_weight (close_actual s m i e) ≤ expression_weight e
 close_actual_small s m i e = by_place (is_placed s e)

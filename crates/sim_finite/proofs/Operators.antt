@@ -40,7 +40,7 @@ use Rattle.sim_code.specs.Thunks.{locating}
 use Rattle.sim_code.specs.Formals.{each as each_pair}
 use Rattle.sim_meaning.specs.Checks.{agrees, all_fit, all_passed, copied_for, fits, passed}
 use Rattle.sim_meaning.specs.Attributes.{parameter_qualification}
-use Rattle.sim_meaning.specs.Pending.{ActivateOp, Activation, Actual, ActualOf, Address, AgainOp, ArrayOp, AttributeOf, AttributeOp, BackOp, BlockOp, BranchOp, CallOf, CallOp, CallValueOp, Cell, CheckOp, ChooseOp, CloseOp, Configuration, ConnectOp, Connection, CopyOf, CopyOp, DeclareOp, Do, DropOp, Either, ElementOf, ElementOp, ElementsOp, EndEvaluation, EndLevel, EndPrefixed, EndProcessOp, EnterOp, Eval, Exec, Execs, FetchOp, FitsOf, FitsOp, ForPlace, ForValue, Further, GiveOp, Given, Held, IfOp, ImageOf, InnerOp, Instances, Item, JoinOp, Joined, KeepOp, KeptOf, Key, Level, LevelOp, Link, MemberOf, MemberOp, NamedOf, NamedOp, NewOf, NewOp, NoTerm, NotNoneOf, NotNoneOp, ObjectOp, Of, One, OneOp, Op, PastOp, PlaceOf, PrefixedOp, ProcedureValue, ProcessOf, ProcessOp, QuaOf, QuaOp, QualifiedElementOf, QualifiedElementOp, QualifiedPlaceOf, RaiseOp, ReferOp, RemoteCallOf, SelfOp, SetOf, SetOp, ShareOp, SimulationOf, SimulationOp, StandardOf, StandardOp, StepOp, StepTestOp, StoreOp, SwapOp, Target, Term, Terms, TestOp, ToAddress, ToCell, ToNamed, ToPlace, ToReference, ToReferenceAt, ToText, ToTextAt, ToTextOf, TransferOf, TransferOp, Two, TwoOp, Unbuilt, Use, Val, ValueAt, VirtualOp, WhenOp, WhileElementOp, actual_in, array_in, cell, cell_made, cell_set, instance_in, made_in, owner, place_in, plain, procedure_in, put_in, variable_in, OriginOf, OriginOp, Origin, ProcedureOf, ProcedureOp, RemoteProcedureOf, MatchOf, CheckedOf, ParameterOp, ForParameter}
+use Rattle.sim_meaning.specs.Pending.{ActivateOp, Activation, Actual, ActualOf, Address, AgainOp, ArrayOp, AttributeOf, AttributeOp, BackOp, BlockOp, BranchOp, CallOf, CallOp, CallValueOp, Cell, CheckOp, ChooseOp, CloseOp, Configuration, ConnectOp, Connection, CopyOf, CopyOp, DeclareOp, Do, DropOp, Either, ElementOf, ElementOp, ElementsOp, EndEvaluation, EndLevel, EndPrefixed, EndProcessOp, EnterOp, Eval, Exec, Execs, FetchOp, FitsOf, FitsOp, ForPlace, ForValue, Further, GiveOp, Given, Held, IfOp, ImageOf, InnerOp, Instances, Item, JoinOp, Joined, KeepOp, KeptOf, Key, Level, LevelOp, Link, MemberOf, MemberOp, NamedOf, NamedOp, NewOf, NewOp, NoTerm, NotNoneOf, NotNoneOp, ObjectOp, Of, One, OneOp, Op, PastOp, PlaceOf, PrefixedOp, ProcedureValue, ProcessOf, ProcessOp, QuaOf, QuaOp, QualifiedElementOf, QualifiedElementOp, QualifiedPlaceOf, RaiseOp, ReferOp, RemoteCallOf, SelfOp, SetOf, SetOp, ShareOp, SimulationOf, SimulationOp, StandardOf, StandardOp, StepOp, StepTestOp, StoreOp, SwapOp, Target, Term, Terms, TestOp, ToAddress, ToCell, ToNamed, ToPlace, ToReference, ToReferenceAt, ToText, ToTextAt, ToTextOf, TransferOf, TransferOp, Two, TwoOp, NoMeaning, Use, Val, ValueAt, VirtualOp, WhenOp, WhileElementOp, actual_in, array_in, cell, cell_made, cell_set, instance_in, made_in, owner, place_in, plain, procedure_in, put_in, variable_in, OriginOf, OriginOp, Origin, ProcedureOf, ProcedureOp, RemoteProcedureOf, MatchOf, CheckedOf, ParameterOp, ForParameter}
 use Rattle.sim_meaning.specs.Pending as pending
 use Rattle.sim_meaning.specs.Statements as statement
 use Rattle.sim_meaning.specs.Statements.{assigned, begin_of, compound, elements, entered_at, exec, execs, first_branch, inner_begun, levels_of_instance, looping, prefix_begun, raised, reading, activated, simulation_home}
@@ -283,7 +283,7 @@ module _ (s : Source) (l : Limits) (o : World) (m : Instances) (i : ℕ) (w : Li
       when_goes (From (3 + (term_weight a + expressions_weight es))) (home == i) o _ (lighter refl (omega (arith, parameters_weight 0 line es (Do (CallValueOp (count_of es) leaves line) ∷ w))))
   eval_falls (ActualOf j p e) = lighter refl (omega arith)
   eval_falls (NamedOf j key wanted) = lighter refl (omega arith)
-  eval_falls Unbuilt = none (From 1) o
+  eval_falls NoMeaning = none (From 1) o
 
   store_falls : (t : Target) → Falls (target_weight t) (stored o m i w vals rest t)
   store_falls (ToCell j key) = popping_goes (From 1) vals o _ (λ v vals. having_knows (From 1) (cell_set m j key v) o _ (λ n is. lighter refl (omega (arith, cell_kept m j key v n is))))

@@ -27,7 +27,7 @@ use Rattle.sim_code.specs.Transfers.{Calling, Detaching, Resuming, Transfer}
 use Rattle.sim_meaning.specs.Names.{procedure_named}
 use Rattle.sim_meaning.specs.Levels.{is_process_itself, qualification}
 use Rattle.sim_meaning.specs.Texts.{ConnectionText, Text, text}
-use Rattle.sim_meaning.specs.Pending.{AttributeOf, Cell, CheckedOf, Connection, Declared, ElementOf, FitsOf, Further, Given, Instances, KeptOf, Key, MatchOf, MemberOf, NewOf, NoTerm, NotNoneOf, OriginOf, PlaceOf, ProcessOf, QuaOf, QualifiedElementOf, QualifiedPlaceOf, RemoteCallOf, RemoteProcedureOf, SetOf, SimulationOf, Term, Terms, TransferOf, Unbuilt, ValueAt}
+use Rattle.sim_meaning.specs.Pending.{AttributeOf, Cell, CheckedOf, Connection, Declared, ElementOf, FitsOf, Further, Given, Instances, KeptOf, Key, MatchOf, MemberOf, NewOf, NoTerm, NotNoneOf, OriginOf, PlaceOf, ProcessOf, QuaOf, QualifiedElementOf, QualifiedPlaceOf, RemoteCallOf, RemoteProcedureOf, SetOf, SimulationOf, Term, Terms, TransferOf, NoMeaning, ValueAt}
 
 -- whether an expression that stands as a statement leaves a value
 abbrev pub has_type : Option SimType → Bool
@@ -62,7 +62,7 @@ abbrev pub cell_of_connection : Source → (connection : ℕ) → Key
 cell_of_connection s k = Connection (first_in (slice_get s.tables.blocks k))
 
 abbrev pub connected_object : Source → Instances → ℕ → (connection : ℕ) → Term
-connected_object s m i k = if_any (at_level m (level_of s k) i) (λ j. Cell j (cell_of_connection s k)) Unbuilt
+connected_object s m i k = if_any (at_level m (level_of s k) i) (λ j. Cell j (cell_of_connection s k)) NoMeaning
 
 -- ---- attributes
 
@@ -72,7 +72,7 @@ attribute_place s line d object = AttributeOf (block_of s d) (Declared d.0) None
 
 abbrev pub variable_attribute : (place : Term) → Expressions → Term
 variable_attribute place NoMore = ValueAt place
-variable_attribute place (Then e es) = Unbuilt
+variable_attribute place (Then e es) = NoMeaning
 
 -- an array by itself, or one of its elements
 abbrev pub array_attribute : (line : ℕ) → (place : Term) → Expressions → Terms → Term
@@ -82,12 +82,12 @@ array_attribute line place (Then e es) terms = ValueAt (ElementOf line (ValueAt 
 abbrev pub parameter_attribute : (line : ℕ) → FormalKind → (place : Term) → Expressions → Terms → Term
 parameter_attribute line shape.Simple place es terms = variable_attribute place es
 parameter_attribute line shape.Array place es terms = array_attribute line place es terms
-parameter_attribute line shape.Procedure place es terms = Unbuilt
+parameter_attribute line shape.Procedure place es terms = NoMeaning
 
 -- A procedure of SIMSET, or one of a process, is done on the object: E6 of none, before its actual parameter.
 abbrev pub process_term : Bool → Standard → (line : ℕ) → (object : Term) → Term
 process_term true name line object = ProcessOf name line (NotNoneOf line object)
-process_term false name line object = Unbuilt
+process_term false name line object = NoMeaning
 
 abbrev pub attribute_of_object : Bool → Standard → (line : ℕ) → (object : Term) → (actuals : Terms) → Term
 attribute_of_object true name line object actuals = SetOf name (Further (NotNoneOf line object) actuals)
@@ -101,7 +101,7 @@ entry_attribute s i line d (Some (entry.Formal f)) object es terms actuals = par
 entry_attribute s i line d (Some (entry.Procedure result block)) object es terms actuals = RemoteCallOf object block actuals line
 entry_attribute s i line d (Some (entry.Virtual result own)) object es terms actuals = CheckedOf (MatchOf object d.0 line) (has_type result) i es line
 entry_attribute s i line d (Some (entry.Attribute name parameter result)) object es terms actuals = attribute_of_object (is_set_name name) name line object actuals
-entry_attribute s i line d _ object es terms actuals = Unbuilt
+entry_attribute s i line d _ object es terms actuals = NoMeaning
 
 -- the attribute of an object, as it is used in an instance, with its operands, as they are closed for themselves and for formal parameters
 abbrev pub attribute : Source → (home line : ℕ) → (object : Term) → Expressions → Terms → (actuals : DeclNo → Terms) → DeclNo → Term
@@ -111,7 +111,7 @@ attribute s i line object es terms actuals d = entry_attribute s i line d (entry
 abbrev pub entry_procedure : (line : ℕ) → DeclNo → Option Entry → (object : Term) → Term
 entry_procedure line d (Some (entry.Procedure result block)) object = RemoteProcedureOf object block line
 entry_procedure line d (Some (entry.Virtual result own)) object = MatchOf object d.0 line
-entry_procedure line d _ object = Unbuilt
+entry_procedure line d _ object = NoMeaning
 
 abbrev pub attribute_procedure : Source → (line : ℕ) → (object : Term) → DeclNo → Term
 attribute_procedure s line object d = entry_procedure line d (entry_of s.tables d) object
@@ -124,22 +124,22 @@ declared_attribute _ = None
 
 abbrev pub variable_at : (place : Term) → Expressions → Term
 variable_at place NoMore = place
-variable_at place (Then e es) = Unbuilt
+variable_at place (Then e es) = NoMeaning
 
 abbrev pub element_at : (line : ℕ) → (place : Term) → Expressions → Terms → Term
-element_at line place NoMore terms = Unbuilt
+element_at line place NoMore terms = NoMeaning
 element_at line place (Then e es) terms = ElementOf line (ValueAt place) terms
 
 abbrev pub parameter_at : (line : ℕ) → FormalKind → (place : Term) → Expressions → Terms → Term
 parameter_at line shape.Simple place es terms = variable_at place es
 parameter_at line shape.Array place es terms = element_at line place es terms
-parameter_at line shape.Procedure place es terms = Unbuilt
+parameter_at line shape.Procedure place es terms = NoMeaning
 
 abbrev pub entry_at : Source → (line : ℕ) → DeclNo → Option Entry → (object : Term) → Expressions → Terms → Term
 entry_at s line d (Some (entry.Variable type)) object es terms = variable_at (attribute_place s line d object) es
 entry_at s line d (Some (entry.Array element dimensions)) object es terms = element_at line (attribute_place s line d object) es terms
 entry_at s line d (Some (entry.Formal f)) object es terms = parameter_at line f.kind (attribute_place s line d object) es terms
-entry_at s line d _ object es terms = Unbuilt
+entry_at s line d _ object es terms = NoMeaning
 
 -- where a variable or an element lies that is an attribute of an object
 abbrev pub place_of_attribute : Source → (line : ℕ) → (object : Term) → Expressions → Terms → DeclNo → Term
@@ -154,23 +154,23 @@ origin_if true k token line object = OriginOf k token line object
 
 abbrev pub generation : Source → (token : ℕ) → Option ℕ → (class : Option ℕ) → (actuals : Terms) → (line : ℕ) → Term
 generation s token (Some j) (Some k) terms line = origin_if (is_process_itself s k) k token line (NewOf j k terms line)
-generation s token _ _ terms line = Unbuilt
+generation s token _ _ terms line = NoMeaning
 
 -- `is` and `in`; `qua`
 
 abbrev pub membership_term : Membership → (class : Option ℕ) → Term → Term
-membership_term member class a = if_any class (λ k. MemberOf member k a) Unbuilt
+membership_term member class a = if_any class (λ k. MemberOf member k a) NoMeaning
 
 abbrev pub qua_term : (class : Option ℕ) → (line : ℕ) → Term → Term
-qua_term class line a = if_any class (λ k. QuaOf k line a) Unbuilt
+qua_term class line a = if_any class (λ k. QuaOf k line a) NoMeaning
 
 -- `this` is the connected object, or the object or prefixed block that is found outward
 abbrev pub this_instance : Option ℕ → Term
-this_instance None = Unbuilt
+this_instance None = NoMeaning
 this_instance (Some j) = Given (Object j)
 
 abbrev pub this_term : Source → Instances → ℕ → (found : Option ℕ) → Term
-this_term s m i None = Unbuilt
+this_term s m i None = NoMeaning
 this_term s m i (Some k) = if_any (connection_in s (Some k)) (λ c. connected_object s m i c) (this_instance (at_level m (level_of s k) i))
 
 -- ---- procedures of SIMSET and SIMULATION
@@ -199,7 +199,7 @@ attribute_formals (Some type) = record { mode = mode.ByReference; kind = shape.S
 -- one of a simulation block is done on that
 abbrev pub simulation_term : Source → Bool → Standard → (block : Option ℕ) → (actuals : Terms) → (line : ℕ) → (other : Term) → Term
 simulation_term s true name (Some j) actuals line other = SimulationOf j name actuals line
-simulation_term s true name None actuals line other = Unbuilt
+simulation_term s true name None actuals line other = NoMeaning
 simulation_term s false name j actuals line other = other
 
 abbrev pub block_found : Source → Instances → ℕ → (found : Option ℕ) → Option ℕ
@@ -239,7 +239,7 @@ detach_term line object = TransferOf Detaching line (NotNoneOf line object)
 abbrev pub transfer_term : Transfer → (line : ℕ) → (around : Term) → Terms → Term
 transfer_term Detaching line around terms = detach_term line around
 transfer_term t line around (Further a NoTerm) = TransferOf t line a
-transfer_term t line around _ = Unbuilt
+transfer_term t line around _ = NoMeaning
 
 -- ---- references
 
@@ -248,10 +248,10 @@ abbrev pub qualified : (class : ℕ) → (place : Term) → Term
 qualified k (PlaceOf j key) = QualifiedPlaceOf j key k
 qualified k (ElementOf line a ts) = QualifiedElementOf line k a ts
 qualified k (AttributeOf text key class line a) = AttributeOf text key (Some k) line a
-qualified k _ = Unbuilt
+qualified k _ = NoMeaning
 
 abbrev pub qualified_place : (class : Option ℕ) → (place : Term) → Term
-qualified_place None place = Unbuilt
+qualified_place None place = NoMeaning
 qualified_place (Some k) place = qualified k place
 
 -- the qualification of a parameter that is a reference

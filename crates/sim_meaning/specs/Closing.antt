@@ -47,7 +47,7 @@ use Rattle.sim_meaning.specs.Levels.{class_at, qualification}
 use Rattle.sim_meaning.specs.Names.{is_image_in, procedure_named, stream_named}
 use Rattle.sim_meaning.specs.Texts.{constant_of}
 use Rattle.sim_meaning.specs.Virtuals.{text_of_procedure}
-use Rattle.sim_meaning.specs.Pending.{ActualOf, Cell, CallOf, CheckedOf, CopyOf, Declared, Either, ElementOf, Further, Given, ForPlace, ForValue, ImageOf, Instances, Joined, Key, MatchOf, NamedOf, NoTerm, One, PlaceOf, ProcedureOf, Result, StandardOf, Term, Terms, Two, Unbuilt, Use, ValueAt}
+use Rattle.sim_meaning.specs.Pending.{ActualOf, Cell, CallOf, CheckedOf, CopyOf, Declared, Either, ElementOf, Further, Given, ForPlace, ForValue, ImageOf, Instances, Joined, Key, MatchOf, NamedOf, NoTerm, One, PlaceOf, ProcedureOf, Result, StandardOf, Term, Terms, Two, NoMeaning, Use, ValueAt}
 
 -- ---- operators
 
@@ -134,7 +134,7 @@ signed_term sign.Plus line a = a
 signed_term sign.Minus line a = One monadic.Negate line a
 
 abbrev pub given_term : Option Plain → Term
-given_term None = Unbuilt
+given_term None = NoMeaning
 given_term (Some p) = Given p
 
 abbrev pub literal_term : Source → (token : ℕ) → Literal → Term
@@ -146,7 +146,7 @@ literal_term s token syntax.NoObject = Given Nothing
 literal_term s token syntax.NoText = Given (Text notext)
 
 abbrev pub in_instance : Option ℕ → (ℕ → Term) → Term
-in_instance None f = Unbuilt
+in_instance None f = NoMeaning
 in_instance (Some j) f = f j
 
 -- the instance, seen from the instance i, in which a declaration lies
@@ -155,12 +155,12 @@ home_of s m i d = at_level m (level_of s (block_of s d)) i
 
 abbrev pub variable_term : Source → Instances → ℕ → DeclNo → Expressions → Term
 variable_term s m i d NoMore = in_instance (home_of s m i d) (λ j. Cell j (Declared d.0))
-variable_term s m i d (Then e es) = Unbuilt
+variable_term s m i d (Then e es) = NoMeaning
 
 -- a constant is its value
 abbrev pub constant_term : Option Plain → Expressions → Term
 constant_term (Some p) NoMore = Given p
-constant_term _ es = Unbuilt
+constant_term _ es = NoMeaning
 
 -- an array by itself, or one of its elements
 abbrev pub array_term : Source → Instances → ℕ → (line : ℕ) → DeclNo → Expressions → Terms → Term
@@ -170,7 +170,7 @@ array_term s m i line d (Then e es) terms = in_instance (home_of s m i d) (λ j.
 -- a formal parameter by name is used in the instance of its procedure; a reference is held against its qualification
 abbrev pub name_term : Source → Instances → ℕ → DeclNo → Expressions → Use → Term
 name_term s m i d NoMore wanted = in_instance (home_of s m i d) (λ j. NamedOf j (Declared d.0) wanted)
-name_term s m i d (Then e es) wanted = Unbuilt
+name_term s m i d (Then e es) wanted = NoMeaning
 
 abbrev pub type_of_formal : Option Entry → Option SimType
 type_of_formal (Some (entry.Formal f)) = f.ty
@@ -221,7 +221,7 @@ declared_term s m i line d (Some (entry.Formal f)) es terms actuals = formal_ter
 declared_term s m i line d (Some (entry.Procedure result block)) es terms actuals = in_instance (home_of s m i d) (λ j. CallOf j block (actuals (formals_at s d)) line)
 -- the object around is the one whose procedure is done
 declared_term s m i line d (Some (entry.Virtual result own)) es terms actuals = in_instance (home_of s m i d) (λ j. CheckedOf (MatchOf (Given (Object j)) d.0 line) (has_type result) i es line)
-declared_term s m i line d _ es terms actuals = Unbuilt
+declared_term s m i line d _ es terms actuals = NoMeaning
 
 -- Names of both images are done on one of them: `image` is its text, and the others are names of texts.
 abbrev pub standard_name_term : (is_image : Bool) → (on_image : Option Standard) → Standard → (image line : ℕ) → Terms → Term
@@ -230,11 +230,11 @@ standard_name_term false (Some of_text) name image line terms = StandardOf of_te
 standard_name_term false None name image line terms = StandardOf name terms line
 
 abbrev pub standard_term : Option Standard → (image line : ℕ) → Terms → Term
-standard_term None image line terms = Unbuilt
+standard_term None image line terms = NoMeaning
 standard_term (Some name) image line terms = standard_name_term (is_image name) (on_image name) name image line terms
 
 abbrev pub named_term : Source → Instances → ℕ → (line : ℕ) → Option Denotation → Expressions → Terms → (List Formal → Terms) → Term
-named_term s m i line None es terms actuals = Unbuilt
+named_term s m i line None es terms actuals = NoMeaning
 named_term s m i line (Some (denotation.Declared d)) es terms actuals = declared_term s m i line d (entry_of s.tables d) es terms actuals
 named_term s m i line (Some (denotation.Standard name)) es terms actuals = standard_term (procedure_named name) sysout line terms
 
@@ -295,14 +295,14 @@ is_attribute s _ = false
 -- where a variable lies
 abbrev pub variable_place : Source → Instances → ℕ → DeclNo → Expressions → Term
 variable_place s m i d NoMore = in_instance (home_of s m i d) (λ j. PlaceOf j (Declared d.0))
-variable_place s m i d (Then e es) = Unbuilt
+variable_place s m i d (Then e es) = NoMeaning
 
 abbrev pub array_place : Source → Instances → ℕ → (line : ℕ) → DeclNo → Expressions → Terms → Term
-array_place s m i line d NoMore terms = Unbuilt
+array_place s m i line d NoMore terms = NoMeaning
 array_place s m i line d (Then e es) terms = in_instance (home_of s m i d) (λ j. ElementOf line (Cell j (Declared d.0)) terms)
 
 abbrev pub named_array_place : Source → Instances → ℕ → (line : ℕ) → DeclNo → Expressions → Terms → Term
-named_array_place s m i line d NoMore terms = Unbuilt
+named_array_place s m i line d NoMore terms = NoMeaning
 named_array_place s m i line d (Then e es) terms = in_instance (home_of s m i d) (λ j. ElementOf line (NamedOf j (Declared d.0) (ForValue None line)) terms)
 
 abbrev pub formal_place : Source → Instances → ℕ → (line : ℕ) → DeclNo → Mode → FormalKind → Expressions → Terms → Term
@@ -310,13 +310,13 @@ formal_place s m i line d mode.ByName shape.Simple es terms = name_term s m i d 
 formal_place s m i line d mode.ByName shape.Array es terms = named_array_place s m i line d es terms
 formal_place s m i line d mode shape.Simple es terms = variable_place s m i d es
 formal_place s m i line d mode shape.Array es terms = array_place s m i line d es terms
-formal_place s m i line d mode shape.Procedure es terms = Unbuilt
+formal_place s m i line d mode shape.Procedure es terms = NoMeaning
 
 abbrev pub declared_place : Source → Instances → ℕ → (line : ℕ) → DeclNo → Option Entry → Expressions → Terms → Term
 declared_place s m i line d (Some (entry.Variable type)) es terms = variable_place s m i d es
 declared_place s m i line d (Some (entry.Array element dimensions)) es terms = array_place s m i line d es terms
 declared_place s m i line d (Some (entry.Formal f)) es terms = formal_place s m i line d f.mode f.kind es terms
-declared_place s m i line d _ es terms = Unbuilt
+declared_place s m i line d _ es terms = NoMeaning
 
 -- the image of a stream, or what else is in front of the dot
 abbrev pub image_place : (stream : Option ℕ) → (other : Term) → Term
@@ -333,7 +333,7 @@ object_term true variable text = variable
 object_term false variable text = text
 
 abbrev pub attribute_term : Option Standard → (is_variable : Bool) → (line : ℕ) → (variable text : Term) → Terms → Term
-attribute_term None is_variable line variable text terms = Unbuilt
+attribute_term None is_variable line variable text terms = NoMeaning
 attribute_term (Some name) is_variable line variable text terms = StandardOf name (Further (object_term (moves_position name && is_variable) variable text) terms) line
 
 abbrev pub behind_dot : (stream : Option ℕ) → Option Standard → (is_variable : Bool) → (line : ℕ) → (variable text : Term) → Terms → Term
@@ -343,7 +343,7 @@ behind_dot None name is_variable line variable text terms = attribute_term name 
 -- an attribute of a text or of a stream
 abbrev pub dot_term : Option Denotation → (stream : Option ℕ) → (is_variable : Bool) → (line : ℕ) → (variable text : Term) → Terms → Term
 dot_term (Some (denotation.Standard name)) stream is_variable line variable text terms = behind_dot stream (procedure_named name) is_variable line variable text terms
-dot_term _ stream is_variable line variable text terms = Unbuilt
+dot_term _ stream is_variable line variable text terms = NoMeaning
 
 -- An actual parameter: an array and a text by value are copied; one by name is passed as it is; a procedure is not called.
 abbrev pub actual_term : (line : ℕ) → Mode → FormalKind → (text : Bool) → (value procedure actual : Term) → Term
@@ -381,17 +381,17 @@ home_of_class s m i _ = None
 -- A procedure as a value. One that is seen without a dot is declared around, or is a formal parameter.
 abbrev pub formal_procedure : Source → Instances → ℕ → (line : ℕ) → DeclNo → Mode → FormalKind → Term
 formal_procedure s m i line d mode shape.Procedure = in_instance (home_of s m i d) (λ j. formal_value line d mode j)
-formal_procedure s m i line d mode kind = Unbuilt
+formal_procedure s m i line d mode kind = NoMeaning
 
 abbrev pub declared_procedure : Source → Instances → ℕ → (line : ℕ) → DeclNo → Option Entry → Term
 declared_procedure s m i line d (Some (entry.Procedure result block)) = in_instance (home_of s m i d) (λ j. ProcedureOf j block)
 declared_procedure s m i line d (Some (entry.Virtual result own)) = in_instance (home_of s m i d) (λ j. MatchOf (Given (Object j)) d.0 line)
 declared_procedure s m i line d (Some (entry.Formal f)) = formal_procedure s m i line d f.mode f.kind
-declared_procedure s m i line d _ = Unbuilt
+declared_procedure s m i line d _ = NoMeaning
 
 abbrev pub procedure_denoted : Source → Instances → ℕ → (line : ℕ) → Option Denotation → Term
 procedure_denoted s m i line (Some (denotation.Declared d)) = declared_procedure s m i line d (entry_of s.tables d)
-procedure_denoted s m i line _ = Unbuilt
+procedure_denoted s m i line _ = NoMeaning
 
 abbrev mutual
   -- an expression as the instance i sees it
@@ -413,7 +413,7 @@ abbrev mutual
       (if_any (connection_at s name.token.0)
       (λ k. if_any (declared_attribute (denoted s name.token.0))
       (attribute s i (line_at s name.token.0) (connected_object s m i k) es (close_all s m i es) (λ d. close_actuals s m i (line_at s name.token.0) es (formals_at s d)))
-      Unbuilt)
+      NoMeaning)
       (if_any (own_attribute s name.token.0)
       (λ d. own_term s (entry_of s.tables d) (block_found s m i (found_at s name.token.0)) (close_actuals s m i (line_at s name.token.0) es (formals_at s d)) (line_at s name.token.0)
       (attribute s i (line_at s name.token.0) (this_term s m i (found_at s name.token.0)) es (close_all s m i es) (λ d. close_actuals s m i (line_at s name.token.0) es (formals_at s d)) d))
@@ -428,21 +428,21 @@ abbrev mutual
   pub close_place : Source → Instances → ℕ → Expression → Term
   close_place s m i (syntax.Named name es) =
       if_any (connection_at s name.token.0)
-      (λ k. if_any (declared_attribute (denoted s name.token.0)) (place_of_attribute s (line_at s name.token.0) (connected_object s m i k) es (close_all s m i es)) Unbuilt)
+      (λ k. if_any (declared_attribute (denoted s name.token.0)) (place_of_attribute s (line_at s name.token.0) (connected_object s m i k) es (close_all s m i es)) NoMeaning)
       (named_place s m i (line_at s name.token.0) (denoted s name.token.0) es (close_all s m i es))
   close_place s m i (syntax.Dot token a name es) =
-      image_place (stream_of s a) (if_any (declared_attribute (denoted s name.token.0)) (place_of_attribute s (line_at s name.token.0) (close s m i a) es (close_all s m i es)) Unbuilt)
-  close_place s m i _ = Unbuilt
+      image_place (stream_of s a) (if_any (declared_attribute (denoted s name.token.0)) (place_of_attribute s (line_at s name.token.0) (close s m i a) es (close_all s m i es)) NoMeaning)
+  close_place s m i _ = NoMeaning
 
   -- a procedure that stands alone
   pub close_procedure : Source → Instances → ℕ → Expression → Term
   close_procedure s m i (syntax.Named name NoMore) =
       if_any (connection_at s name.token.0)
-      (λ k. if_any (declared_attribute (denoted s name.token.0)) (attribute_procedure s (line_at s name.token.0) (connected_object s m i k)) Unbuilt)
+      (λ k. if_any (declared_attribute (denoted s name.token.0)) (attribute_procedure s (line_at s name.token.0) (connected_object s m i k)) NoMeaning)
       (procedure_denoted s m i (line_at s name.token.0) (denoted s name.token.0))
   close_procedure s m i (syntax.Dot token a name NoMore) =
-      if_any (declared_attribute (denoted s name.token.0)) (attribute_procedure s (line_at s name.token.0) (close s m i a)) Unbuilt
-  close_procedure s m i _ = Unbuilt
+      if_any (declared_attribute (denoted s name.token.0)) (attribute_procedure s (line_at s name.token.0) (close s m i a)) NoMeaning
+  close_procedure s m i _ = NoMeaning
 
   pub close_all : Source → Instances → ℕ → Expressions → Terms
   close_all s m i NoMore = NoTerm
@@ -451,8 +451,8 @@ abbrev mutual
   -- actual parameters, one for each formal
   pub close_actuals : Source → Instances → ℕ → (line : ℕ) → Expressions → List Formal → Terms
   close_actuals s m i line NoMore [] = NoTerm
-  close_actuals s m i line NoMore (f ∷ fs) = Further Unbuilt NoTerm
-  close_actuals s m i line (Then e es) [] = Further Unbuilt NoTerm
+  close_actuals s m i line NoMore (f ∷ fs) = Further NoMeaning NoTerm
+  close_actuals s m i line (Then e es) [] = Further NoMeaning NoTerm
   close_actuals s m i line (Then e es) (f ∷ fs) =
       Further (fitting (class_passed s f) line (actual_term line f.mode f.kind (is_text_type f.ty) (close s m i e) (close_procedure s m i e) (ActualOf i (is_procedure_kind f.kind) e))) (close_actuals s m i line es fs)
 
@@ -511,46 +511,46 @@ pub data Left : Type 0 where
   LeftText : (line : ℕ) → Term → Left
   LeftReference : (line : ℕ) → Term → Left
   LeftNamed : (class line : ℕ) → Term → Left
-  LeftUnbuilt : Left
+  NoLeftSide : Left
 
 abbrev pub left_in : Option ℕ → (ℕ → Left) → Left
-left_in None f = LeftUnbuilt
+left_in None f = NoLeftSide
 left_in (Some j) f = f j
 
 abbrev pub variable_left : Source → Instances → ℕ → DeclNo → Expressions → Left
 variable_left s m i d NoMore = left_in (home_of s m i d) (λ j. LeftCell j (Declared d.0))
-variable_left s m i d (Then e es) = LeftUnbuilt
+variable_left s m i d (Then e es) = NoLeftSide
 
 abbrev pub array_left : Source → Instances → ℕ → (line : ℕ) → DeclNo → Expressions → Left
-array_left s m i line d NoMore = LeftUnbuilt
+array_left s m i line d NoMore = NoLeftSide
 array_left s m i line d (Then e es) = left_in (home_of s m i d) (λ j. LeftAddress (ElementOf line (Cell j (Declared d.0)) (close_all s m i (Then e es))))
 
 abbrev pub named_array_left : Source → Instances → ℕ → (line : ℕ) → DeclNo → Expressions → Left
-named_array_left s m i line d NoMore = LeftUnbuilt
+named_array_left s m i line d NoMore = NoLeftSide
 named_array_left s m i line d (Then e es) = LeftAddress (named_array_place s m i line d (Then e es) (close_all s m i (Then e es)))
 
 -- the result of a procedure lies in its own instance
 abbrev pub result_left : Source → Instances → ℕ → (block : ℕ) → Expressions → Left
 result_left s m i block NoMore = left_in (at_level m (level_of s block) i) (λ j. LeftCell j Result)
-result_left s m i block (Then e es) = LeftUnbuilt
+result_left s m i block (Then e es) = NoLeftSide
 
 abbrev pub formal_left : Source → Instances → ℕ → (line : ℕ) → DeclNo → Mode → FormalKind → Expressions → Left
-formal_left s m i line d mode.ByName shape.Simple es = LeftUnbuilt
+formal_left s m i line d mode.ByName shape.Simple es = NoLeftSide
 formal_left s m i line d mode.ByName shape.Array es = named_array_left s m i line d es
 formal_left s m i line d mode shape.Simple es = variable_left s m i d es
 formal_left s m i line d mode shape.Array es = array_left s m i line d es
-formal_left s m i line d mode shape.Procedure es = LeftUnbuilt
+formal_left s m i line d mode shape.Procedure es = NoLeftSide
 
 abbrev pub declared_left : Source → Instances → ℕ → (line : ℕ) → DeclNo → Option Entry → Expressions → Left
 declared_left s m i line d (Some (entry.Variable type)) es = variable_left s m i d es
 declared_left s m i line d (Some (entry.Array element dimensions)) es = array_left s m i line d es
 declared_left s m i line d (Some (entry.Formal f)) es = formal_left s m i line d f.mode f.kind es
 declared_left s m i line d (Some (entry.Procedure result block)) es = result_left s m i block es
-declared_left s m i line d _ es = LeftUnbuilt
+declared_left s m i line d _ es = NoLeftSide
 
 abbrev pub named_left : Source → Instances → ℕ → (line : ℕ) → Option Denotation → Expressions → Left
 named_left s m i line (Some (denotation.Declared d)) es = declared_left s m i line d (entry_of s.tables d) es
-named_left s m i line _ es = LeftUnbuilt
+named_left s m i line _ es = NoLeftSide
 
 -- The match of a virtual whose result an expression is as a left side: of the identifier alone of the virtual, inside the text of the match that the
 -- search comes to.
@@ -585,8 +585,8 @@ abbrev pub left_variable : Source → Instances → ℕ → Expression → Left
 left_variable s m i (syntax.Named name es) =
     left_found (connection_at s name.token.0) (close_place s m i (syntax.Named name es))
     (match_left s m i (text_of_procedure s (own_match s (syntax.Named name es))) (named_left s m i (line_at s name.token.0) (denoted s name.token.0) es))
-left_variable s m i (syntax.Dot token a name es) = left_found (declared_attribute (denoted s name.token.0)) (close_place s m i (syntax.Dot token a name es)) LeftUnbuilt
-left_variable s m i e = LeftUnbuilt
+left_variable s m i (syntax.Dot token a name es) = left_found (declared_attribute (denoted s name.token.0)) (close_place s m i (syntax.Dot token a name es)) NoLeftSide
+left_variable s m i e = NoLeftSide
 
 -- The block of the procedure whose result an expression is as a left side: of the identifier alone of a procedure, inside its text.
 abbrev pub block_if : Bool → ℕ → Option ℕ
@@ -651,7 +651,7 @@ left_plain s m i line (Some d) e = LeftAddress (name_term s m i d NoMore (ForPla
 
 -- The actual of a formal parameter by name has a qualification of its own, so that what is assigned is held against both.
 abbrev pub left_named : (class : Option ℕ) → (line : ℕ) → Term → Left
-left_named None line place = LeftUnbuilt
+left_named None line place = NoLeftSide
 left_named (Some k) line place = LeftNamed k line place
 
 abbrev pub reference_left : Source → Instances → ℕ → (line : ℕ) → Option DeclNo → Expression → Left

@@ -244,7 +244,8 @@ abbrev pub last_line : Source → (class : ℕ) → ℕ
 last_line s k = line_at s (end_in (slice_get s.tables.blocks k) - 1)
 
 -- An object of `process` itself keeps the token of that class behind the `new` that made it, before control can come to its end. Its line is that of
--- the `new`.
+-- the `new`. The code asks for each such token in turn; where the cell has none of them, the meaning and the code both take the line of the first
+-- token.
 abbrev pub line_before : (is_origin : Bool) → Source → (token : ℕ) → ℕ
 line_before true s token = line_at s (token - 1)
 line_before false s token = line_at s 0

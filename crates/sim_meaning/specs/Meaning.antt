@@ -100,8 +100,8 @@ is_by_name mode.ByReference = false
 abbrev pub evaluating : World → Instances → (home : ℕ) → (as_procedure : Bool) → Expression → Use → List Activation → Run Configuration
 evaluating o m home p e wanted rest = go o m home (Do (CloseOp p e) ∷ EndEvaluation wanted ∷ []) [] rest
 
--- An actual parameter fits the formal one, as it does behind the check. One that is passed by name is a value as it stands; any other is evaluated,
--- and what that gives is passed.
+-- That an actual parameter fits the formal one was asked by the check; it is asked here too, so that the rule says by itself what is passed. One
+-- that is passed by name is a value as it stands; any other is evaluated, and what that gives is passed.
 abbrev pub parameter_begun : Source → World → Instances → ℕ → List Item → List Val → List Activation → (number : ℕ) → Expression → (line : ℕ) → Run Configuration
 parameter_begun s o m i w vals rest n e line =
     having (formal_in_hand s n vals) o (λ f. when (fits s f (passed s e)) o (choosing (is_by_name f.mode)

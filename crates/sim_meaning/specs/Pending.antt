@@ -84,8 +84,8 @@ mutual
     -- value, held against its qualification, or where it lies, or else its value where that is enough.
     ActualOf : (home : ℕ) → (as_procedure : Bool) → Expression → Term
     NamedOf : (instance : ℕ) → Key → Use → Term
-    -- a form that is not built
-    Unbuilt : Term
+    -- what no allowed program has, which has no rule
+    NoMeaning : Term
 
   pub data Terms : Type 0 where
     NoTerm : Terms
@@ -256,7 +256,7 @@ pub data Item : Type 0 where
   EndLevel : (text : ℕ) → Item
   EndObject : Item
   EndPrefixed : Item
-  -- of the evaluation of an actual parameter by name
+  -- of the evaluation of an actual parameter
   EndEvaluation : Use → Item
   EndProgram : Item
 

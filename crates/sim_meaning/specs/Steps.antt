@@ -8,7 +8,7 @@ use Rattle.sim_code.specs.Outcome.{Going, Run, World}
 use Rattle.sim_code.specs.Events.{assigning, having, image_set, image_value, no_rule, only_text, popping, when}
 use Rattle.sim_code.specs.Arrays.{copying_array, element, element_set, finding_element}
 use Rattle.sim_code.specs.Instances.{CellPlace, ElementPlace, ImagePlace, Place}
-use Rattle.sim_meaning.specs.Pending.{Actual, ActualOf, Address, Activation, ArrayValue, AttributeOf, AttributeOp, Cell, CallOf, CallOp, CallValueOp, CheckOp, CheckedOf, Configuration, CopyOf, CopyOp, Do, Either, ElementOf, ElementOp, Eval, FetchOp, FitsOf, FitsOp, Further, GiveOp, Given, IfOp, ImageOf, Instances, Item, JoinOp, Joined, KeepOp, KeptOf, Key, Link, MatchOf, MemberOf, MemberOp, NamedOf, NamedOp, NewOf, NewOp, NoTerm, NotNoneOf, NotNoneOp, ObjectOp, Of, One, OneOp, OriginOf, OriginOp, ParameterOp, PlaceOf, ProcedureOf, ProcedureOp, ProcessOf, ProcessOp, QualifiedElementOf, QualifiedElementOp, QualifiedPlaceOf, QuaOf, QuaOp, ReferOp, RemoteCallOf, RemoteProcedureOf, SetOf, SetOp, SimulationOf, SimulationOp, StandardOf, StandardOp, StoreOp, SwapOp, Target, Term, Terms, ToAddress, ToCell, ToNamed, ToPlace, ToReference, ToReferenceAt, ToText, ToTextAt, ToTextOf, TransferOf, TransferOp, Two, TwoOp, Unbuilt, Val, ValueAt, VirtualOp, array_in, cell, cell_set, place_in, plain, variable_in}
+use Rattle.sim_meaning.specs.Pending.{Actual, ActualOf, Address, Activation, ArrayValue, AttributeOf, AttributeOp, Cell, CallOf, CallOp, CallValueOp, CheckOp, CheckedOf, Configuration, CopyOf, CopyOp, Do, Either, ElementOf, ElementOp, Eval, FetchOp, FitsOf, FitsOp, Further, GiveOp, Given, IfOp, ImageOf, Instances, Item, JoinOp, Joined, KeepOp, KeptOf, Key, Link, MatchOf, MemberOf, MemberOp, NamedOf, NamedOp, NewOf, NewOp, NoTerm, NotNoneOf, NotNoneOp, ObjectOp, Of, One, OneOp, OriginOf, OriginOp, ParameterOp, PlaceOf, ProcedureOf, ProcedureOp, ProcessOf, ProcessOp, QualifiedElementOf, QualifiedElementOp, QualifiedPlaceOf, QuaOf, QuaOp, ReferOp, RemoteCallOf, RemoteProcedureOf, SetOf, SetOp, SimulationOf, SimulationOp, StandardOf, StandardOp, StoreOp, SwapOp, Target, Term, Terms, ToAddress, ToCell, ToNamed, ToPlace, ToReference, ToReferenceAt, ToText, ToTextAt, ToTextOf, TransferOf, TransferOp, Two, TwoOp, NoMeaning, Val, ValueAt, VirtualOp, array_in, cell, cell_set, place_in, plain, variable_in}
 
 -- the innermost instance goes on with this work and these values in hand
 abbrev pub go : World → Instances → ℕ → List Item → List Val → List Activation → Run Configuration
@@ -78,7 +78,7 @@ eval o m i w vals rest (CheckedOf a leaves home es line) =
 -- parameters by name
 eval o m i w vals rest (ActualOf j p e) = go o m i w (Actual j p e ∷ vals) rest
 eval o m i w vals rest (NamedOf j key wanted) = go o m i (Do (NamedOp j key wanted) ∷ w) vals rest
-eval o m i w vals rest Unbuilt = no_rule o
+eval o m i w vals rest NoMeaning = no_rule o
 
 -- the value that lies somewhere
 abbrev pub of_plain : Option Plain → Option Val

@@ -9,7 +9,7 @@ use Rattle.sim_code.specs.declared.stage.Stage.{Stage}
 use Rattle.sim_code.specs.Code.{BlockOf, CodeOf}
 use Rattle.sim_code.specs.Machine.{Frames, Value}
 use Rattle.sim_code.specs.Machine as machine
-use Rattle.sim_meaning.specs.Pending.{Activation, ActualOf, AttributeOf, BackOp, BranchOp, CallOf, Cell, CopyOf, Do, Either, ElementOf, ElementsOp, EndBlock, EndEvaluation, EndLevel, EndObject, EndPrefixed, EndProcedure, EndProgram, Eval, FitsOf, Further, Given, GiveOp, IfOp, ImageOf, Instances, Item, Joined, KeptOf, Key, MemberOf, NamedOf, NamedOp, NewOf, NoTerm, NotNoneOf, One, Op, PlaceOf, QuaOf, QualifiedElementOf, QualifiedPlaceOf, RaiseOp, RemoteCallOf, SetOf, ShareOp, StandardOf, StepTestOp, StoreOp, Target, Term, Terms, ToAddress, ToCell, ToNamed, ToPlace, ToReference, ToReferenceAt, ToText, ToTextAt, ToTextOf, TransferOf, Two, Unbuilt, Val, ValueAt, WhileElementOp, BlockOp, ProcessOf, SimulationOf, SimulationOp, ActivateOp, Use, evaluates, is_evaluation, owner, OriginOf, ProcedureOf, RemoteProcedureOf, MatchOf, CheckedOf}
+use Rattle.sim_meaning.specs.Pending.{Activation, ActualOf, AttributeOf, BackOp, BranchOp, CallOf, Cell, CopyOf, Do, Either, ElementOf, ElementsOp, EndBlock, EndEvaluation, EndLevel, EndObject, EndPrefixed, EndProcedure, EndProgram, Eval, FitsOf, Further, Given, GiveOp, IfOp, ImageOf, Instances, Item, Joined, KeptOf, Key, MemberOf, NamedOf, NamedOp, NewOf, NoTerm, NotNoneOf, One, Op, PlaceOf, QuaOf, QualifiedElementOf, QualifiedPlaceOf, RaiseOp, RemoteCallOf, SetOf, ShareOp, StandardOf, StepTestOp, StoreOp, Target, Term, Terms, ToAddress, ToCell, ToNamed, ToPlace, ToReference, ToReferenceAt, ToText, ToTextAt, ToTextOf, TransferOf, Two, NoMeaning, Val, ValueAt, WhileElementOp, BlockOp, ProcessOf, SimulationOf, SimulationOp, ActivateOp, Use, evaluates, is_evaluation, owner, OriginOf, ProcedureOf, RemoteProcedureOf, MatchOf, CheckedOf}
 use Rattle.sim_meaning.specs.Sane.{OwnerOf, OwnersKept, OwnersKeptOf, OwnersOf}
 use Rattle.codegen_expr.specs.Sites.{Site, class_number, expression_temps, frame_text, own_end}
 use Rattle.codegen.specs.CodeFor.{OfCell, OfPlace, OfReference, Variable}
@@ -221,7 +221,7 @@ module _ (s : Source) (code : CodeOf) (m m' : Instances) (e : Later s m m') wher
       }
       term_later site n (ActualOf home as_procedure x) p q a = a
       term_later site n (NamedOf j key wanted) p q a = use_later site n j key wanted p q a
-      term_later site n Unbuilt p q a = a
+      term_later site n NoMeaning p q a = a
 
       pub terms_later : (site : Site) (n : ℕ) (xs : Terms) (p q : ℕ) → TermsAt s code m inst site n xs p q → TermsAt s code m' inst site n xs p q
       terms_later site n NoTerm p q a = a

@@ -52,7 +52,7 @@ use Rattle.sim_relate.proofs.Here.{Here, act, at_row, kinds_as}
 use Rattle.sim_relate.proofs.Known.{ActualCode, Any, anys, HandAt, Kind, Runs, Settled, StackAt, ThunkIs, ValAt, actual_at, given, more_at, procedure_at, site_at}
 use Rattle.sim_relate.proofs.Living.{lives_now}
 use Rattle.sim_relate.proofs.Operations.{CallValueOpIs, ParameterOpIs, ProcedureOpIs}
-use Rattle.sim_relate.proofs.Operators.{alike_indexed, onward, pushes, same_plain}
+use Rattle.sim_relate.proofs.Operators.{alike_indexed, onward, pushes, room_is, same_plain}
 use Rattle.sim_relate.proofs.Passed.{thunk_there}
 use Rattle.sim_relate.proofs.Ranked.{InEach, Meets, caught, simply}
 use Rattle.sim_relate.proofs.Relation.{ChainAt, OpAt, StateAt, WorkAt}
@@ -294,7 +294,8 @@ module _ (s : Source) (code : CodeOf) (coding : Compiled s code) (l : Limits) (o
         subst (λ z. Alike R (evaluating o m inst (is_procedure_kind kind) e (ForParameter n line) (record { instance = inst; work = w; values = vals } ∷ rest)) (table.running_thunk code o fs before below z)) (sym x.is)
         (alike_indexed s code l o m inst w vals rest fs t b passes.y stack below ks here x.number _ _
         (holds (table.runs_inside b.thunk x.number) (runs_in b.thunk x.number x.later) _ _
-        (evaluations.evaluates_in s code coding l o m inst w vals rest fs t b passes.y stack below ks here u q ks' low k (ForParameter n line) under inst (is_procedure_kind kind) e x.number x.thunk o live)))
+        (holds (machine.is_roomy before) (room_is s code l o m inst w vals rest fs t b passes.y stack below ks here passes.fits) _ _
+        (evaluations.evaluates_in s code coding l o m inst w vals rest fs t b passes.y stack below ks here u q ks' low k (ForParameter n line) under inst (is_procedure_kind kind) e x.number x.thunk o live))))
 
     passes_so : (f : Formal) → fits s f (passed s e) ≡ true
         → Alike R (choosing (is_by_name f.mode) (go o m inst w (Actual inst (is_procedure_kind f.kind) e ∷ vals) rest) (evaluating o m inst (is_procedure_kind f.kind) e (ForParameter n line) (record { instance = inst; work = w; values = vals } ∷ rest)))

@@ -29,7 +29,7 @@ use Rattle.sim_meaning.specs.Attributes as attributes
 use Rattle.sim_meaning.specs.Closing.{class_parameters, close, close_actuals, close_all, close_parameters, close_place, close_procedure, declared_procedure, formal_procedure, formal_value, procedure_denoted, dot_term, formals_at, home_of, home_of_class, in_instance, is_attribute, is_text, is_variable, named_place, named_term, reference_place, result_meant, result_place, sort_of, stream_of, left_type, has_type}
 use Rattle.sim_meaning.specs.Levels.{class_at, class_denoted, is_process_itself, qualification}
 use Rattle.sim_meaning.specs.Names.{procedure_named}
-use Rattle.sim_meaning.specs.Pending.{Cell, Declared, ElementOf, Further, Instances, MatchOf, NewOf, NoTerm, Origin, PlaceOf, ProcedureOf, RemoteCallOf, Result, Term, Terms, Unbuilt, ValueAt, Given}
+use Rattle.sim_meaning.specs.Pending.{Cell, Declared, ElementOf, Further, Instances, MatchOf, NewOf, NoTerm, Origin, PlaceOf, ProcedureOf, RemoteCallOf, Result, Term, Terms, NoMeaning, ValueAt, Given}
 use Rattle.sim_meaning.specs.Steps.{count}
 use Rattle.sim_meaning.specs.Texts.{text}
 use Rattle.codegen_expr.specs.Sites.{At, Inside, Is, LevelOf, Pushes, Site, block_number, class_number, frame_text, is_constant, slot_of}
@@ -176,7 +176,7 @@ module _ (s : Source) (code : CodeOf) (m : Instances) (inst : ℕ) (site : Site)
   place_of_object_at o d line n None es Base Inner x terms f g counts p q is a = absurd a
 
   place_behind_at : (o : Option (Qualified s code m inst site agrees reach)) (u : Option Denotation) (line n : ℕ) (es : Expressions) (Base Inner : ℕ → ℕ → Type 0) (x : Term) (terms : Terms) → ObjectIs n Base x → ((p q : ℕ) → Inner p q → TermsAt s code m inst site (suc n) terms p q) → operands es ≡ count terms → (p q : ℕ) → PlaceBehindAt s code line (class_given s code m inst site agrees reach o) u es Base Inner p q
-      → PlacedAt s code m inst site agrees reach o n (if_any (declared_attribute u) (place_of_attribute s line x es terms) Unbuilt) p q
+      → PlacedAt s code m inst site agrees reach o n (if_any (declared_attribute u) (place_of_attribute s line x es terms) NoMeaning) p q
   place_behind_at o (Some (denotation.Declared d)) line n es Base Inner x terms f g counts p q a = place_of_object_at o d line n (entry_of s.tables d) es Base Inner x terms f g counts p q refl a
   place_behind_at o (Some (denotation.Standard name)) line n es Base Inner x terms f g counts p q a = absurd a
   place_behind_at o None line n es Base Inner x terms f g counts p q a = absurd a
@@ -200,7 +200,7 @@ module _ (s : Source) (code : CodeOf) (m : Instances) (inst : ℕ) (site : Site)
       let r = reach t a.inside in
       let same = frame_level s agrees t in
       let key = cell_of_connection s t in
-      subst (λ z. OperandAt s code m inst site n (if_any z (λ j. Cell j key) Unbuilt) p q) (sym r.2) (
+      subst (λ z. OperandAt s code m inst site n (if_any z (λ j. Cell j key) NoMeaning) p q) (sym r.2) (
         record {
           text = frame_text s t;
           load = subst (λ l. Pushes code site n (i.Load (pos l) (pos (slot_of s code (frame_text s t) key))) p q) (sym same) a.load;
@@ -213,7 +213,7 @@ module _ (s : Source) (code : CodeOf) (m : Instances) (inst : ℕ) (site : Site)
       )
 
   connected_name_at : (t : ℕ) (u : Option Denotation) (line n : ℕ) (es : Expressions) (Inner : ℕ → ℕ → Type 0) (Actuals : Parameters → ℕ → ℕ → Type 0) (terms : Terms) (actuals : List Formal → Terms) → ((p q : ℕ) → Inner p q → TermsAt s code m inst site (suc n) terms p q) → operands es ≡ count terms → GivenFor s code m inst site agrees reach n line es Actuals actuals
-      → (p q : ℕ) → ConnectedNameAt s code site n line t u es Inner Actuals p q → NamedIs s code m inst site agrees reach n (code_gives.gives s u) (if_any (declared_attribute u) (attribute s inst line (connected_object s m inst t) es terms (λ d. actuals (formals_at s d))) Unbuilt) p q
+      → (p q : ℕ) → ConnectedNameAt s code site n line t u es Inner Actuals p q → NamedIs s code m inst site agrees reach n (code_gives.gives s u) (if_any (declared_attribute u) (attribute s inst line (connected_object s m inst t) es terms (λ d. actuals (formals_at s d))) NoMeaning) p q
   connected_name_at t (Some (denotation.Declared d)) line n es Inner Actuals terms actuals g counts ha p q a =
       declared_object_at d line n es (ConnectedAt s code site n t) Inner (Actuals (parameters_at s d)) (connected_object s m inst t) terms actuals (λ p q. connected_at t n p q) (λ p q. connected_fits s code site t n p q) g counts (ha (parameters_at s d)) p q a
   connected_name_at t (Some (denotation.Standard name)) line n es Inner Actuals terms actuals g counts ha p q a = absurd a
@@ -222,12 +222,12 @@ module _ (s : Source) (code : CodeOf) (m : Instances) (inst : ℕ) (site : Site)
   -- what is seen through a connection, or else is seen without one
   through_at : (c : Option ℕ) (u : Option Denotation) (line n : ℕ) (es : Expressions) (Inner Direct : ℕ → ℕ → Type 0) (Actuals : Parameters → ℕ → ℕ → Type 0) (terms : Terms) (actuals : List Formal → Terms) (other : Term) → ((p q : ℕ) → Inner p q → TermsAt s code m inst site (suc n) terms p q) → operands es ≡ count terms
       → GivenFor s code m inst site agrees reach n line es Actuals actuals → ((p q : ℕ) → Direct p q → NamedIs s code m inst site agrees reach n (code_gives.gives s u) other p q)
-      → (p q : ℕ) → ThroughAt c (λ t. ConnectedNameAt s code site n line t u es Inner Actuals) Direct p q → NamedIs s code m inst site agrees reach n (code_gives.gives s u) (if_any c (λ t. if_any (declared_attribute u) (attribute s inst line (connected_object s m inst t) es terms (λ d. actuals (formals_at s d))) Unbuilt) other) p q
+      → (p q : ℕ) → ThroughAt c (λ t. ConnectedNameAt s code site n line t u es Inner Actuals) Direct p q → NamedIs s code m inst site agrees reach n (code_gives.gives s u) (if_any c (λ t. if_any (declared_attribute u) (attribute s inst line (connected_object s m inst t) es terms (λ d. actuals (formals_at s d))) NoMeaning) other) p q
   through_at None u line n es Inner Direct Actuals terms actuals other f counts g h p q a = h p q a
   through_at (Some t) u line n es Inner Direct Actuals terms actuals other f counts g h p q a = connected_name_at t u line n es Inner Actuals terms actuals f counts g p q a
 
   place_through : (c : Option ℕ) (o : Option (Qualified s code m inst site agrees reach)) (u : Option Denotation) (line n : ℕ) (es : Expressions) (Inner : ℕ → ℕ → Type 0) (terms : Terms) → ((p q : ℕ) → Inner p q → TermsAt s code m inst site (suc n) terms p q) → operands es ≡ count terms → (p q : ℕ) → ThroughAt c (λ t. PlaceBehindAt s code line (class_given s code m inst site agrees reach o) u es (ConnectedAt s code site n t) Inner) (NamedPlaceAt s code site n line (class_given s code m inst site agrees reach o) u es Inner) p q
-      → PlacedAt s code m inst site agrees reach o n (if_any c (λ t. if_any (declared_attribute u) (place_of_attribute s line (connected_object s m inst t) es terms) Unbuilt) (named_place s m inst line u es terms)) p q
+      → PlacedAt s code m inst site agrees reach o n (if_any c (λ t. if_any (declared_attribute u) (place_of_attribute s line (connected_object s m inst t) es terms) NoMeaning) (named_place s m inst line u es terms)) p q
   place_through None o u line n es Inner terms f counts p q a = named_place_at s code m inst site agrees reach o u line n es Inner terms f counts p q a
   place_through (Some t) o u line n es Inner terms f counts p q a = place_behind_at o u line n es (ConnectedAt s code site n t) Inner (connected_object s m inst t) terms (λ p q. connected_at t n p q) f counts p q a
 
@@ -352,7 +352,7 @@ module _ (s : Source) (code : CodeOf) (m : Instances) (inst : ℕ) (site : Site)
   abbrev pub named_tree : Identifier → Expressions → Term
   named_tree name es =
       if_any (connection_at s name.token.0)
-      (λ k. if_any (declared_attribute (denoted s name.token.0)) (attribute s inst (line_at s name.token.0) (connected_object s m inst k) es (close_all s m inst es) (λ d. close_actuals s m inst (line_at s name.token.0) es (formals_at s d))) Unbuilt) (direct_tree name es)
+      (λ k. if_any (declared_attribute (denoted s name.token.0)) (attribute s inst (line_at s name.token.0) (connected_object s m inst k) es (close_all s m inst es) (λ d. close_actuals s m inst (line_at s name.token.0) es (formals_at s d))) NoMeaning) (direct_tree name es)
 
   abbrev pub dot_tree : Expression → Identifier → Expressions → Term
   dot_tree x name es =
@@ -408,7 +408,7 @@ module _ (s : Source) (code : CodeOf) (m : Instances) (inst : ℕ) (site : Site)
   procedure_of_object d line n (Some (entry.Attribute name parameter result)) Base x f p q is a = absurd a
   procedure_of_object d line n None Base x f p q is a = absurd a
 
-  procedure_behind : (u : Option Denotation) (line n : ℕ) (Base : ℕ → ℕ → Type 0) (x : Term) → ObjectIs n Base x → (p q : ℕ) → ProcedureBehindAt s code line u Base p q → OperandAt s code m inst site n (if_any (declared_attribute u) (attribute_procedure s line x) Unbuilt) p q
+  procedure_behind : (u : Option Denotation) (line n : ℕ) (Base : ℕ → ℕ → Type 0) (x : Term) → ObjectIs n Base x → (p q : ℕ) → ProcedureBehindAt s code line u Base p q → OperandAt s code m inst site n (if_any (declared_attribute u) (attribute_procedure s line x) NoMeaning) p q
   procedure_behind (Some (denotation.Declared d)) line n Base x f p q a = procedure_of_object d line n (entry_of s.tables d) Base x f p q refl a
   procedure_behind (Some (denotation.Standard name)) line n Base x f p q a = absurd a
   procedure_behind None line n Base x f p q a = absurd a
@@ -444,7 +444,7 @@ module _ (s : Source) (code : CodeOf) (m : Instances) (inst : ℕ) (site : Site)
   procedure_named_at None line n p q a = absurd a
 
   procedure_through : (c : Option ℕ) (u : Option Denotation) (line n p q : ℕ) → ThroughAt c (λ k. ProcedureBehindAt s code line u (ConnectedAt s code site n k)) (ProcedureNamedAt s code site n line u) p q
-      → OperandAt s code m inst site n (if_any c (λ k. if_any (declared_attribute u) (attribute_procedure s line (connected_object s m inst k)) Unbuilt) (procedure_denoted s m inst line u)) p q
+      → OperandAt s code m inst site n (if_any c (λ k. if_any (declared_attribute u) (attribute_procedure s line (connected_object s m inst k)) NoMeaning) (procedure_denoted s m inst line u)) p q
   procedure_through None u line n p q a = procedure_named_at u line n p q a
   procedure_through (Some k) u line n p q a = procedure_behind u line n (ConnectedAt s code site n k) (connected_object s m inst k) (λ p q. connected_at k n p q) p q a
 
@@ -483,7 +483,7 @@ module _ (s : Source) (code : CodeOf) (m : Instances) (inst : ℕ) (site : Site)
     place_at o (syntax.Named name es) n p q a =
         place_through (connection_at s name.token.0) o (denoted s name.token.0) (line_at s name.token.0) n es (ExprsAt s code site (suc n) es) (close_all s m inst es) (λ p q. close_all_at es (suc n) p q) (count_close es) p q a
     place_at o (syntax.Dot token x name es) n p q a =
-        image_place_at s code m inst site agrees reach o (stream_of s x) (PlaceBehindAt s code (line_at s name.token.0) (class_given s code m inst site agrees reach o) (denoted s name.token.0) es (ExprAt s code site n x) (ExprsAt s code site (suc n) es)) (if_any (declared_attribute (denoted s name.token.0)) (place_of_attribute s (line_at s name.token.0) (close s m inst x) es (close_all s m inst es)) Unbuilt) n p q (stream_is s code m inst site agrees reach x)
+        image_place_at s code m inst site agrees reach o (stream_of s x) (PlaceBehindAt s code (line_at s name.token.0) (class_given s code m inst site agrees reach o) (denoted s name.token.0) es (ExprAt s code site n x) (ExprsAt s code site (suc n) es)) (if_any (declared_attribute (denoted s name.token.0)) (place_of_attribute s (line_at s name.token.0) (close s m inst x) es (close_all s m inst es)) NoMeaning) n p q (stream_is s code m inst site agrees reach x)
         (λ p q b. place_behind_at o (denoted s name.token.0) (line_at s name.token.0) n es (ExprAt s code site n x) (ExprsAt s code site (suc n) es) (close s m inst x) (close_all s m inst es) (λ p q. close_at x n p q) (λ p q. close_all_at es (suc n) p q) (count_close es) p q b) a
     place_at o (syntax.If token c x y) n p q a = absurd a
     place_at o (syntax.Binary op token x y) n p q a = absurd a

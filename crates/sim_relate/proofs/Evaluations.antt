@@ -17,7 +17,7 @@ use Rattle.sim_code.specs.Formals as table
 use Rattle.sim_code.specs.Code.{CodeOf}
 use Rattle.sim_code.specs.Events.{having, no_rule, ticking, when}
 use Rattle.sim_code.specs.Instances.{ElementPlace, ImagePlace, is_live}
-use Rattle.sim_code.specs.Machine.{Frames, Machine, Value, cell_at, pushing, thunk_in, waiting}
+use Rattle.sim_code.specs.Machine.{Frames, Machine, Value, cell_at, is_roomy, pushing, thunk_in, waiting}
 use Rattle.sim_code.specs.Machine as machine
 use Rattle.sim_code.specs.Outcome.{Going, Run, RunFault, World}
 use Rattle.sim_code.specs.Rows.{no_class, on_top, row, thunk_ended, thunk_given, truth_of}
@@ -48,7 +48,7 @@ use Rattle.sim_relate.proofs.Here.{Here, act, at_row, kinds_as, state_at}
 use Rattle.sim_relate.proofs.Known.{HandAt, Kind, NamedAt, PlaceIs, RefersAt, Runs, Settled, ThunkIs, ValAt, actual_at, array_at, element_at, hand_given, image_at, link_at, named_place, named_reference, named_value, none_at, owner_of, plain_at, refers_cell, refers_element, site_at, procedure_at}
 use Rattle.sim_relate.proofs.Lists.{there_get}
 use Rattle.sim_relate.proofs.Living.{reach_found, reached}
-use Rattle.sim_relate.proofs.Operators.{at_cell, same_plain}
+use Rattle.sim_relate.proofs.Operators.{at_cell, passing_test, room_is, same_plain}
 use Rattle.sim_relate.proofs.Pending.{ends_at, pends}
 use Rattle.sim_relate.proofs.Reach.{is_there}
 use Rattle.sim_relate.proofs.Relation.{ChainAt, EndAt, OpAt, StandingsAt, StateAt, StoreAt, WorkAt}
@@ -119,7 +119,7 @@ module _ (s : Source) (code : CodeOf) (compiled : Compiled s code) (l : Limits) 
         (record { place = pc; first = pos (level_of s x.text); second = pos (slot_of s code x.text key); is = x.use_is.at; on = refl; classed = x.classed }) a.out x.use_is.on
 
     begun_with : (v : Val) (z : Value) → ValAt s code m v z
-        → Alike Related (having (actual_in v) o (λ a. when (is_live m a.home) o (ticking l o (λ p. evaluating p m a.home a.as_procedure a.expression wanted waiting_chain)))) (having (thunk_in z) o (λ t. ticking l o (λ p. in_thunk code p fs t.0 t.1 waiting_acts)))
+        → Alike Related (having (actual_in v) o (λ a. when (is_live m a.home) o (ticking l o (λ p. evaluating p m a.home a.as_procedure a.expression wanted waiting_chain)))) (having (thunk_in z) o (λ t. when (is_roomy top) o (ticking l o (λ p. in_thunk code p fs t.0 t.1 waiting_acts))))
     unfolding having
     begun_with _ _ plain_at = alike_unruled Configuration Machine Related o _
     begun_with _ _ link_at = alike_unruled Configuration Machine Related o _
@@ -128,7 +128,7 @@ module _ (s : Source) (code : CodeOf) (compiled : Compiled s code) (l : Limits) 
     begun_with _ _ image_at = alike_unruled Configuration Machine Related o _
     begun_with _ _ (procedure_at h) = alike_unruled Configuration Machine Related o _
     begun_with _ _ (actual_at {home} {number} {as_procedure} {e} h) =
-        alike_passes Configuration Machine Related (is_live m home) o _ _ (λ live. alike_ticking Configuration Machine Related l o _ _ (λ p. evaluates_in wanted under_use home as_procedure e number h p live))
+        alike_passes Configuration Machine Related (is_live m home) o _ _ (λ live. passing_test s code l o m inst w vals rest fs t b pc stack below ks here o (is_roomy top) _ _ (room_is s code l o m inst w vals rest fs t b pc stack below ks here x.fits) (alike_ticking Configuration Machine Related l o _ _ (λ p. evaluates_in wanted under_use home as_procedure e number h p live)))
 
     uses : Alike Related (name_used l o m inst w vals rest j key wanted) (cell_at fs top (pos (level_of s x.text)) (pos (slot_of s code x.text key)) o (λ j c. using_name code l o fs top below j c))
     uses =
@@ -136,16 +136,19 @@ module _ (s : Source) (code : CodeOf) (compiled : Compiled s code) (l : Limits) 
         (alike_having Configuration Machine Related Val Value (ValAt s code m) (cell m j key) (machine.cell fs j (slot_of s code x.text key)) o _ _ (cell_read s code m fs j x.text key here.store (x.reaches).stands x.own x.has x.varies)
         (λ v z ev ez h. begun_with v z h))
 
-  row_of_use : (wanted : Use) → IsUse wanted → (line : ℕ) (z c : ℤ) → row code l o fs top below line (use_instr s code wanted z c) ≡ cell_at fs top z c o (λ j c. using_name code l o fs top below j c)
-  row_of_use (ForValue class line') used line z c = refl
-  row_of_use (ForPlace value_too line') used line z c = refl
-  row_of_use (ForParameter number line') used line z c = absurd used
+  -- the class that a value is held against is there
+  row_of_use : (wanted : Use) → IsUse wanted → UseClassed s wanted → (line : ℕ) (z c : ℤ) (r : Run Configuration) → Alike Related r (cell_at fs top z c o (λ j c. using_name code l o fs top below j c)) → Alike Related r (row code l o fs top below line (use_instr s code wanted z c))
+  row_of_use (ForValue None line') used k line z c r h = alike_found Configuration Machine Related (Unit {0}) (no_class (pos 0)) tt o r _ refl h
+  row_of_use (ForValue (Some class) line') used k line z c r h = number_found s code compiled o m fs here.store class k r _ h
+  row_of_use (ForPlace true line') used k line z c r h = alike_found Configuration Machine Related Bool (truth_of (pos 1)) true o r _ refl h
+  row_of_use (ForPlace false line') used k line z c r h = alike_found Configuration Machine Related Bool (truth_of (pos 0)) false o r _ refl h
+  row_of_use (ForParameter number line') used k line z c r h = absurd used
 
   pub use_name : (j : ℕ) (key : Key) (wanted : Use) → OpAt s code m fs inst (site_at t b u) (NamedOp j key wanted) pc q ks ks' → Alike Related (do_op s l o m inst w vals rest (NamedOp j key wanted)) (on_top code l o fs top below)
   use_name j key wanted a =
       let x = a.is in
       at_row s code l o fs top below _ (use_instr s code wanted (pos (level_of s x.text)) (pos (slot_of s code x.text key))) (line_of_use wanted) q x.use_is
-      (subst (λ z. Alike Related (do_op s l o m inst w vals rest (NamedOp j key wanted)) z) (sym (row_of_use wanted x.is_use (line_of_use wanted) (pos (level_of s x.text)) (pos (slot_of s code x.text key)))) (uses j key wanted x.is_use a))
+      (row_of_use wanted x.is_use x.classed (line_of_use wanted) (pos (level_of s x.text)) (pos (slot_of s code x.text key)) _ (uses j key wanted x.is_use a))
 
   -- The actual is closed in the instance for which it is evaluated.
   pub closes : (as_procedure : Bool) (e : Expression) → OpAt s code m fs inst (site_at t b u) (CloseOp as_procedure e) pc q ks ks' → WorkAt s code m fs (λ v. ChainAt s code m fs rest v below) inst t b u (Do (Eval (close_passed as_procedure s m inst e)) ∷ w) pc ks

@@ -34,7 +34,7 @@ use Rattle.sim_relate.proofs.Ranked.{Follows, InEach, Meets, at_once, both_stopp
 use Rattle.sim_relate.proofs.ObjectsHere.{class_named, named_may_stand}
 use Rattle.sim_relate.proofs.Relation.{ChainAt, OpAt, StateAt, StoreAt, WorkAt}
 use Rattle.sim_relate.proofs.Silent.{addr_row, matched, place_at, put_row, put_stops, silent, steps_to, swap_row}
-use Rattle.sim_relate.proofs.Stores.{levels_same, scratch_written}
+use Rattle.sim_relate.proofs.Stores.{levels_same, scratch_written, set_there}
 use Rattle.sim_relate.proofs.Straight.{load_row, step_at}
 use Rattle.sim_relate.proofs.Trees.{Classed, FitsIs}
 use Rattle.codegen_expr.specs.CodeExpr.{HeldAt}
@@ -109,7 +109,10 @@ module _ (s : Source) (code : CodeOf) (coding : Compiled s code) (l : Limits) (o
         let fits = h.address.fits in
         let e = deep in
         let roomy = here.roomy in
-        silent code l inst b below R _ is.is (addr_row code l inst b below is.line fs o pc (x ∷ stack') lev b.temps (class_number s code c) n.0 n.1 (class_named s code coding m fs here.store c a.is_class) (own_frame fs here.store) (omega (arith, e, fits, roomy)))
+        let first = (low.at).temps in
+        let r = scratch_written s code m fs inst t b b.temps x here.store here.stands here.lives here.found (omega (arith, first)) (omega (arith, first)) h.within in
+        let there = set_there fs r.frames inst b.temps x r.is in
+        silent code l inst b below R _ is.is (addr_row code l inst b below is.line fs o pc (x ∷ stack') lev b.temps (class_number s code c) n.0 n.1 (class_named s code coding m fs here.store c a.is_class) (own_frame fs here.store) there (omega (arith, e, fits, roomy)))
         (silent code l inst b below R i.Swap h.under.is (swap_row code l inst b below h.under.line fs o h.x address x stack') more)
 
     passes : ((z : Run Machine) → classes.admitting code fs line (class_number s code c) x o z ≡ z) → Meets g (InEach R) onward o (at pc (x ∷ stack') fs)

@@ -17,7 +17,7 @@ use Rattle.sim_code.specs.Code.{CodeOf}
 use Rattle.sim_meaning.specs.Attributes.{attribute_place, connected_object, connection_at, declared_attribute, element_at, entry_at, if_any, parameter_at, place_of_attribute, variable_at}
 use Rattle.sim_meaning.specs.Closing.{array_place, by_name, close, close_actual_by, close_all, close_passed, close_place, close_procedure, declared_place, formal_by_name, formal_place, home_of, image_place, in_instance, is_attribute_denoted, is_placed, name_denoted, named_formal, named_place, qualified_if, stream_of, typed_token, variable_place}
 use Rattle.sim_meaning.specs.Levels.{qualification}
-use Rattle.sim_meaning.specs.Pending.{AttributeOf, Declared, ElementOf, ForPlace, ImageOf, Instances, Key, NamedOf, PlaceOf, Term, Terms, Unbuilt}
+use Rattle.sim_meaning.specs.Pending.{AttributeOf, Declared, ElementOf, ForPlace, ImageOf, Instances, Key, NamedOf, PlaceOf, Term, Terms, NoMeaning}
 use Rattle.codegen_expr.specs.CodeExpr.{ExprAt, ObjectAt, PlaceAt, class_unless}
 use Rattle.codegen_expr.specs.Sites.{Inside, Site}
 use Rattle.codegen.specs.Agrees.{Agrees}
@@ -29,7 +29,7 @@ use Rattle.sim_relate.proofs.Trees.{TermAt}
 
 -- a tree of where something lies, and what it leaves
 pub data Placed : Kind → Term → Type 0 where
-  unbuilt : {k : Kind} → Placed k Unbuilt
+  no_meaning : {k : Kind} → Placed k NoMeaning
   of_cell : {j : ℕ} {key : Key} → Placed Located (PlaceOf j key)
   of_element : {line : ℕ} {a : Term} {ts : Terms} → Placed Any (ElementOf line a ts)
   of_attribute : {text d line : ℕ} {a : Term} → Placed Located (AttributeOf text (Declared d) None line a)
@@ -37,7 +37,7 @@ pub data Placed : Kind → Term → Type 0 where
   of_name : {j line : ℕ} {key : Key} {value_too : Bool} → Placed Named (NamedOf j key (ForPlace value_too line))
 
 placed_leaves : (s : Source) (k : Kind) (x : Term) → Placed k x → reads s x ≡ true → LeavesIs s x [] (k ∷ [])
-placed_leaves s _ _ unbuilt e = tt
+placed_leaves s _ _ no_meaning e = tt
 placed_leaves s _ _ of_cell e = refl
 placed_leaves s _ _ of_element e = refl
 placed_leaves s _ _ (of_attribute {text} {d} {line} {a}) e = by_fixed (is_fixed s (Declared d)) refl e
@@ -50,78 +50,78 @@ placed_leaves s _ _ of_name e = refl
 
 module _ (s : Source) (m : Instances) (inst : ℕ) where
   found_in : (k : Kind) (o : Option ℕ) (f : ℕ → Term) → ((j : ℕ) → Placed k (f j)) → Placed k (in_instance o f)
-  found_in k None f a = unbuilt
+  found_in k None f a = no_meaning
   found_in k (Some j) f a = a j
 
   variable_placed : (d : DeclNo) (k : Option ℕ) (es : Expressions) → Placed (through_given k None es) (variable_place s m inst d es)
   variable_placed d None NoMore = found_in Located (home_of s m inst d) _ (λ j. of_cell)
   variable_placed d (Some k) NoMore = found_in Located (home_of s m inst d) _ (λ j. of_cell)
-  variable_placed d None (Then e es) = unbuilt
-  variable_placed d (Some k) (Then e es) = unbuilt
+  variable_placed d None (Then e es) = no_meaning
+  variable_placed d (Some k) (Then e es) = no_meaning
 
   array_placed : (line : ℕ) (d : DeclNo) (f : Option DeclNo) (es : Expressions) (ts : Terms) → Placed (through_given None f es) (array_place s m inst line d es ts)
-  array_placed line d f NoMore ts = unbuilt
+  array_placed line d f NoMore ts = no_meaning
   array_placed line d None (Then e es) ts = found_in Any (home_of s m inst d) _ (λ j. of_element)
   array_placed line d (Some x) (Then e es) ts = found_in Any (home_of s m inst d) _ (λ j. of_element)
 
   formal_placed : (line : ℕ) (d : DeclNo) (by : Mode) (kind : FormalKind) (es : Expressions) (ts : Terms) → Placed (through_given None (named_formal by kind d) es) (formal_place s m inst line d by kind es ts)
   formal_placed line d mode.ByName shape.Simple NoMore ts = found_in Named (home_of s m inst d) _ (λ j. of_name)
-  formal_placed line d mode.ByName shape.Simple (Then e es) ts = unbuilt
-  formal_placed line d mode.ByName shape.Array NoMore ts = unbuilt
+  formal_placed line d mode.ByName shape.Simple (Then e es) ts = no_meaning
+  formal_placed line d mode.ByName shape.Array NoMore ts = no_meaning
   formal_placed line d mode.ByName shape.Array (Then e es) ts = found_in Any (home_of s m inst d) _ (λ j. of_element)
-  formal_placed line d mode.ByName shape.Procedure es ts = unbuilt
+  formal_placed line d mode.ByName shape.Procedure es ts = no_meaning
   formal_placed line d mode.ByValue shape.Simple es ts = variable_placed d None es
   formal_placed line d mode.ByValue shape.Array es ts = array_placed line d None es ts
-  formal_placed line d mode.ByValue shape.Procedure es ts = unbuilt
+  formal_placed line d mode.ByValue shape.Procedure es ts = no_meaning
   formal_placed line d mode.ByReference shape.Simple es ts = variable_placed d None es
   formal_placed line d mode.ByReference shape.Array es ts = array_placed line d None es ts
-  formal_placed line d mode.ByReference shape.Procedure es ts = unbuilt
+  formal_placed line d mode.ByReference shape.Procedure es ts = no_meaning
 
   declared_placed : (line : ℕ) (d : DeclNo) (o : Option Entry) (es : Expressions) (ts : Terms) → Placed (through_given None (formal_by_name d o) es) (declared_place s m inst line d o es ts)
   declared_placed line d (Some (entry.Variable type)) es ts = variable_placed d None es
   declared_placed line d (Some (entry.Array element dimensions)) es ts = array_placed line d None es ts
   declared_placed line d (Some (entry.Formal f)) es ts = formal_placed line d f.mode f.kind es ts
-  declared_placed line d (Some (entry.Constant type)) es ts = unbuilt
-  declared_placed line d (Some (entry.Procedure result block)) es ts = unbuilt
-  declared_placed line d (Some (entry.Virtual result own)) es ts = unbuilt
-  declared_placed line d (Some (entry.Attribute name parameter result)) es ts = unbuilt
-  declared_placed line d _ es ts = unbuilt
+  declared_placed line d (Some (entry.Constant type)) es ts = no_meaning
+  declared_placed line d (Some (entry.Procedure result block)) es ts = no_meaning
+  declared_placed line d (Some (entry.Virtual result own)) es ts = no_meaning
+  declared_placed line d (Some (entry.Attribute name parameter result)) es ts = no_meaning
+  declared_placed line d _ es ts = no_meaning
 
   -- an attribute of an object
   variable_at_object : (line : ℕ) (d : DeclNo) (object : Term) (es : Expressions) → Placed (dot_given None es) (variable_at (attribute_place s line d object) es)
   variable_at_object line d object NoMore = of_attribute
-  variable_at_object line d object (Then e es) = unbuilt
+  variable_at_object line d object (Then e es) = no_meaning
 
   element_at_object : (line : ℕ) (d : DeclNo) (object : Term) (es : Expressions) (ts : Terms) → Placed (dot_given None es) (element_at line (attribute_place s line d object) es ts)
-  element_at_object line d object NoMore ts = unbuilt
+  element_at_object line d object NoMore ts = no_meaning
   element_at_object line d object (Then e es) ts = of_element
 
   parameter_placed : (line : ℕ) (d : DeclNo) (kind : FormalKind) (object : Term) (es : Expressions) (ts : Terms) → Placed (dot_given None es) (parameter_at line kind (attribute_place s line d object) es ts)
   parameter_placed line d shape.Simple object es ts = variable_at_object line d object es
   parameter_placed line d shape.Array object es ts = element_at_object line d object es ts
-  parameter_placed line d shape.Procedure object es ts = unbuilt
+  parameter_placed line d shape.Procedure object es ts = no_meaning
 
   entry_placed : (line : ℕ) (d : DeclNo) (o : Option Entry) (object : Term) (es : Expressions) (ts : Terms) → Placed (dot_given None es) (entry_at s line d o object es ts)
   entry_placed line d (Some (entry.Variable type)) object es ts = variable_at_object line d object es
   entry_placed line d (Some (entry.Array element dimensions)) object es ts = element_at_object line d object es ts
   entry_placed line d (Some (entry.Formal f)) object es ts = parameter_placed line d f.kind object es ts
-  entry_placed line d (Some (entry.Constant type)) object es ts = unbuilt
-  entry_placed line d (Some (entry.Procedure result block)) object es ts = unbuilt
-  entry_placed line d (Some (entry.Virtual result own)) object es ts = unbuilt
-  entry_placed line d (Some (entry.Attribute name parameter result)) object es ts = unbuilt
-  entry_placed line d _ object es ts = unbuilt
+  entry_placed line d (Some (entry.Constant type)) object es ts = no_meaning
+  entry_placed line d (Some (entry.Procedure result block)) object es ts = no_meaning
+  entry_placed line d (Some (entry.Virtual result own)) object es ts = no_meaning
+  entry_placed line d (Some (entry.Attribute name parameter result)) object es ts = no_meaning
+  entry_placed line d _ object es ts = no_meaning
 
-  attribute_placed : (line : ℕ) (o : Option Denotation) (object : Term) (es : Expressions) (ts : Terms) → Placed (dot_given None es) (if_any (declared_attribute o) (place_of_attribute s line object es ts) Unbuilt)
+  attribute_placed : (line : ℕ) (o : Option Denotation) (object : Term) (es : Expressions) (ts : Terms) → Placed (dot_given None es) (if_any (declared_attribute o) (place_of_attribute s line object es ts) NoMeaning)
   attribute_placed line (Some (denotation.Declared d)) object es ts = entry_placed line d (entry_of s.tables d) object es ts
-  attribute_placed line (Some (denotation.Standard name)) object es ts = unbuilt
-  attribute_placed line None object es ts = unbuilt
+  attribute_placed line (Some (denotation.Standard name)) object es ts = no_meaning
+  attribute_placed line None object es ts = no_meaning
 
   connected_given : (k : ℕ) (f : Option DeclNo) (es : Expressions) (x : Term) → Placed (dot_given None es) x → Placed (through_given (Some k) f es) x
   connected_given k f NoMore x a = a
   connected_given k f (Then e es) x a = a
 
   through_placed : (line : ℕ) (k : Option ℕ) (o : Option Denotation) (es : Expressions) (ts : Terms) → is_attribute_denoted s o es ≡ true
-      → Placed (through_given k (name_denoted s o) es) (if_any k (λ k. if_any (declared_attribute o) (place_of_attribute s line (connected_object s m inst k) es ts) Unbuilt) (named_place s m inst line o es ts))
+      → Placed (through_given k (name_denoted s o) es) (if_any k (λ k. if_any (declared_attribute o) (place_of_attribute s line (connected_object s m inst k) es ts) NoMeaning) (named_place s m inst line o es ts))
   through_placed line (Some k) o es ts e = connected_given k (name_denoted s o) es _ (attribute_placed line o (connected_object s m inst k) es ts)
   through_placed line None (Some (denotation.Declared d)) es ts e = declared_placed line d (entry_of s.tables d) es ts
   through_placed line None (Some (denotation.Standard name)) es ts e = absurd (cc (e))

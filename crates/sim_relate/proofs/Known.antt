@@ -18,7 +18,7 @@ use Rattle.sim_code.specs.Instances as instances
 use Rattle.sim_code.specs.Machine.{Frames, Value, Cells}
 use Rattle.sim_code.specs.Machine as machine
 use Rattle.sim_code.proofs.Lifts.{Both}
-use Rattle.sim_meaning.specs.Pending.{Actual, AttributeOf, CallOf, CheckedOf, Connection, Declared, ForParameter, ForPlace, ForValue, Held, Instances, Key, NamedOf, PlaceOf, QualifiedElementOf, QualifiedPlaceOf, RemoteCallOf, SetOf, SimulationOf, StandardOf, Target, Term, ToCell, ToPlace, ToTextAt, ToTextOf, TransferOf, Unbuilt, Val}
+use Rattle.sim_meaning.specs.Pending.{Actual, AttributeOf, CallOf, CheckedOf, Connection, Declared, ForParameter, ForPlace, ForValue, Held, Instances, Key, NamedOf, PlaceOf, QualifiedElementOf, QualifiedPlaceOf, RemoteCallOf, SetOf, SimulationOf, StandardOf, Target, Term, ToCell, ToPlace, ToTextAt, ToTextOf, TransferOf, NoMeaning, Val}
 use Rattle.sim_meaning.specs.Pending as meaning
 use Rattle.sim_meaning.specs.Closing.{is_placed}
 use Rattle.sim_meaning.specs.Levels.{is_class, is_process_class, is_standard_text, levels_of, text_at}
@@ -128,15 +128,15 @@ leaving s t ks = with_kind (gives s t) (place_kind s t) ks
 
 -- of what is not built nothing is known
 abbrev pub LeavesIs : Source → Term → (before behind : List Kind) → Type 0
-LeavesIs s Unbuilt before behind = ⊤
+LeavesIs s NoMeaning before behind = ⊤
 LeavesIs s t before behind = behind ≡ leaving s t before
 
 pub leaves_is : (s : Source) (t : Term) (before : List Kind) → LeavesIs s t before (leaving s t before)
-leaves_is s Unbuilt before = tt
+leaves_is s NoMeaning before = tt
 leaves_is s t before = refl
 
 pub leaves_as : (s : Source) (t : Term) (before behind : List Kind) → behind ≡ leaving s t before → LeavesIs s t before behind
-leaves_as s Unbuilt before behind e = tt
+leaves_as s NoMeaning before behind e = tt
 leaves_as s t before behind e = e
 
 abbrev pub is_read : Kind → Bool
@@ -161,7 +161,7 @@ leaves_any s (QualifiedElementOf line k a ts) ks e = absurd (cc)
 leaves_any s (NamedOf j key (ForPlace value_too line)) ks e = absurd (cc)
 leaves_any s (NamedOf j key (ForValue class line)) ks e = refl
 leaves_any s (NamedOf j key (ForParameter number line)) ks e = refl
-leaves_any s Unbuilt ks e = tt
+leaves_any s NoMeaning ks e = tt
 leaves_any s x ks e = ap (λ g. given g ks) (sym e)
 
 pub read_kind : (k : Kind) → is_read k ≡ true → IsRead k
@@ -182,7 +182,7 @@ leaves_read s (QualifiedElementOf line k a ts) ks e = absurd (cc)
 leaves_read s (NamedOf j key (ForPlace value_too line)) ks e = (Named, tt, refl)
 leaves_read s (NamedOf j key (ForValue class line)) ks e = (Any, tt, refl)
 leaves_read s (NamedOf j key (ForParameter number line)) ks e = (Any, tt, refl)
-leaves_read s Unbuilt ks e = (Any, tt, tt)
+leaves_read s NoMeaning ks e = (Any, tt, tt)
 leaves_read s x ks e = (Any, tt, ap (λ g. given g ks) (sym e))
 
 -- the kind of what is left, where that can be read

@@ -22,7 +22,7 @@ use Rattle.sim_code.specs.declared.instr.Instr.TheVariants as i
 use Rattle.sim_code.specs.Code.{CodeOf}
 use Rattle.sim_code.specs.Machine.{Frames}
 use Rattle.sim_meaning.specs.Attributes.{connection_at, declared_attribute}
-use Rattle.sim_meaning.specs.Closing.{by_name, class_of_formal, formal_by_name, left_named as left_held, left_plain, name_denoted, name_term, named_formal, named_text, reference_left, type_of_formal, Left, LeftAddress, LeftCell, LeftNamed, LeftReference, LeftText, LeftUnbuilt, array_left, close, close_all, close_left, close_left_of, close_place, declared_left, formal_left, home_of, in_instance, is_text, left_found, left_in, left_variable, named_left, reference_place, result_left, result_meant, result_or, variable_left, match_left, own_match, named_array_left, named_array_place}
+use Rattle.sim_meaning.specs.Closing.{by_name, class_of_formal, formal_by_name, left_named as left_held, left_plain, name_denoted, name_term, named_formal, named_text, reference_left, type_of_formal, Left, LeftAddress, LeftCell, LeftNamed, LeftReference, LeftText, NoLeftSide, array_left, close, close_all, close_left, close_left_of, close_place, declared_left, formal_left, home_of, in_instance, is_text, left_found, left_in, left_variable, named_left, reference_place, result_left, result_meant, result_or, variable_left, match_left, own_match, named_array_left, named_array_place}
 use Rattle.sim_meaning.specs.Pending.{Cell, Declared, Do, ElementOf, Eval, ForPlace, Instances, Item, NamedOf, Result, ShareOp, StoreOp, Target, Term, ToAddress, ToCell, ValueAt}
 use Rattle.sim_meaning.specs.Pending as meaning
 use Rattle.sim_meaning.specs.Statements.{Lefts, assigning, before, lefts}
@@ -30,7 +30,7 @@ use Rattle.codegen_expr.specs.Sites.{At, HasCell, Inside, Is, Site, Varies, fram
 use Rattle.codegen_expr.specs.CodeExpr.{ByNameAt, ElementAt, ExprAt, ExprsAt, PlaceAt, ReferencePlaceAt, ConnectedAt, DeclaredPlaceAt, FormalPlaceAt, NamedArrayPlaceAt, NamedPlaceAt, PlaceBehindAt, ThroughAt}
 use Rattle.codegen.specs.Agrees.{Agrees}
 use Rattle.sim_meaning.specs.Virtuals.{text_of_procedure}
-use Rattle.codegen.specs.CodeLeft.{AtAddress, AtAttribute, GivesAt, GoesAt, InCell, LeftsAt, NotBuilt, ResultAt, SharesAt, StoreAt, Stored, ToNamed, ToNamedReference, ToNamedText, ToReference, ToResult, ToText, below, each_stored, stored, stored_by_sign, stored_held, stored_named_by, stored_or_named, stored_declared, stored_element, stored_formal, stored_found, stored_left, stored_named, stored_of, stored_result, stored_text, stored_variable, stored_match, stored_anew}
+use Rattle.codegen.specs.CodeLeft.{AtAddress, AtAttribute, GivesAt, GoesAt, InCell, LeftsAt, NoPlace, ResultAt, SharesAt, StoreAt, Stored, ToNamed, ToNamedReference, ToNamedText, ToReference, ToResult, ToText, below, each_stored, stored, stored_by_sign, stored_held, stored_named_by, stored_or_named, stored_declared, stored_element, stored_formal, stored_found, stored_left, stored_named, stored_of, stored_result, stored_text, stored_variable, stored_match, stored_anew}
 use Rattle.sim_relate.proofs.ClassNames.{qualification_classed}
 use Rattle.sim_relate.proofs.ClosedNames.{used_at, named_element_at}
 use Rattle.sim_relate.proofs.Closing.{close_all_at, close_at, count_close, place_at, reference_at}
@@ -112,7 +112,7 @@ module _ (s : Source) (code : CodeOf) (m : Instances) (inst t : ℕ) (b : Runs) 
   LeftFits (ToNamed d line) x = (n p q : ℕ) → ByNameAt s code site n d NoMore (ForPlace false line) p q → PlaceFound n p q x
   LeftFits (ToNamedText d line) x = (n p q z : ℕ) → ByNameAt s code site n d NoMore (ForPlace false line) p z → Is code i.Fetch z q → (y : Term) × (x ≡ LeftText line y) × OperandAt s code m inst site n y p q
   LeftFits (ToNamedReference d class line) x = (n p q : ℕ) → ByNameAt s code site n d NoMore (ForPlace false line) p q → NamedReference class line n p q x
-  LeftFits NotBuilt x = Unit {0}
+  LeftFits NoPlace x = Unit {0}
 
   left_cell : (d : DeclNo) (es : Expressions) → Varies s d → LeftFits (stored_variable s d es) (variable_left s m inst d es)
   unfolding home_of
@@ -196,7 +196,7 @@ module _ (s : Source) (code : CodeOf) (m : Instances) (inst t : ℕ) (b : Runs) 
       left_by (connection_at s name.token.0) whole (stored_match (text_of_procedure s (own_match s whole)) (stored_named s whole (denoted s name.token.0) es line)) (match_left s m inst (text_of_procedure s (own_match s whole)) (named_left s m inst line (denoted s name.token.0) es)) (λ none.
       left_match (text_of_procedure s (own_match s whole)) (stored_named s whole (denoted s name.token.0) es line) (named_left s m inst line (denoted s name.token.0) es) (left_named (denoted s name.token.0) whole es line (λ n p q a.
       subst (λ o. ThroughAt o (λ k. PlaceBehindAt s code line 0 (denoted s name.token.0) es (ConnectedAt s code site n k) (ExprsAt s code site (suc n) es)) (NamedPlaceAt s code site n line 0 (denoted s name.token.0) es (ExprsAt s code site (suc n) es)) p q) none a)))
-  left_at (syntax.Dot token x name es) = left_by (declared_attribute (denoted s name.token.0)) (syntax.Dot token x name es) NotBuilt LeftUnbuilt (λ none. tt)
+  left_at (syntax.Dot token x name es) = left_by (declared_attribute (denoted s name.token.0)) (syntax.Dot token x name es) NoPlace NoLeftSide (λ none. tt)
   left_at (syntax.If token c x y) = tt
   left_at (syntax.Binary op token x y) = tt
   left_at (syntax.Not token x) = tt
@@ -443,7 +443,7 @@ module _ (s : Source) (code : CodeOf) (m : Instances) (inst t : ℕ) (b : Runs) 
         let f = fit (length ks) p a.0 a.1 in
         let x = f.found in
         held_left (ToNamedReference d class line) v Named (NamedOf x.instance x.key (ForPlace false line)) (meaning.ToNamed class line) xs o End ks p a.0 q (to_named_reference f.is_class) (λ r. ap (λ z. before z (Some r)) (f.is ∙ ap (LeftNamed class line) x.is)) x.place refl (rec (Named ∷ ks) a.0 a.2)
-    one_left NotBuilt v xs o End ks p q fit rec a = absurd a
+    one_left NoPlace v xs o End ks p q fit rec a = absurd a
 
     pub lefts_at : (es : List LeftSide) (End : ℕ → ℕ → ℕ → Type 0) (ks : List Kind) (p q : ℕ) → LeftsAt s code site (length ks) (each_stored s es) End p q → LeftsAre (each_stored s es) (lefts s m inst es) End ks p q
     lefts_at [] End ks p q a = record { found = record { work = []; targets = [] }; is = refl; kinds = []; fit = no_fit; y = p; ends = a; works = λ w z. z }

@@ -43,7 +43,7 @@ use Rattle.codegen_expr.specs.CodeExpr.{ExprAt, PlaceAt, ConnectedAt, ExprsAt, N
 use Rattle.codegen.specs.Agrees.{Agrees}
 use Rattle.codegen.specs.CodeFor.{OfCell, OfPlace, OfReference, PutsAt, TakesValues, variable_of, variable_stored, ElementsAt, ForAt, ListAt, LoadsVariable, OneElementAt, SharedAt, StoresVariable, Variable, is_empty, GivesVariable, assigned_by}
 use Rattle.sim_meaning.specs.Virtuals.{text_of_procedure}
-use Rattle.codegen.specs.CodeLeft.{ToNamed, ToNamedReference, ToNamedText, AtAddress, AtAttribute, InCell, NotBuilt, Stored, ToReference, ToResult, ToText, stored_declared, stored_element, stored_formal, stored_found, stored_left, stored_match, stored_named, stored_result, stored_variable}
+use Rattle.codegen.specs.CodeLeft.{ToNamed, ToNamedReference, ToNamedText, AtAddress, AtAttribute, InCell, NoPlace, Stored, ToReference, ToResult, ToText, stored_declared, stored_element, stored_formal, stored_found, stored_left, stored_match, stored_named, stored_result, stored_variable}
 use Rattle.codegen.specs.CodeStm.{StmAt}
 use Rattle.sim_relate.proofs.Closing.{place_at, reference_at}
 use Rattle.sim_relate.proofs.Frames.{same_frame}
@@ -467,7 +467,7 @@ module _ (s : Source) (code : CodeOf) (l : Limits) (agrees : Agrees s) (o : Worl
     looped_stored (ToNamed d line) v n fit h = absurd h
     looped_stored (ToNamedText d line) v n fit h = absurd h
     looped_stored (ToNamedReference d class line) v n fit h = absurd h
-    looped_stored NotBuilt v n fit h = absurd h
+    looped_stored NoPlace v n fit h = absurd h
 
     looped_found : (c : Option ℕ) (x : Expression) (st : Stored) (v : Left) → NoAttribute st → (c ≡ None → LeftFits s code m inst t b u agrees reaching_here st v) → ForAt s code (site_at t b u) (length ks) (variable_stored (stored_found c x st) by) (is_empty a) es (λ site. StmAt s code site (length ks) a) y q → Loops (left_found c (close_place s m inst x) v)
     looped_found None x st v n fit h = looped_stored st v n (fit refl) h

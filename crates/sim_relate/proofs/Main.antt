@@ -15,7 +15,7 @@ use Rattle.sim_code.specs.Machine as machine
 use Rattle.sim_code.specs.Rows.{mstep, on_top}
 use Rattle.sim_code.proofs.Simulation.{Alike, unruled}
 use Rattle.sim_meaning.specs.Meaning.{do_op, has_result, step}
-use Rattle.sim_meaning.specs.Pending.{Activation, ActualOf, AgainOp, ArrayOp, AttributeOf, AttributeOp, BackOp, BranchOp, CallOf, CallOp, Cell, ChooseOp, Configuration, ConnectOp, CopyOf, CopyOp, DeclareOp, Do, DropOp, Either, ElementOf, ElementOp, ElementsOp, EndBlock, EndLevel, EndObject, EndPrefixed, EndProcedure, EndProgram, EnterOp, Eval, Exec, Execs, FetchOp, FitsOf, FitsOp, GiveOp, Given, IfOp, ImageOf, Instances, Item, JoinOp, Joined, KeepOp, KeptOf, MemberOf, MemberOp, NewOf, NewOp, NotNoneOf, NotNoneOp, ObjectOp, One, OneOp, Op, PastOp, PlaceOf, PrefixedOp, QuaOf, QuaOp, QualifiedElementOf, QualifiedElementOp, QualifiedPlaceOf, RaiseOp, ReferOp, RemoteCallOf, SetOf, SelfOp, SetOp, ShareOp, StandardOf, StandardOp, StepOp, StepTestOp, StoreOp, SwapOp, Target, Term, Terms, TestOp, ToAddress, ToCell, ToPlace, ToReference, ToReferenceAt, ToText, ToTextAt, ToTextOf, TransferOf, TransferOp, Two, TwoOp, Unbuilt, Val, ValueAt, WhenOp, WhileElementOp, ActivateOp, BlockOp, ProcessOf, ProcessOp, SimulationOf, SimulationOp, VirtualOp, CheckOp, CallValueOp, CloseOp, EndEvaluation, NamedOf, NamedOp, ToNamed, CheckedOf, MatchOf, OriginOf, OriginOp, ParameterOp, ProcedureOf, ProcedureOp, RemoteProcedureOf}
+use Rattle.sim_meaning.specs.Pending.{Activation, ActualOf, AgainOp, ArrayOp, AttributeOf, AttributeOp, BackOp, BranchOp, CallOf, CallOp, Cell, ChooseOp, Configuration, ConnectOp, CopyOf, CopyOp, DeclareOp, Do, DropOp, Either, ElementOf, ElementOp, ElementsOp, EndBlock, EndLevel, EndObject, EndPrefixed, EndProcedure, EndProgram, EnterOp, Eval, Exec, Execs, FetchOp, FitsOf, FitsOp, GiveOp, Given, IfOp, ImageOf, Instances, Item, JoinOp, Joined, KeepOp, KeptOf, MemberOf, MemberOp, NewOf, NewOp, NotNoneOf, NotNoneOp, ObjectOp, One, OneOp, Op, PastOp, PlaceOf, PrefixedOp, QuaOf, QuaOp, QualifiedElementOf, QualifiedElementOp, QualifiedPlaceOf, RaiseOp, ReferOp, RemoteCallOf, SetOf, SelfOp, SetOp, ShareOp, StandardOf, StandardOp, StepOp, StepTestOp, StoreOp, SwapOp, Target, Term, Terms, TestOp, ToAddress, ToCell, ToPlace, ToReference, ToReferenceAt, ToText, ToTextAt, ToTextOf, TransferOf, TransferOp, Two, TwoOp, NoMeaning, Val, ValueAt, WhenOp, WhileElementOp, ActivateOp, BlockOp, ProcessOf, ProcessOp, SimulationOf, SimulationOp, VirtualOp, CheckOp, CallValueOp, CloseOp, EndEvaluation, NamedOf, NamedOp, ToNamed, CheckedOf, MatchOf, OriginOf, OriginOp, ParameterOp, ProcedureOf, ProcedureOp, RemoteProcedureOf}
 use Rattle.sim_meaning.specs.Entries.{arrays_declared}
 use Rattle.sim_meaning.specs.Steps.{count, count_of, go, parameters}
 use Rattle.sim_meaning.specs.Sane.{AllLead, NamesOn, Sane, SaneOn}
@@ -189,7 +189,7 @@ module _ (s : Source) (code : CodeOf) (compiled : Compiled s code) (l : Limits) 
   eval_moves (SimulationOf j name ts line) a = both (simulation_link j name ts line a)
   eval_moves (ActualOf home as_procedure e) a = followed (passed.passed s code l o m inst w vals rest fs t b pc stack below ks here u q ks' low k home as_procedure e a)
   eval_moves (NamedOf j key wanted) a = quiet _ refl (stands_so _ (quiet_steps.named_opened s code m fs Below inst t b u low w pc q ks ks' k j key wanted a)) (omega arith)
-  eval_moves Unbuilt a = both unruled
+  eval_moves NoMeaning a = both unruled
 
   statement_moves : (x : Statement) → Follows (Exec x)
   statement_moves (syntax.Empty token) a = quiet _ refl (stands_so w (quiet_steps.empty_begun s code m fs Below inst t b u low w pc q ks ks' k token a)) (omega arith)

@@ -69,6 +69,7 @@ module _ (s : Source) (code : CodeOf) (coding : Compiled s code) (m : Instances)
   pub record ObjectHere (j : ℕ) : Type 0 where
     pub instance : Instance (List Held)
     pub there : slice_get m.instances j ≡ Some instance
+    pub alive : live m j ≡ Some instance
     pub levels : has_levels (text s instance.text) ≡ true
     pub frame : Instance Cells
     pub lives : live fs j ≡ Some frame
@@ -77,7 +78,7 @@ module _ (s : Source) (code : CodeOf) (coding : Compiled s code) (m : Instances)
   pub object_here : (j : ℕ) → IsObject s m j → ObjectHere j
   object_here j x =
       let y = both_found (InstanceAt s code m) (live m j) (live fs j) x.instance x.lives (live_pair s code m fs store j) in
-      record { instance = x.instance; there = (is_live_at (slice_get m.instances j) x.instance x.lives).there; levels = x.levels; frame = y.it; lives = y.is; number = (y.related).number }
+      record { instance = x.instance; there = (is_live_at (slice_get m.instances j) x.instance x.lives).there; alive = x.lives; levels = x.levels; frame = y.it; lives = y.is; number = (y.related).number }
 
   pub text_is_at : (j : ℕ) (x : ObjectHere j) → text_at m j ≡ Some x.instance.text
   text_is_at j x = ap text_in x.there

@@ -27,16 +27,16 @@ use Rattle.sim_meaning.specs.Meaning.{do_op}
 use Rattle.sim_meaning.specs.Pending.{Activation, AgainOp, Cell, Configuration, CopyOp, Do, DropOp, ElementOp, Eval, Given, IfOp, Instances, Item, Key, OneOp, Op, PastOp, Term, TwoOp, Val, array_in, cell, plain, ImageOf, PlaceOf}
 use Rattle.sim_meaning.specs.Pending as meaning
 use Rattle.sim_meaning.specs.Steps.{go}
-use Rattle.codegen_expr.specs.Sites.{Ahead, Is, slot_of}
+use Rattle.codegen_expr.specs.Sites.{Ahead, HasCell, Is, frame_text, slot_of}
 use Rattle.codegen_expr.specs.CodeExpr.{one_instr, two_instr}
-use Rattle.sim_relate.proofs.Known.{actual_at, Any, HandAt, Kind, StackAt, ValAt, anys, array_at, element_at, link_at, more_at, plain_at, site_at, IsImage, image_at, of_input, of_output, Runs, Settled, procedure_at}
+use Rattle.sim_relate.proofs.Known.{actual_at, Any, HandAt, Kind, StackAt, ValAt, anys, array_at, element_at, link_at, more_at, plain_at, site_at, IsImage, image_at, of_input, of_output, Reaches, Runs, Settled, procedure_at}
 use Rattle.sim_relate.proofs.Trees.{OperandAt, TextIs, empty, listed}
 use Rattle.sim_relate.proofs.Relation.{ChainAt, OpAt, StateAt, WorkAt}
 use Rattle.sim_relate.proofs.Hands.{hand_finding, hand_one, hand_popping, hand_truth, hand_two, stack_length}
 use Rattle.sim_relate.proofs.Here.{Here, act, at_row, goes, kinds_as, with_values}
-use Rattle.sim_relate.proofs.Living.{reached}
+use Rattle.sim_relate.proofs.Living.{found_lives, lives_now, reached}
 use Rattle.sim_relate.proofs.Pending.{anys_more, evals, pends}
-use Rattle.sim_relate.proofs.Stores.{cell_read, levels_same}
+use Rattle.sim_relate.proofs.Stores.{cell_read, cell_there, levels_same}
 use Rattle.sim_values.specs.declared.value.TextVal.{TextVal}
 use Rattle.sim_values.specs.Texts.{notext}
 use Rattle.sim_values.specs.Store.{image_at as image_of}
@@ -118,6 +118,17 @@ module _ (s : Source) (code : CodeOf) (l : Limits) (o : World) (m : Instances) (
   pub pushes : (p : World) (x : Value) (r : Run Configuration) (go : List Value → Run Machine) → length ks < b.limit → Alike R r (go (x ∷ stack)) → Alike R r (pushing b.room stack x p go)
   unfolding pushing when
   pushes p x r go lt h = chosen (λ z. Alike R r z) (nat_lt (length stack) b.room) (go (x ∷ stack)) (no_rule p) (room_is lt) h
+
+  -- a test that holds is passed
+  pub passing_test : (p : World) (c : Bool) (r : Run Configuration) (z : Run Machine) → c ≡ true → Alike R r z → Alike R r (when c p z)
+  unfolding when
+  passing_test p c r z e h = chosen (λ y. Alike R r y) c z (no_rule p) e h
+
+  -- a cell of an instance that is reached is one of its frame
+  pub cell_reached : (j u : ℕ) (key : Key) → Reaches s m inst u j → frame_text s u ≡ u → HasCell s u key → machine.has_cell fs j (slot_of s code u key) ≡ true
+  cell_reached j u key r own has =
+      let now = lives_now m j (found_lives m (level_of s u) inst j here.lives (reached s m inst u j here.lives r)) in
+      cell_there s code m fs j u key here.store r.stands now.0 now.1 own has
 
   -- jumps
   pub jumps_ahead : (p : World) (q : ℕ) (r : Run Configuration) (go : ℕ → Run Machine) → Ahead code pc q → Alike R r (go q) → Alike R r (jumping code pc (pos q) p go)
@@ -211,8 +222,9 @@ module _ (s : Source) (code : CodeOf) (l : Limits) (o : World) (m : Instances) (
         at_row s code l o fs top below _ (i.Addr (pos (level_of s c.text)) (pos (slot_of s code c.text key)) (pos 0)) c.address.is.line q c.address.is.is
         (alike_found Configuration Machine R (Unit {0}) (rows.no_class (pos 0)) tt o _ _ refl
         (at_cell o (level_of s c.text) j (slot_of s code c.text key) _ _ (reached s m inst c.text j here.lives c.reaches)
+        (passing_test o (machine.has_cell fs j (slot_of s code c.text key)) _ _ (cell_reached j c.text key c.reaches c.own c.has)
         (pushes o _ _ _ c.address.fits
-        (onward (more_at (record { instance = j; text = c.text; key = key; is_val = refl; is_value = refl; stands = c.reaches.stands; own = c.own; has = c.has; varies = c.varies; declared = c.declared }) here.values) a.1 c.address.is.is.on))))
+        (onward (more_at (record { instance = j; text = c.text; key = key; is_val = refl; is_value = refl; stands = c.reaches.stands; own = c.own; has = c.has; varies = c.varies; declared = c.declared }) here.values) a.1 c.address.is.is.on)))))
 
     image_there : (image : ℕ) → IsImage image → (x : TextVal) × (image_of o.store image ≡ Some x)
     image_there _ of_input = (o.store.sysin, refl)

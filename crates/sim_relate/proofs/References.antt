@@ -26,7 +26,7 @@ use Rattle.sim_meaning.specs.Pending.{Activation, AttributeOp, Configuration, De
 use Rattle.sim_meaning.specs.Pending as meaning
 use Rattle.sim_meaning.specs.Sane.{AllName, Names}
 use Rattle.sim_meaning.specs.Steps.{go}
-use Rattle.codegen_expr.specs.Sites.{class_number, slot_of}
+use Rattle.codegen_expr.specs.Sites.{HasCell, class_number, frame_text, slot_of}
 use Rattle.codegen.specs.Compiled.{Compiled}
 use Rattle.sim_relate.proofs.Assigns.{wrote_on}
 use Rattle.sim_relate.proofs.Admitting.{admitting_alike, number_found}
@@ -36,10 +36,10 @@ use Rattle.sim_relate.proofs.Known.{NamedAt, actual_at, named_place, named_refer
 use Rattle.sim_relate.proofs.Living.{reached}
 use Rattle.sim_relate.proofs.Operations.{IsReferred, by_name, of_class}
 use Rattle.sim_relate.proofs.ObjectsHere.{ObjectHere, class_named, in_class_same, is_of_same, main_in_same, main_is_same, named_in_same, object_here, of_text}
-use Rattle.sim_relate.proofs.Operators.{alike_indexed, at_cell, onward, pushes, same_array, same_plain}
+use Rattle.sim_relate.proofs.Operators.{alike_indexed, at_cell, cell_reached, onward, passing_test, pushes, same_array, same_plain}
 use Rattle.sim_relate.proofs.Pending.{anys_more}
 use Rattle.sim_relate.proofs.Relation.{ChainAt, Changed, OpAt, StateAt, WorkAt}
-use Rattle.sim_relate.proofs.Stores.{cell_write}
+use Rattle.sim_relate.proofs.Stores.{cell_there, cell_write}
 use Rattle.sim_relate.proofs.Trees.{AttributeIs, Classed, ConstantIs, FoundIs, ReferenceIs}
 
 module _ (s : Source) (code : CodeOf) (coding : Compiled s code) (l : Limits) (o : World) (m : Instances) (inst : ℕ) (w : List Item) (vals : List Val) (rest : List Activation) (fs : Frames) (t : ℕ) (b : Runs) (pc : ℕ) (stack : List Value) (below : List machine.Activation) (ks : List Kind) (here : Here s code m fs inst rest t b ks vals stack) (u q : ℕ) (ks' : List Kind) (low : Settled s code t b u) (k : WorkAt s code m fs (λ v. ChainAt s code m fs rest v below) inst t b u w q ks') where
@@ -265,10 +265,15 @@ module _ (s : Source) (code : CodeOf) (coding : Compiled s code) (l : Limits) (o
       at_row s code l o fs top below _ (i.Addr (pos (level_of s a.text)) (pos (slot_of s code a.text key)) (pos (class_number s code c))) a.address.is.line q a.address.is.is
       (qualified_found c z.0 _ _
       (at_cell s code l o m inst w vals rest fs t b pc stack below ks here o (level_of s a.text) j (slot_of s code a.text key) _ _ (reached s m inst a.text j here.lives a.reaches)
+      (passing_test s code l o m inst w vals rest fs t b pc stack below ks here o (machine.has_cell fs j (slot_of s code a.text key)) _ _ (cell_reached s code l o m inst w vals rest fs t b pc stack below ks here j a.text key a.reaches a.own a.has)
       (pushes s code l o m inst w vals rest fs t b pc stack below ks here o _ _ _ a.address.fits
-      (on_with (more_at (refers_cell (a.reaches).stands a.own a.has a.varies a.declared) here.values) h.1 a.address.is.is.on))))
+      (on_with (more_at (refers_cell (a.reaches).stands a.own a.has a.varies a.declared) here.values) h.1 a.address.is.is.on)))))
 
   -- ---- where attributes lie
+
+  -- the cell of an attribute is one of its object
+  attribute_there : (c : ℕ) (key : Key) (j : ℕ) → Names s m (meaning.Of (Object j)) → is_in s m c j ≡ true → frame_text s c ≡ c → HasCell s c key → machine.has_cell fs j (slot_of s code c key) ≡ true
+  attribute_there c key j n h own has = let x = object_named j n in cell_there s code m fs j c key here.store (of_text s code coding m fs here.store j c x h) x.instance x.alive own has
 
   found_located : (c : ℕ) (key : Key) (line : ℕ) → AttributeIs s code c key 0 line pc q → (left : List Kind) → ks ≡ anys 1 left → ks' ≡ Located ∷ left → Alike R (do_op s l o m inst w vals rest (AttributeOp c key None line)) (on_top code l o fs top below)
   found_located c key line a left e out = at_row s code l o fs top below _ (i.AddrR (pos (slot_of s code c key)) (pos 0)) line q (a.is)
@@ -276,7 +281,8 @@ module _ (s : Source) (code : CodeOf) (coding : Compiled s code) (l : Limits) (o
       (pops_object line left _ _ e
       (λ j vals' stack' n hs. alike_passes Configuration Machine R (is_in s m c j) o _ _
       (λ h. alike_indexed s code l o m inst w vals rest fs t b pc stack below ks here (slot_of s code c key) _ _
-      (on_with (more_at (record { instance = j; text = c; key = key; is_val = refl; is_value = refl; stands = of_text s code coding m fs here.store j c (object_named j n) h; own = a.own; has = a.has; varies = a.varies; declared = a.declared }) hs) out (a.is).on)))))
+      (passing_test s code l o m inst w vals rest fs t b pc stack below ks here o (machine.has_cell fs j (slot_of s code c key)) _ _ (attribute_there c key j n h a.own a.has)
+      (on_with (more_at (record { instance = j; text = c; key = key; is_val = refl; is_value = refl; stands = of_text s code coding m fs here.store j c (object_named j n) h; own = a.own; has = a.has; varies = a.varies; declared = a.declared }) hs) out (a.is).on))))))
 
   found_reference : (c : ℕ) (key : Key) (class line : ℕ) → ReferenceIs s code c key class line pc q → (left : List Kind) → ks ≡ anys 1 left → ks' ≡ Refers class ∷ left → Alike R (do_op s l o m inst w vals rest (AttributeOp c key (Some class) line)) (on_top code l o fs top below)
   found_reference c key class line y left e out =
@@ -286,7 +292,8 @@ module _ (s : Source) (code : CodeOf) (coding : Compiled s code) (l : Limits) (o
       (pops_object line left _ _ e
       (λ j vals' stack' n hs. alike_passes Configuration Machine R (is_in s m c j) o _ _
       (λ h. alike_indexed s code l o m inst w vals rest fs t b pc stack below ks here (slot_of s code c key) _ _
-      (on_with (more_at (refers_cell (of_text s code coding m fs here.store j c (object_named j n) h) a.own a.has a.varies a.declared) hs) out (a.is).on)))))
+      (passing_test s code l o m inst w vals rest fs t b pc stack below ks here o (machine.has_cell fs j (slot_of s code c key)) _ _ (attribute_there c key j n h a.own a.has)
+      (on_with (more_at (refers_cell (of_text s code coding m fs here.store j c (object_named j n) h) a.own a.has a.varies a.declared) hs) out (a.is).on))))))
 
   -- of a constant the object itself is left
   found_constant : (c d line : ℕ) → is_fixed s (Declared d) ≡ true → ConstantIs s code c (Declared d) line pc q → (left : List Kind) → ks ≡ anys 1 left → ks' ≡ FixedOf d ∷ left → Alike R (do_op s l o m inst w vals rest (AttributeOp c (Declared d) None line)) (on_top code l o fs top below)

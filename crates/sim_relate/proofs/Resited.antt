@@ -7,7 +7,7 @@ use Rattle.sim_values.specs.declared.value.TextVal.{TextVal}
 use Rattle.sim_values.specs.Plain.{Character, Integer, Nothing, Object, Plain, Text, Truth, MainOf}
 use Rattle.sim_code.specs.declared.instr.Instr.{Instr}
 use Rattle.sim_code.specs.Code.{CodeOf}
-use Rattle.sim_meaning.specs.Pending.{ActualOf, AttributeOf, CallOf, Cell, CopyOf, Either, ElementOf, FitsOf, Further, Given, ImageOf, Instances, Joined, KeptOf, Key, MemberOf, NamedOf, NewOf, NoTerm, NotNoneOf, One, PlaceOf, ProcessOf, QuaOf, QualifiedElementOf, QualifiedPlaceOf, RemoteCallOf, SetOf, SimulationOf, StandardOf, Term, Terms, TransferOf, Two, Unbuilt, ValueAt, OriginOf, ProcedureOf, RemoteProcedureOf, MatchOf, CheckedOf}
+use Rattle.sim_meaning.specs.Pending.{ActualOf, AttributeOf, CallOf, Cell, CopyOf, Either, ElementOf, FitsOf, Further, Given, ImageOf, Instances, Joined, KeptOf, Key, MemberOf, NamedOf, NewOf, NoTerm, NotNoneOf, One, PlaceOf, ProcessOf, QuaOf, QualifiedElementOf, QualifiedPlaceOf, RemoteCallOf, SetOf, SimulationOf, StandardOf, Term, Terms, TransferOf, Two, NoMeaning, ValueAt, OriginOf, ProcedureOf, RemoteProcedureOf, MatchOf, CheckedOf}
 use Rattle.sim_meaning.specs.Checks.{passed}
 use Rattle.sim_meaning.specs.Texts.{constant_of}
 use Rattle.codegen_expr.specs.Sites.{Pushes, Site}
@@ -207,7 +207,7 @@ module _ (s : Source) (code : CodeOf) (m : Instances) (inst : ℕ) (site : Site)
         let z = a.thunk in
         record { was = a.was; here = a.here; thunk = record { z = z.z; number = z.number; past = past_sited a.was z.number (λ inner u v. ActualCode s code inner as_procedure x u v) p z.z z.past; thunk = pushed n _ z.z q z.thunk } }
     term_sited n (NamedOf j key wanted) p q a = record { text = a.text; use_is = a.use_is; fits = a.fits; reaches = a.reaches; own = a.own; has = a.has; varies = a.varies; classed = a.classed; is_use = a.is_use }
-    term_sited n Unbuilt p q a = a
+    term_sited n NoMeaning p q a = a
 
     terms_sited : (n : ℕ) (xs : Terms) (p q : ℕ) → TermsAt s code m inst site n xs p q → TermsAt s code m inst other n xs p q
     terms_sited n NoTerm p q a = a

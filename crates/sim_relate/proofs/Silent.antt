@@ -23,7 +23,7 @@ use Rattle.sim_relate.proofs.Here.{act}
 use Rattle.sim_relate.proofs.Known.{Runs, IsReference}
 use Rattle.sim_relate.proofs.Operators.{chosen, is_instr}
 use Rattle.sim_relate.proofs.Ranked.{Catches, InEach, Meets, first, meets}
-use Rattle.sim_relate.proofs.Straight.{RowIs, cell_on, found, pushes_on, step_at}
+use Rattle.sim_relate.proofs.Straight.{RowIs, cell_on, found, pushes_on, step_at, tested}
 use Rattle.sim_relate.proofs.Straight as straight
 
 -- a jump forward
@@ -48,9 +48,9 @@ module _ (code : CodeOf) (l : Limits) (inst : ℕ) (runs : Runs) (below : List m
     abbrev pub Row : Instr → (pc : ℕ) → World → List Value → Frames → Run Machine → Type 0
     Row x pc o stack fs z = RowIs code l line inst runs below x pc o stack fs z
 
-    pub addr_row : (fs : Frames) (o : World) (pc : ℕ) (stack : List Value) (z c class n : ℕ) → class ≡ suc n → classes.class_named code (pos class) ≡ Some class → at_level fs z inst ≡ Some inst → length stack < runs.room → Row (i.Addr (pos z) (pos c) (pos class)) pc o stack fs (Going o (place_at (suc pc) (Address (CellPlace inst c class) ∷ stack) fs))
-    addr_row fs o pc stack z c class n e named at lt =
-        qualified_is code class n e named o _ ∙ cell_on code l line inst runs below fs o pc stack z c _ _ at (pushes_on code l line inst runs below o stack (Address (CellPlace inst c class)) _ _ lt refl)
+    pub addr_row : (fs : Frames) (o : World) (pc : ℕ) (stack : List Value) (z c class n : ℕ) → class ≡ suc n → classes.class_named code (pos class) ≡ Some class → at_level fs z inst ≡ Some inst → machine.has_cell fs inst c ≡ true → length stack < runs.room → Row (i.Addr (pos z) (pos c) (pos class)) pc o stack fs (Going o (place_at (suc pc) (Address (CellPlace inst c class) ∷ stack) fs))
+    addr_row fs o pc stack z c class n e named at there lt =
+        qualified_is code class n e named o _ ∙ cell_on code l line inst runs below fs o pc stack z c _ _ at (tested (machine.has_cell fs inst c) o _ _ there (pushes_on code l line inst runs below o stack (Address (CellPlace inst c class)) _ _ lt refl))
 
     pub swap_row : (fs : Frames) (o : World) (pc : ℕ) (v x : Value) (stack : List Value) → Row i.Swap pc o (v ∷ x ∷ stack) fs (Going o (place_at (suc pc) (x ∷ v ∷ stack) fs))
     unfolding popping

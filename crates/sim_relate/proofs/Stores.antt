@@ -550,6 +550,18 @@ module _ (s : Source) (code : CodeOf) (m : Instances) where
 
 -- ---- both stores read and written
 
+-- a cell that can be written is there
+there_in : (fs fs' : Frames) (j c : ℕ) (v : Value) (x : Option (Instance Cells)) → cells_put fs j x (machine.put_in (cells_of_live x) c v) ≡ Some fs' → machine.has_cell_in (cells_of_live x) c ≡ true
+there_in fs fs' j c v None e = absurd (cc (e))
+there_in fs fs' j c v (Some x) e = by (nat_lt c (length x.cells)) e
+  where
+    by : (b : Bool) → cells_put fs j (Some x) (if b then Some (slice_set x.cells c (Some v)) else None) ≡ Some fs' → b ≡ true
+    by true e = refl
+    by false e = absurd (cc (e))
+
+pub set_there : (fs fs' : Frames) (j c : ℕ) (v : Value) → machine.cell_set fs j c v ≡ Some fs' → machine.has_cell fs j c ≡ true
+set_there fs fs' j c v e = there_in fs fs' j c v (live fs j) e
+
 module _ (s : Source) (code : CodeOf) where
   pub unchanged : (m : Instances) (fs : Frames) → StoreAt s code m fs → Changed s code Every m fs m fs
   unchanged m fs a = record { store = a; later = later_itself s m; keeps = record { temps = λ j t c b of st found temp. refl }; standings = refl; frame_standings = refl; as_many = refl }
@@ -575,6 +587,13 @@ module _ (s : Source) (code : CodeOf) where
 
   pub cell_read : (m : Instances) (fs : Frames) (j u : ℕ) (key : Key) → StoreAt s code m fs → Stands s m j u → frame_text s u ≡ u → HasCell s u key → is_fixed s key ≡ false → Both (ValAt s code m) (meaning.cell m j key) (machine.cell fs j (slot_of s code u key))
   cell_read m fs j u key a st own has varies = cell_here_read s code m fs a j u key st own has varies
+
+  -- a cell of an instance that lives is one of its frame
+  pub cell_there : (m : Instances) (fs : Frames) (j u : ℕ) (key : Key) → StoreAt s code m fs → Stands s m j u → (x : Instance (List Held)) → live m j ≡ Some x → frame_text s u ≡ u → HasCell s u key → machine.has_cell fs j (slot_of s code u key) ≡ true
+  cell_there m fs j u key a st x lives own has =
+      let f = framed s code m fs a st x lives in
+      let slot = slot_of s code u key in
+      ap (λ z. machine.has_cell_in (cells_of_live z) slot) f.frame_lives ∙ less_true slot (length f.frame.cells) (slot_fits s code m fs a j u key f (level_is s code m fs a j u f own) has)
 
   pub constant_read : (m : Instances) (fs : Frames) (j u : ℕ) (key : Key) → StoreAt s code m fs → Stands s m j u → frame_text s u ≡ u → HasCell s u key → is_fixed s key ≡ true → (meaning.cell m j key ≡ None) ⊎ (meaning.cell m j key ≡ fixed_value s key)
   constant_read m fs j u key a st own has fixed = fixed_read s code m fs a j u key st own has fixed

@@ -19,7 +19,7 @@ use Rattle.sim_code.specs.Sets.{is_set_name, parameter_count}
 use Rattle.sim_code.specs.Simulations.{actual_count, is_process_name, is_simulation_name}
 use Rattle.sim_code.specs.Transfers.{Calling, Detaching, Resuming, Transfer}
 use Rattle.sim_meaning.specs.Levels.{is_class}
-use Rattle.sim_meaning.specs.Pending.{ActualOf, AttributeOf, CallOf, Cell, CheckedOf, CopyOf, Either, ElementOf, FitsOf, ForValue, Further, Given, ImageOf, Instances, Joined, KeptOf, Key, MatchOf, MemberOf, NamedOf, NewOf, NoTerm, NotNoneOf, One, Origin, OriginOf, PlaceOf, ProcedureOf, ProcessOf, QuaOf, QualifiedElementOf, QualifiedPlaceOf, RemoteCallOf, RemoteProcedureOf, SetOf, SimulationOf, StandardOf, Term, Terms, TransferOf, Two, Unbuilt, Use, ValueAt, ForParameter}
+use Rattle.sim_meaning.specs.Pending.{ActualOf, AttributeOf, CallOf, Cell, CheckedOf, CopyOf, Either, ElementOf, FitsOf, ForValue, Further, Given, ImageOf, Instances, Joined, KeptOf, Key, MatchOf, MemberOf, NamedOf, NewOf, NoTerm, NotNoneOf, One, Origin, OriginOf, PlaceOf, ProcedureOf, ProcessOf, QuaOf, QualifiedElementOf, QualifiedPlaceOf, RemoteCallOf, RemoteProcedureOf, SetOf, SimulationOf, StandardOf, Term, Terms, TransferOf, Two, NoMeaning, Use, ValueAt, ForParameter}
 use Rattle.sim_meaning.specs.Entries.{formals_of}
 use Rattle.sim_meaning.specs.Checks.{passed}
 use Rattle.sim_meaning.specs.Steps.{count, count_of}
@@ -340,7 +340,7 @@ module _ (s : Source) (code : CodeOf) where
     TermAt m inst site n (CheckedOf a leaves home es line) p q = CheckedIs inst site n home line es (λ p q. TermAt m inst site n a p q × (gives s a ≡ true)) p q
     TermAt m inst site n (ActualOf home as_procedure e) p q = ActualIs inst site n home as_procedure e p q
     TermAt m inst site n (NamedOf j key wanted) p q = UseIs m inst site n j key wanted p q
-    TermAt m inst site n Unbuilt p q = ⊤
+    TermAt m inst site n NoMeaning p q = ⊤
 
     -- one value after the other
     pub TermsAt : Instances → (inst : ℕ) → Site → (n : ℕ) → Terms → ℕ → ℕ → Type 0

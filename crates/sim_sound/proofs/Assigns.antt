@@ -5,7 +5,7 @@ use Rattle.sim_scope.specs.Assignments.{LeftSide}
 use Rattle.sim_scope.specs.Source.{Source, line_at}
 use Rattle.sim_values.specs.declared.kind.Kind.{Kind}
 use Rattle.sim_values.specs.declared.kind.Kind.TheVariants as kind
-use Rattle.sim_meaning.specs.Closing.{Left, LeftAddress, LeftCell, LeftNamed, LeftReference, LeftText, LeftUnbuilt, close_left, is_text}
+use Rattle.sim_meaning.specs.Closing.{Left, LeftAddress, LeftCell, LeftNamed, LeftReference, LeftText, NoLeftSide, close_left, is_text}
 use Rattle.sim_meaning.specs.Pending.{Do, Eval, Instances, Item, Target, ToAddress, ToCell, ToNamed, ToReference, ToText}
 use Rattle.sim_meaning.specs.Statements.{Lefts, assigning, lefts}
 use Rattle.sim_meaning.specs.Statements as statements
@@ -79,7 +79,7 @@ module _ (s : Source) (ok : Typed s) (o : AllArrays) (m : Instances) (store : St
     shared = λ ks. shares (ToNamed c line) (f.is).targets (f.kinds (Whichever false kind.Reference ∷ ks)) ks (Whichever false kind.Reference ∷ ks) (f.shared (Whichever false kind.Reference ∷ ks)) (ap Simply a.0, refl);
     works = λ w ks h. ([], Whichever false kind.Reference ∷ ks, (Some (Whichever false kind.Reference), a.1, refl, refl), f.works w (Whichever false kind.Reference ∷ ks) h);
   }
-  before_is LeftUnbuilt es e is a f = absurd a
+  before_is NoLeftSide es e is a f = absurd a
 
   pub lefts_found : (es : List LeftSide) → LeftsAre s u es k → Found es
   lefts_found [] a = record { is = record { work = []; targets = [] }; found = refl; kinds = λ ks. ks; shared = λ ks. refl; works = λ w ks h. h }

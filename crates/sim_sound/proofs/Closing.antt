@@ -39,7 +39,7 @@ use Rattle.sim_meaning.specs.Closing.{Joining, Lazily, Negated, Plainly, Sort, a
 use Rattle.sim_meaning.specs.Constants.{text_constant}
 use Rattle.sim_meaning.specs.Entries.{formals_of}
 use Rattle.sim_meaning.specs.Levels.{class_at, has_levels, is_class, is_process_itself, qualification}
-use Rattle.sim_meaning.specs.Pending.{CheckedOf, MatchOf, NewOf, ProcedureOf, ActualOf, Cell, CallOf, Declared, ElementOf, ForPlace, ForValue, NamedOf, Use, Further, ImageOf, Instances, Key, NoTerm, PlaceOf, StandardOf, Term, Terms, Unbuilt, ValueAt, Given}
+use Rattle.sim_meaning.specs.Pending.{CheckedOf, MatchOf, NewOf, ProcedureOf, ActualOf, Cell, CallOf, Declared, ElementOf, ForPlace, ForValue, NamedOf, Use, Further, ImageOf, Instances, Key, NoTerm, PlaceOf, StandardOf, Term, Terms, NoMeaning, ValueAt, Given}
 use Rattle.sim_meaning.specs.Texts.{constant_of, is_class_free, kind_of_type, text}
 use Rattle.sim_sound.specs.Held.{ArrayOf, ByName, Fits, Holds, In, InBound, IsFixed, Place, Refers, Sees, SeesConnected, Simply, StandsAround, declared_holds, entry_holds, entry_names, formal_holds, held_by, reference_to, Procedure, ResultFits, given_by, formal_means}
 use Rattle.sim_sound.specs.Expressions.{NamedIs, FormalStands, ProcedureDeclared, ProcedureDot, ProcedureNamed, CheckedGives, FormalCalled, ParametersAre, ProcedureIs, ActualsFit, AreIntegers, AreOf, ArrayNames, BehindGives, CallGives, ConstantNames, DeclaredGives, DotGives, ExprIs, HeldNames, IdentifierGives, IsReference, KnownAt, LeftHeld, LiteralIs, NameGives, NamedGives, NewIs, ObjectHas, OfText, OwnGives, OwnKnown, OwnNameGives, SimulationGives, SimulationKnown, SortKinds, StandardGives, ThisFound, ThisIs, VariableNames}
@@ -265,7 +265,7 @@ module _ (s : Source) (ok : Typed s) (o : AllArrays) (m : Instances) (store : St
   connected_fine : (k : ℕ) (h : Holds) → is_connection (text s k) ≡ true → StandsAround s from k → Fits s (reference_to (base s.tables k)) h → Fine (connected_object s m i k) (Some (Value h))
   connected_fine k h is stands fits =
       let x = around k stands in
-      subst (λ z. Fine (if_any z (λ j. Cell j (cell_of_connection s k)) Unbuilt) (Some (Value h))) (sym x.found) (reference_to (base s.tables k), (h, fits, refl), in_connection x.near x.whole is refl refl)
+      subst (λ z. Fine (if_any z (λ j. Cell j (cell_of_connection s k)) NoMeaning) (Some (Value h))) (sym x.found) (reference_to (base s.tables k), (h, fits, refl), in_connection x.near x.whole is refl refl)
 
   connected_around : (from : Place) (k : ℕ) (d : DeclNo) → SeesConnected s from k d → StandsAround s from k
   connected_around (In t) k d a = a.around
@@ -369,7 +369,7 @@ module _ (s : Source) (ok : Typed s) (o : AllArrays) (m : Instances) (store : St
     own_tree token d e = own_term s e (block_found s m i (found_at s token)) (acts (closing.formals_at s d)) line (around_term token d)
 
     abbrev identifier_term : (token : ℕ) → Option ℕ → Option DeclNo → Option Denotation → Term
-    identifier_term token c own x = if_any c (λ k. if_any (declared_attribute x) (attribute s i line (connected_object s m i k) es ts (λ d. acts (closing.formals_at s d))) Unbuilt) (if_any own (λ d. own_tree token d (entry_of s.tables d)) (named_term s m i line x es ts acts))
+    identifier_term token c own x = if_any c (λ k. if_any (declared_attribute x) (attribute s i line (connected_object s m i k) es ts (λ d. acts (closing.formals_at s d))) NoMeaning) (if_any own (λ d. own_tree token d (entry_of s.tables d)) (named_term s m i line x es ts acts))
 
     free_entry : (d : DeclNo) → attribute_denoted s (Some (denotation.Declared d)) ≡ None → is_standard_attribute (entry_of s.tables d) ≡ false
     free_entry d e = by_flag (is_standard_attribute (entry_of s.tables d)) refl e
@@ -459,7 +459,7 @@ module _ (s : Source) (ok : Typed s) (o : AllArrays) (m : Instances) (store : St
     declared_lies d (Some _) h e other a = absurd (nothing_left (Sees s from d) es Indices h a)
 
     abbrev identifier_place : Option ℕ → Option Denotation → Term
-    identifier_place c x = if_any c (λ k. if_any (declared_attribute x) (place_of_attribute s line (connected_object s m i k) es ts) Unbuilt) (named_place s m i line x es ts)
+    identifier_place c x = if_any c (λ k. if_any (declared_attribute x) (place_of_attribute s line (connected_object s m i k) es ts) NoMeaning) (named_place s m i line x es ts)
 
     -- where what is declared lies, seen through a connection or not
     pub lies_at : (c : Option ℕ) (d : DeclNo) (h : Holds) → formal_by_name d (entry_of s.tables d) ≡ None → LeftHeld (KnownAt s from c d) es Indices (entry_names s (entry_of s.tables d)) h → Fine (identifier_place c (Some (denotation.Declared d))) (Some (AddressOf h))
@@ -622,9 +622,9 @@ module _ (s : Source) (ok : Typed s) (o : AllArrays) (m : Instances) (store : St
 
   -- where a text behind a dot lies: an image, or an attribute
   dot_lies : (line : ℕ) (a : Expression) (es : Expressions) (x : Option Denotation) → ((c : ℕ) → ExprIs s from a (Refers c) → Fine (close s m i a) (Some (Value (Refers c)))) → (AreIntegers s from es → IntegersFine s m i t todo (close_all s m i es)) → ((ks : List Kind) → AreOf s from es ks → OperandsFine s m i t todo (close_all s m i es) (value_kinds ks)) → ((fs : List Formal) → ActualsFit s from es fs → TermsFine s m i t todo (close_actuals s m i line es fs) (formal_kinds s fs)) → (is_image_behind (stream_of s a) x || is_attribute_denoted s x es) ≡ true
-      → DotGives s x (stream_of s a) (ExprIs s from a (Simply kind.Text)) (λ c. ExprIs s from a (Refers c)) es (AreIntegers s from es) (ParametersAre s from es) (λ ks. AreOf s from es ks) (λ fs. ActualsFit s from es fs) (Some (Simply kind.Text)) → (y : Kinds) × Fine (image_place (stream_of s a) (if_any (declared_attribute x) (place_of_attribute s line (close s m i a) es (close_all s m i es)) Unbuilt)) (Some y) × OperandIs kind.Text y
+      → DotGives s x (stream_of s a) (ExprIs s from a (Simply kind.Text)) (λ c. ExprIs s from a (Refers c)) es (AreIntegers s from es) (ParametersAre s from es) (λ ks. AreOf s from es ks) (λ fs. ActualsFit s from es fs) (Some (Simply kind.Text)) → (y : Kinds) × Fine (image_place (stream_of s a) (if_any (declared_attribute x) (place_of_attribute s line (close s m i a) es (close_all s m i es)) NoMeaning)) (Some y) × OperandIs kind.Text y
   dot_lies line a es None value ints ops acts v x = absurd x
-  dot_lies line a es (Some (denotation.Standard n)) value ints ops acts v x = image_place_fine (stream_of s a) Unbuilt (Some (denotation.Standard n)) (stream_is a) (or_first (is_image_behind (stream_of s a) (Some (denotation.Standard n))) false refl v)
+  dot_lies line a es (Some (denotation.Standard n)) value ints ops acts v x = image_place_fine (stream_of s a) NoMeaning (Some (denotation.Standard n)) (stream_is a) (or_first (is_image_behind (stream_of s a) (Some (denotation.Standard n))) false refl v)
   dot_lies line a es (Some (denotation.Declared d)) value ints ops acts v x =
       let known = known_of s (ObjectHas s (λ c. ExprIs s from a (Refers c)) d) d es (AreIntegers s from es) (ParametersAre s from es) (λ fs. ActualsFit s from es fs) (entry_of s.tables d) (Some (Simply kind.Text)) x in
       let held = variable_left line es (close_all s m i es) (λ fs. close_actuals s m i line es fs) (AreIntegers s from es) (ParametersAre s from es) (λ ks. AreOf s from es ks) (λ fs. ActualsFit s from es fs) ints (λ y. y) ops acts (ObjectHas s (λ c. ExprIs s from a (Refers c)) d) d (entry_of s.tables d) (attribute_entry s (stream_of s a) d es v) x in (
@@ -706,7 +706,7 @@ module _ (s : Source) (ok : Typed s) (o : AllArrays) (m : Instances) (store : St
 
   abbrev named_other : Identifier → Expressions → Term
   named_other name es =
-      if_any (connection_at s name.token.0) (λ k. if_any (declared_attribute (denoted s name.token.0)) (attribute s i (line_at s name.token.0) (connected_object s m i k) es (close_all s m i es) (λ d. close_actuals s m i (line_at s name.token.0) es (closing.formals_at s d))) Unbuilt)
+      if_any (connection_at s name.token.0) (λ k. if_any (declared_attribute (denoted s name.token.0)) (attribute s i (line_at s name.token.0) (connected_object s m i k) es (close_all s m i es) (λ d. close_actuals s m i (line_at s name.token.0) es (closing.formals_at s d))) NoMeaning)
       (if_any (own_attribute s name.token.0) (λ d. own_term s (entry_of s.tables d) (block_found s m i (found_at s name.token.0)) (close_actuals s m i (line_at s name.token.0) es (closing.formals_at s d)) (line_at s name.token.0) (attribute s i (line_at s name.token.0) (this_term s m i (found_at s name.token.0)) es (close_all s m i es) (λ d. close_actuals s m i (line_at s name.token.0) es (closing.formals_at s d)) d))
       (named_term s m i (line_at s name.token.0) (denoted s name.token.0) es (close_all s m i es) (λ fs. close_actuals s m i (line_at s name.token.0) es fs)))
 
@@ -732,7 +732,7 @@ module _ (s : Source) (ok : Typed s) (o : AllArrays) (m : Instances) (store : St
   procedure_known Known None wanted a = absurd a
   procedure_known Known (Some _) wanted a = absurd a
 
-  named_alone : (line : ℕ) (c : Option ℕ) (x : Option Denotation) (wanted : Option SimType) → ProcedureNamed s from c x wanted → Fine (if_any c (λ k. if_any (declared_attribute x) (attribute_procedure s line (connected_object s m i k)) Unbuilt) (closing.procedure_denoted s m i line x)) (Some (Value (Procedure wanted)))
+  named_alone : (line : ℕ) (c : Option ℕ) (x : Option Denotation) (wanted : Option SimType) → ProcedureNamed s from c x wanted → Fine (if_any c (λ k. if_any (declared_attribute x) (attribute_procedure s line (connected_object s m i k)) NoMeaning) (closing.procedure_denoted s m i line x)) (Some (Value (Procedure wanted)))
   named_alone line None (Some (denotation.Declared d)) wanted a = declared_alone line d (entry_of s.tables d) wanted refl a
   named_alone line (Some k) (Some (denotation.Declared d)) wanted a =
       let b = object_seen k d (procedure_known (SeesConnected s from k d) (entry_of s.tables d) wanted a) in
@@ -742,7 +742,7 @@ module _ (s : Source) (ok : Typed s) (o : AllArrays) (m : Instances) (store : St
   named_alone line None (Some (denotation.Standard n)) wanted a = absurd a
   named_alone line (Some k) (Some (denotation.Standard n)) wanted a = absurd a
 
-  dot_alone : (line : ℕ) (a : Expression) (x : Option Denotation) (wanted : Option SimType) → ((h : Holds) → ExprIs s from a h → Fine (close s m i a) (Some (Value h))) → ProcedureDot s x (λ c. ExprIs s from a (Refers c)) wanted → Fine (if_any (declared_attribute x) (attribute_procedure s line (close s m i a)) Unbuilt) (Some (Value (Procedure wanted)))
+  dot_alone : (line : ℕ) (a : Expression) (x : Option Denotation) (wanted : Option SimType) → ((h : Holds) → ExprIs s from a h → Fine (close s m i a) (Some (Value h))) → ProcedureDot s x (λ c. ExprIs s from a (Refers c)) wanted → Fine (if_any (declared_attribute x) (attribute_procedure s line (close s m i a)) NoMeaning) (Some (Value (Procedure wanted)))
   dot_alone line a (Some (denotation.Declared d)) wanted value y =
       let known = procedure_known (ObjectHas s (λ c. ExprIs s from a (Refers c)) d) (entry_of s.tables d) wanted y in
       attribute_alone line (close s m i a) d known.0 (ObjectHas s (λ c. ExprIs s from a (Refers c)) d) wanted known.1 known.2 (value (Refers known.0) known.3) y

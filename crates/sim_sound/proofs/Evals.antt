@@ -11,7 +11,7 @@ use Rattle.std.specs.Prelude.{◌+◌, if◌then◌else◌, ◌==◌}
 use Rattle.sim_meaning.specs.Attributes.{attribute_formals}
 use Rattle.sim_meaning.specs.Entries.{formals_of}
 use Rattle.sim_meaning.specs.Closing.{class_parameters}
-use Rattle.sim_meaning.specs.Pending.{Actual, ActualOf, NamedOf, NamedOp, EndBlock, EndEvaluation, EndLevel, EndObject, EndPrefixed, EndProcedure, EndProgram, evaluates, is_evaluation, owner, SetOf, SetOp, ProcessOf, ProcessOp, SimulationOf, SimulationOp, Activation, Address, AttributeOf, AttributeOp, CallOf, CallOp, Cell, cell, Configuration, CopyOf, CopyOp, Do, Either, ElementOf, ElementOp, Eval, FetchOp, FitsOf, FitsOp, Further, Given, IfOp, ImageOf, Instances, Item, Joined, JoinOp, KeepOp, KeptOf, Link, MemberOf, MemberOp, NewOf, NewOp, NoTerm, NotNoneOf, NotNoneOp, ObjectOp, Of, One, OneOp, PlaceOf, PrefixedOp, QualifiedElementOf, QualifiedElementOp, QualifiedPlaceOf, QuaOf, QuaOp, RemoteCallOf, StandardOf, StandardOp, Term, Terms, TransferOf, TransferOp, Two, TwoOp, Unbuilt, Val, ValueAt, VirtualOp, CheckOp, CallValueOp, CheckedOf, MatchOf, OriginOf, OriginOp, ProcedureOf, RemoteProcedureOf, ProcedureOp}
+use Rattle.sim_meaning.specs.Pending.{Actual, ActualOf, NamedOf, NamedOp, EndBlock, EndEvaluation, EndLevel, EndObject, EndPrefixed, EndProcedure, EndProgram, evaluates, is_evaluation, owner, SetOf, SetOp, ProcessOf, ProcessOp, SimulationOf, SimulationOp, Activation, Address, AttributeOf, AttributeOp, CallOf, CallOp, Cell, cell, Configuration, CopyOf, CopyOp, Do, Either, ElementOf, ElementOp, Eval, FetchOp, FitsOf, FitsOp, Further, Given, IfOp, ImageOf, Instances, Item, Joined, JoinOp, KeepOp, KeptOf, Link, MemberOf, MemberOp, NewOf, NewOp, NoTerm, NotNoneOf, NotNoneOp, ObjectOp, Of, One, OneOp, PlaceOf, PrefixedOp, QualifiedElementOf, QualifiedElementOp, QualifiedPlaceOf, QuaOf, QuaOp, RemoteCallOf, StandardOf, StandardOp, Term, Terms, TransferOf, TransferOp, Two, TwoOp, NoMeaning, Val, ValueAt, VirtualOp, CheckOp, CallValueOp, CheckedOf, MatchOf, OriginOf, OriginOp, ProcedureOf, RemoteProcedureOf, ProcedureOp}
 use Rattle.sim_meaning.specs.Steps.{count, each, eval, go, count_of, parameters}
 use Rattle.sim_sound.specs.Held.{ByName, ArrayOf, Refers, Simply, Procedure, Place}
 use Rattle.sim_sound.specs.Typed.{Typed}
@@ -420,4 +420,4 @@ module _ (s : Source) (o : World) (g : Marks) (long : length g.sights ≡ length
       (subst (λ z. Work w todo (given z ks)) (sym a.3) work)
   eval_goes ok (NamedOf e key wanted) r w vals todo ks b h a work =
       goes_on (Do (NamedOp e key wanted) ∷ w) vals todo ks b h (todo, a.1 ∷ ks, (a.0, a.1, a.2, a.4, refl, refl), subst (λ z. Work w todo (given z ks)) (sym a.3) work)
-  eval_goes ok Unbuilt r w vals todo ks b h a work = absurd a
+  eval_goes ok NoMeaning r w vals todo ks b h a work = absurd a

@@ -11,7 +11,7 @@ use Rattle.sim_values.specs.Plain.{Character, Integer, MainOf, Nothing, Object, 
 use Rattle.sim_code.specs.Instances.{CellPlace, ElementPlace, ImagePlace, Instance, ends_in, live, unless_given}
 use Rattle.sim_code.specs.Instances as instances
 use Rattle.sim_tree.specs.Syntax.{Expression}
-use Rattle.sim_meaning.specs.Pending.{Actual, ActualOf, CloseOp, EndEvaluation, NamedOf, NamedOp, ToNamed, evaluates, owner, SetOf, Activation, Address, ArrayValue, AttributeOf, BackOp, BlockOp, BranchOp, CallOf, Cell, ChooseOp, ConnectOp, CopyOf, Declared, Do, Either, ElementOf, ElementsOp, EndBlock, EndLevel, EndObject, EndPrefixed, EndProcedure, EndProgram, EnterOp, Eval, Exec, Execs, FitsOf, Further, Given, GiveOp, Held, IfOp, ImageOf, InnerOp, Instances, Item, Joined, KeptOf, Key, Level, Link, MemberOf, NewOf, NoTerm, NotNoneOf, Of, One, Op, PlaceOf, PrefixedOp, ProcedureValue, ProcessOf, QuaOf, QualifiedElementOf, QualifiedPlaceOf, RaiseOp, RemoteCallOf, ShareOp, SimulationOf, StandardOf, StepTestOp, StoreOp, Target, Term, Terms, TestOp, ToAddress, ToCell, ToPlace, ToReference, ToReferenceAt, ToText, ToTextAt, ToTextOf, TransferOf, Two, Unbuilt, Val, ValueAt, WhenOp, WhileElementOp, held, CheckOp, CheckedOf, ForParameter, ForPlace, ForValue, MatchOf, OriginOf, ParameterOp, ProcedureOf, RemoteProcedureOf, Use}
+use Rattle.sim_meaning.specs.Pending.{Actual, ActualOf, CloseOp, EndEvaluation, NamedOf, NamedOp, ToNamed, evaluates, owner, SetOf, Activation, Address, ArrayValue, AttributeOf, BackOp, BlockOp, BranchOp, CallOf, Cell, ChooseOp, ConnectOp, CopyOf, Declared, Do, Either, ElementOf, ElementsOp, EndBlock, EndLevel, EndObject, EndPrefixed, EndProcedure, EndProgram, EnterOp, Eval, Exec, Execs, FitsOf, Further, Given, GiveOp, Held, IfOp, ImageOf, InnerOp, Instances, Item, Joined, KeptOf, Key, Level, Link, MemberOf, NewOf, NoTerm, NotNoneOf, Of, One, Op, PlaceOf, PrefixedOp, ProcedureValue, ProcessOf, QuaOf, QualifiedElementOf, QualifiedPlaceOf, RaiseOp, RemoteCallOf, ShareOp, SimulationOf, StandardOf, StepTestOp, StoreOp, Target, Term, Terms, TestOp, ToAddress, ToCell, ToPlace, ToReference, ToReferenceAt, ToText, ToTextAt, ToTextOf, TransferOf, Two, NoMeaning, Val, ValueAt, WhenOp, WhileElementOp, held, CheckOp, CheckedOf, ForParameter, ForPlace, ForValue, MatchOf, OriginOf, ParameterOp, ProcedureOf, RemoteProcedureOf, Use}
 use Rattle.sim_meaning.specs.Attributes.{is_connection}
 use Rattle.sim_meaning.specs.Levels.{has_levels, is_class}
 use Rattle.sim_meaning.specs.Texts.{text}
@@ -479,7 +479,7 @@ module _ (s : Source) (o : AllArrays) (m : Instances) (o' : AllArrays) (m' : Ins
       term_later todo (TransferOf z line x) g a = (a.0, term_later todo x _ a.1)
       term_later todo (ActualOf n p x) g a = (a.0, a.1, a.2, a.3, stands_later j a.1 ok a.4, a.5)
       term_later todo (NamedOf n key wanted) g a = (a.0, a.1, a.2, a.3, read_later todo n key (ByName a.0) a.4)
-      term_later todo Unbuilt g a = absurd a
+      term_later todo NoMeaning g a = absurd a
 
       pub integers_later : (todo : List DeclNo) (ts : Terms) → IntegersFine s m j t todo ts → IntegersFine s m' j t todo ts
       integers_later todo NoTerm a = a

@@ -24,7 +24,7 @@ use Rattle.sim_values.specs.declared.kind.Kind.TheVariants as kind
 use Rattle.sim_code.specs.Instances.{at_level}
 use Rattle.sim_meaning.specs.Attributes.{connection_at, declared_attribute, qualified, qualified_place}
 use Rattle.sim_meaning.specs.Closing as closing
-use Rattle.sim_meaning.specs.Closing.{Left, LeftAddress, LeftCell, LeftNamed as NamedLeft, LeftReference, LeftText, LeftUnbuilt, array_left, block_if, by_name, class_of_formal, close, close_all, close_left_of, close_place, declared_left, formal_by_name, formal_left, home_of, in_instance, is_virtual_denoted, left_found, left_in, left_plain, left_variable, match_if_virtual, match_left, name_denoted, name_term, named_formal, named_left, named_text, own_block, own_block_denoted, own_match, own_result, reference_left, reference_place, result_left, result_meant, result_or, result_or_own, result_place, unless_connected, variable_left, named_array_left}
+use Rattle.sim_meaning.specs.Closing.{Left, LeftAddress, LeftCell, LeftNamed as NamedLeft, LeftReference, LeftText, NoLeftSide, array_left, block_if, by_name, class_of_formal, close, close_all, close_left_of, close_place, declared_left, formal_by_name, formal_left, home_of, in_instance, is_virtual_denoted, left_found, left_in, left_plain, left_variable, match_if_virtual, match_left, name_denoted, name_term, named_formal, named_left, named_text, own_block, own_block_denoted, own_match, own_result, reference_left, reference_place, result_left, result_meant, result_or, result_or_own, result_place, unless_connected, variable_left, named_array_left}
 use Rattle.sim_meaning.specs.Levels.{has_levels, qualification}
 use Rattle.sim_meaning.specs.Pending.{Cell, Declared, ElementOf, ForPlace, Instances, PlaceOf, Result, ValueAt, ForValue, NamedOf}
 use Rattle.sim_meaning.specs.Texts.{ProcedureText, kind_of_type, text}
@@ -49,7 +49,7 @@ module _ (s : Source) (ok : Typed s) (o : AllArrays) (m : Instances) (store : St
   LeftFine (LeftText line x) k = (k ≡ kind.Text) × TermFine s m i t [] x (simple kind.Text)
   LeftFine (LeftReference line x) k = (k ≡ kind.Reference) × (c : ℕ) × TermFine s m i t [] x (Some (ReferenceAddress c))
   LeftFine (NamedLeft c line x) k = (k ≡ kind.Reference) × TermFine s m i t [] x (Some (Whichever false kind.Reference))
-  LeftFine LeftUnbuilt k = ⊥
+  LeftFine NoLeftSide k = ⊥
 
   -- a left side that is no parameter by name
   abbrev pub PlainLeft : Left → Kind → Type 0
@@ -221,7 +221,7 @@ module _ (s : Source) (ok : Typed s) (o : AllArrays) (m : Instances) (store : St
   variable_fine (syntax.Named name es) k other a = left_or name es (connection_at s name.token.0) (text_of_procedure s (own_match s (syntax.Named name es))) k refl other refl a
   variable_fine (syntax.Dot token a name es) k other l =
       let x = dot_place token a name es (denoted s name.token.0) (Simply k) refl l in
-      subst (λ z. PlainLeft (left_found (declared_attribute z) (close_place s m i (syntax.Dot token a name es)) LeftUnbuilt) k) (sym x.1) x.2
+      subst (λ z. PlainLeft (left_found (declared_attribute z) (close_place s m i (syntax.Dot token a name es)) NoLeftSide) k) (sym x.1) x.2
   variable_fine _ k other a = absurd a
 
   -- ---- results as texts and references

@@ -22,7 +22,7 @@ use Rattle.sim_meaning.specs.Attributes.{attribute_place, connected_object, conn
 use Rattle.sim_meaning.specs.Closing.{array_place, by_name, close, close_actual, close_actual_by, close_all, close_passed, close_place, declared_place, named_array_place, has_operands, is_attribute_denoted, is_variable_entry, is_variable_formal, named_formal, formal_by_name, formal_place, home_of, image_place, in_instance, is_placed, name_denoted, name_term, named_place, qualified_if, stream_of, type_of_formal, typed_token, variable_place}
 use Rattle.sim_meaning.specs.Levels.{qualification}
 use Rattle.sim_values.specs.Standard.{row_of}
-use Rattle.sim_meaning.specs.Pending.{ActualOf, ForPlace, ForValue, NamedOf, Use, SetOf, ProcessOf, SimulationOf, AttributeOf, CallOf, Cell, CopyOf, Declared, Either, ElementOf, FitsOf, Given, ImageOf, Instances, Joined, KeptOf, MemberOf, NewOf, NoTerm, NotNoneOf, One, PlaceOf, QualifiedElementOf, QualifiedPlaceOf, QuaOf, RemoteCallOf, StandardOf, Term, Terms, TransferOf, Two, Unbuilt, ValueAt, CheckedOf, ForParameter, MatchOf, OriginOf, ProcedureOf, RemoteProcedureOf}
+use Rattle.sim_meaning.specs.Pending.{ActualOf, ForPlace, ForValue, NamedOf, Use, SetOf, ProcessOf, SimulationOf, AttributeOf, CallOf, Cell, CopyOf, Declared, Either, ElementOf, FitsOf, Given, ImageOf, Instances, Joined, KeptOf, MemberOf, NewOf, NoTerm, NotNoneOf, One, PlaceOf, QualifiedElementOf, QualifiedPlaceOf, QuaOf, RemoteCallOf, StandardOf, Term, Terms, TransferOf, Two, NoMeaning, ValueAt, CheckedOf, ForParameter, MatchOf, OriginOf, ProcedureOf, RemoteProcedureOf}
 use Rattle.sim_meaning.specs.Texts.{kind_of_type}
 use Rattle.sim_sound.specs.Held.{Fits, formal_means, ArrayOf, ByName, Holds, Place, Refers, Sees, Simply, entry_names, held_by, Procedure}
 use Rattle.sim_sound.specs.Expressions.{DotGives, ActualIs, ArrayNames, HeldNames, NamedIs, ParametersAre, VariableNames, ActualPassed, ActualsFit, AreIntegers, AreOf, DeclaredGives, ExprIs, IdentifierGives, KnownAt, LeftHeld, ObjectHas, PlaceDeclared, PlaceDot, PlaceIs, NamedGives, PlaceNamed, VariablePassed, some_holds, standard_kind}
@@ -115,10 +115,10 @@ image_choice (Some n) other p = tt
 
 pub place_choice : (s : Source) (m : Instances) (i : ℕ) (e : Expression) → NoChoice (close_place s m i e)
 place_choice s m i (syntax.Named name es) =
-    some_choice (connection_at s name.token.0) _ _ (λ k. some_choice (declared_attribute (denoted s name.token.0)) _ Unbuilt (λ d. entry_choice s (line_at s name.token.0) d (entry_of s.tables d) (connected_object s m i k) es (close_all s m i es)) tt)
+    some_choice (connection_at s name.token.0) _ _ (λ k. some_choice (declared_attribute (denoted s name.token.0)) _ NoMeaning (λ d. entry_choice s (line_at s name.token.0) d (entry_of s.tables d) (connected_object s m i k) es (close_all s m i es)) tt)
     (named_choice s m i (line_at s name.token.0) (denoted s name.token.0) es (close_all s m i es))
 place_choice s m i (syntax.Dot token a name es) =
-    image_choice (stream_of s a) _ (some_choice (declared_attribute (denoted s name.token.0)) _ Unbuilt (λ d. entry_choice s (line_at s name.token.0) d (entry_of s.tables d) (close s m i a) es (close_all s m i es)) tt)
+    image_choice (stream_of s a) _ (some_choice (declared_attribute (denoted s name.token.0)) _ NoMeaning (λ d. entry_choice s (line_at s name.token.0) d (entry_of s.tables d) (close s m i a) es (close_all s m i es)) tt)
 place_choice s m i _ = tt
 
 -- ---- what is declared
@@ -222,12 +222,12 @@ module _ (s : Source) (ok : Typed s) (o : AllArrays) (m : Instances) (store : St
   dot_held token a name es d h e held =
       let known = left_known s (ObjectHas s (λ c. ExprIs s from a (Refers c)) d) d es (AreIntegers s from es) (entry_names s (entry_of s.tables d)) h held in
       let fine = attribute_lies s ok o m store i t todo from at (line_at s name.token.0) es (close_all s m i es) (λ fs. NoTerm) (AreIntegers s from es) ⊥ (λ ks. ⊥) (λ fs. ⊥) (λ y. ints es y) (λ y. absurd y) (λ ks y. absurd y) (λ fs y. absurd y) (close s m i a) known.0 (ObjectHas s (λ c. ExprIs s from a (Refers c)) d) d h known.2 (expr_fine s ok o m store i t todo from at a (Refers known.0) known.3) held in
-      subst (λ z. Fine (image_place z (if_any (declared_attribute (denoted s name.token.0)) (place_of_attribute s (line_at s name.token.0) (close s m i a) es (close_all s m i es)) Unbuilt)) (Some (AddressOf h))) (sym (value_no_stream s ok o m store i t todo from at a (Refers known.0) known.3))
-      (subst (λ z. Fine (if_any (declared_attribute z) (place_of_attribute s (line_at s name.token.0) (close s m i a) es (close_all s m i es)) Unbuilt) (Some (AddressOf h))) (sym e) fine)
+      subst (λ z. Fine (image_place z (if_any (declared_attribute (denoted s name.token.0)) (place_of_attribute s (line_at s name.token.0) (close s m i a) es (close_all s m i es)) NoMeaning)) (Some (AddressOf h))) (sym (value_no_stream s ok o m store i t todo from at a (Refers known.0) known.3))
+      (subst (λ z. Fine (if_any (declared_attribute z) (place_of_attribute s (line_at s name.token.0) (close s m i a) es (close_all s m i es)) NoMeaning) (Some (AddressOf h))) (sym e) fine)
 
   abbrev place_at : Identifier → Expressions → (connection : Option ℕ) → Option Denotation → Term
   place_at name es c x =
-      if_any c (λ k. if_any (declared_attribute x) (place_of_attribute s (line_at s name.token.0) (connected_object s m i k) es (close_all s m i es)) Unbuilt)
+      if_any c (λ k. if_any (declared_attribute x) (place_of_attribute s (line_at s name.token.0) (connected_object s m i k) es (close_all s m i es)) NoMeaning)
       (named_place s m i (line_at s name.token.0) x es (close_all s m i es))
 
   placed_at : (name : Identifier) (es : Expressions) (c : Option ℕ) (x : Option Denotation) (y : Kinds) → connection_at s name.token.0 ≡ c → denoted s name.token.0 ≡ x → Fine (place_at name es c x) (Some y) → Fine (close_place s m i (syntax.Named name es)) (Some y)
@@ -362,7 +362,7 @@ module _ (s : Source) (ok : Typed s) (o : AllArrays) (m : Instances) (store : St
       (a.0, a.1, ReferenceAddress c, a.3, (same, refl), refl, a.6)
   qualified_fine c (AttributeOf k key (Some q) line x) n a = let is = a.4 in absurd (no_address q (Refers c) a.2 is.1 a.5)
   qualified_fine c (Either x y z) n a = absurd n
-  qualified_fine c Unbuilt n a = absurd a
+  qualified_fine c NoMeaning n a = absurd a
   qualified_fine c (Given p) n a = absurd (value_no a.0 (Refers c) a.1)
   qualified_fine c (Cell e key) n a = let y = a.1 in absurd (value_no y.0 (Refers c) y.2)
   qualified_fine c (One op line x) n a = absurd (value_no (Simply a.0) (Refers c) a.2)

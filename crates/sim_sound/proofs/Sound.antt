@@ -32,7 +32,7 @@ use Rattle.sim_meaning.specs.Attributes.{attribute_formals, cell_of_connection, 
 use Rattle.sim_meaning.specs.Closing.{by_name, class_parameters, is_placed, typed_token}
 use Rattle.sim_meaning.specs.Entries.{formals_of, numbers_of}
 use Rattle.sim_meaning.specs.Levels.{has_levels, is_class, qualification}
-use Rattle.sim_meaning.specs.Pending.{ActualOf, CheckedOf, CloseOp, ForParameter, ForPlace, ForValue, MatchOf, OriginOf, OriginOp, ParameterOp, ProcedureOf, ProcedureOp, RemoteProcedureOf, NamedOf, NamedOp, ToNamed, Use, ActivateOp, AgainOp, ArrayOp, AttributeOf, AttributeOp, BackOp, BlockOp, BranchOp, CallOf, CallOp, Cell, ChooseOp, ConnectOp, CopyOf, CopyOp, Declared, DeclareOp, DropOp, Either, ElementOf, ElementOp, ElementsOp, EndProcessOp, EnterOp, Eval, Exec, Execs, FetchOp, FitsOf, FitsOp, Further, Given, GiveOp, Held, IfOp, ImageOf, InnerOp, Instances, JoinOp, Joined, KeepOp, KeptOf, Key, Level, LevelOp, MemberOf, MemberOp, NewOf, NewOp, NoTerm, NotNoneOf, NotNoneOp, ObjectOp, One, OneOp, Op, PastOp, PlaceOf, PrefixedOp, ProcessOf, ProcessOp, QuaOf, QuaOp, QualifiedElementOf, QualifiedElementOp, QualifiedPlaceOf, RaiseOp, ReferOp, RemoteCallOf, SelfOp, SetOf, SetOp, ShareOp, SimulationOf, SimulationOp, StandardOf, StandardOp, StepOp, StepTestOp, StoreOp, SwapOp, Target, Term, Terms, TestOp, ToAddress, ToCell, ToPlace, ToReference, ToReferenceAt, ToText, ToTextAt, ToTextOf, TransferOf, TransferOp, Two, TwoOp, Unbuilt, ValueAt, WhenOp, WhileElementOp, VirtualOp, CheckOp, CallValueOp}
+use Rattle.sim_meaning.specs.Pending.{ActualOf, CheckedOf, CloseOp, ForParameter, ForPlace, ForValue, MatchOf, OriginOf, OriginOp, ParameterOp, ProcedureOf, ProcedureOp, RemoteProcedureOf, NamedOf, NamedOp, ToNamed, Use, ActivateOp, AgainOp, ArrayOp, AttributeOf, AttributeOp, BackOp, BlockOp, BranchOp, CallOf, CallOp, Cell, ChooseOp, ConnectOp, CopyOf, CopyOp, Declared, DeclareOp, DropOp, Either, ElementOf, ElementOp, ElementsOp, EndProcessOp, EnterOp, Eval, Exec, Execs, FetchOp, FitsOf, FitsOp, Further, Given, GiveOp, Held, IfOp, ImageOf, InnerOp, Instances, JoinOp, Joined, KeepOp, KeptOf, Key, Level, LevelOp, MemberOf, MemberOp, NewOf, NewOp, NoTerm, NotNoneOf, NotNoneOp, ObjectOp, One, OneOp, Op, PastOp, PlaceOf, PrefixedOp, ProcessOf, ProcessOp, QuaOf, QuaOp, QualifiedElementOf, QualifiedElementOp, QualifiedPlaceOf, RaiseOp, ReferOp, RemoteCallOf, SelfOp, SetOf, SetOp, ShareOp, SimulationOf, SimulationOp, StandardOf, StandardOp, StepOp, StepTestOp, StoreOp, SwapOp, Target, Term, Terms, TestOp, ToAddress, ToCell, ToPlace, ToReference, ToReferenceAt, ToText, ToTextAt, ToTextOf, TransferOf, TransferOp, Two, TwoOp, NoMeaning, ValueAt, WhenOp, WhileElementOp, VirtualOp, CheckOp, CallValueOp}
 use Rattle.sim_meaning.specs.Steps.{count_of}
 use Rattle.sim_meaning.specs.Texts.{BlockText, PrefixedText, StandardText, is_class_free, text}
 use Rattle.sim_sound.specs.Expressions.{ActualIs, DoneAlone, ExprIs, ParameterIs, ParametersAre, TwoKinds, some_holds, standard_kind, ProcessClassThere}
@@ -318,7 +318,7 @@ abbrev mutual
   -- parameters by name: an actual one stands for the operating instance
   TermFine s m j t todo (ActualOf home p e) g = (h : Holds) × (from : Place) × (home ≡ j) × (Some (Value (ByName h)) ≡ g) × Stands s m j from × ActualIs s from p e h
   TermFine s m j t todo (NamedOf e key wanted) g = (h : Holds) × (x : Kinds) × Gets s h wanted x × (Some x ≡ g) × CellIs s m j t todo e key (ByName h)
-  TermFine s m j t todo Unbuilt g = ⊥
+  TermFine s m j t todo NoMeaning g = ⊥
 
   pub IntegersFine : Source → Instances → (j t : ℕ) → List DeclNo → Terms → Type 0
   IntegersFine s m j t todo NoTerm = Unit {0}

@@ -31,7 +31,7 @@ use Rattle.sim_scope.specs.Source.{Source, block_around, denoted, found_at, leve
 use Rattle.sim_code.specs.Instances.{at_level, live}
 use Rattle.sim_code.specs.Transfers.{Transfer}
 use Rattle.sim_meaning.specs.Attributes.{own_attribute, connection_at, transfer_at}
-use Rattle.sim_meaning.specs.Closing.{Left, LeftAddress, LeftCell, LeftNamed, LeftReference, LeftText, LeftUnbuilt, class_parameters, close, close_parameters, close_place, declared_left, formal_left, home_of, is_text, left_found, left_in, left_variable, match_left, named_left, own_match, reference_place, stream_of}
+use Rattle.sim_meaning.specs.Closing.{Left, LeftAddress, LeftCell, LeftNamed, LeftReference, LeftText, NoLeftSide, class_parameters, close, close_parameters, close_place, declared_left, formal_left, home_of, is_text, left_found, left_in, left_variable, match_left, named_left, own_match, reference_place, stream_of}
 use Rattle.sim_meaning.specs.Levels.{has_levels, levels_inside, text_at}
 use Rattle.sim_meaning.specs.Pending.{ActivateOp, Activation, AgainOp, BackOp, BlockOp, BranchOp, ChooseOp, Configuration, ConnectOp, Do, DropOp, ElementsOp, EnterOp, Eval, Exec, Execs, InnerOp, Instances, Item, Key, Op, PrefixedOp, RaiseOp, StepOp, StepTestOp, StoreOp, Target, Term, TestOp, ToAddress, ToCell, ToNamed, ToPlace, ToReference, ToReferenceAt, ToText, ToTextAt, ToTextOf, TwoOp, Val, WhenOp, WhileElementOp}
 use Rattle.sim_meaning.specs.Statements.{activated, is_again, operand_work, simulation_home, timing, assigned, assigning, begin_of, compound, controlled, controlled_left, dropping, elements, entered_at, exec, execs, finding, first_branch, inner_begun, leaves, lefts, levels_of_instance, looping, prefix_begun, raised, reading, step_tested, while_element}
@@ -198,7 +198,7 @@ module _ (s : Source) (ok : Typed s) (l : Limits) (o : World) (marks : Marks) (l
   loop_goes false assignment.Reference line x k es a v n c f y z t' w' = absurd (n refl refl)
   loop_goes text sign line (LeftText q r) k es a v n c x y z t' w' = absurd c
   loop_goes text sign line (LeftNamed q q' r) k es a v n c x y z t' w' = absurd c
-  loop_goes text sign line LeftUnbuilt k es a v n c x y z t' w' = absurd x
+  loop_goes text sign line NoLeftSide k es a v n c x y z t' w' = absurd x
   loop_goes text sign line (LeftReference q r) k es a v n c x y z t' w' = absurd c
 
   text_apart : true ≡ false → ⊥

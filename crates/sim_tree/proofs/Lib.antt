@@ -16,10 +16,10 @@ pub mod Steps
 pub mod ProgramSyntaxLemmas
 pub mod SyntaxLemmas
 pub mod FirstTokens
-mod ReadBack
+pub mod ReadBack
 pub mod ReadExpressions
 pub mod ReadStatements
-mod ReadPrograms
+pub mod ReadPrograms
 mod NamedExpressions
 mod NamedPrograms
 mod NamingTokens

@@ -1,12 +1,13 @@
 use Rattle.std.proofs.Common.{rules, to_z, of_z, w64, ◌≡◌, ℕ, ◌∙◌, ap, sym, subst, refl}
 use Rattle.sim_values.specs.declared.value.FrameRef.{FrameRef}
-use Rattle.sim_code.specs.Machine.{Machine, Address, number, level}
+use Rattle.sim_code.specs.Events.{when}
+use Rattle.sim_code.specs.Machine.{Machine, Address, has_cell, index, level}
 use Rattle.sim_code.specs.Outcome.{Run}
 use Rattle.sim_code.specs.Rows.{pushed}
 use Rattle.object_machine.specs.Standing.{Leaves, Obeys, activation_at, below_of}
 use Rattle.object_machine.proofs.Going.{along, no_rule_in}
 use Rattle.frame_arena.specs.Frames.{Holds, Leads, SlotLeads}
-use Rattle.object_machine.proofs.Places.{Then, has_leads, no_frame, no_number, at_cell}
+use Rattle.object_machine.proofs.Places.{Then, has_leads, in_frame, no_frame, not_in_frame}
 use Rattle.object_machine.proofs.Scalars.{off}
 use Rattle.sim_code.specs.Instances.{CellPlace}
 use Rattle.object_machine.proofs.cells.plain_address.Goals as goal
@@ -17,22 +18,22 @@ returns-in_default-clause-row c l line p below now e before o m s =
     let elevel : to_z w64 (of_z w64 c.args.level) ≡ c.args.level = search rules in
     let h : Holds c.args.frames.now p.cells.items m = subst (λ v. Holds v p.cells.items m) e s.stores.frames in
     let led : Leads c.args.frames.now m c.args.regs.now.home = subst (λ v. Leads v m c.args.regs.now.home) e s.top.home in
-    let go : ℕ → ℕ → Run Machine = λ j k. pushed o m (activation_at c.args.regs.now c.args.stack.now) (below_of below) (Address (CellPlace j k 0)) in
+    let put : ℕ → ℕ → Run Machine = λ j k. pushed o m (activation_at c.args.regs.now c.args.stack.now) (below_of below) (Address (CellPlace j k 0)) in
+    let go : ℕ → ℕ → Run Machine = λ j k. when (has_cell m j k) o (put j k) in
     no_rule_in l line p p below before now _ _ _ _ o m s (no_frame m (activation_at c.args.regs.now c.args.stack.now) c.args.level c.args.cell o go (ap (λ z. level m (activation_at c.args.regs.now c.args.stack.now) z o (Then m (activation_at c.args.regs.now c.args.stack.now) c.args.level c.args.cell o go)) (sym elevel) ∙ c.in_default.ensures.row p.cells.items m (activation_at c.args.regs.now c.args.stack.now) o (Then m (activation_at c.args.regs.now c.args.stack.now) c.args.level c.args.cell o go) h led refl))
 
-pub returns-in_default-index-clause-row : goal.returns-in_default-index-clause-row
+pub returns-in_default-cell_of-clause-row : goal.returns-in_default-cell_of-clause-row
 unfolding Obeys
-returns-in_default-index-clause-row c l line p below now e before o m s =
+returns-in_default-cell_of-clause-row c l line p below now e before o m s =
     let elevel : to_z w64 (of_z w64 c.args.level) ≡ c.args.level = search rules in
     let h : Holds c.args.frames.now p.cells.items m = subst (λ v. Holds v p.cells.items m) e s.stores.frames in
     let led : Leads c.args.frames.now m c.args.regs.now.home = subst (λ v. Leads v m c.args.regs.now.home) e s.top.home in
     let ecell : to_z w64 (of_z w64 c.args.cell) ≡ c.args.cell = search rules in
-    let go : ℕ → ℕ → Run Machine = λ j k. pushed o m (activation_at c.args.regs.now c.args.stack.now) (below_of below) (Address (CellPlace j k 0)) in
-    no_rule_in l line p p below before now _ _ _ _ o m s (no_number m (activation_at c.args.regs.now c.args.stack.now) c.args.level c.args.cell o go c.in-Some.span.number (ap (λ z. level m (activation_at c.args.regs.now c.args.stack.now) z o (Then m (activation_at c.args.regs.now c.args.stack.now) c.args.level c.args.cell o go)) (sym elevel) ∙ c.in-Some.ensures.row p.cells.items m (activation_at c.args.regs.now c.args.stack.now) o (Then m (activation_at c.args.regs.now c.args.stack.now) c.args.level c.args.cell o go) h led refl) (c.in_default-index.ensures ∙ ap number ecell))
-
-pub returns-in_default-try_from-clause-row : goal.returns-in_default-try_from-clause-row
-unfolding Obeys Leaves
-returns-in_default-try_from-clause-row c l line p below now e before o m s = tt
+    let put : ℕ → ℕ → Run Machine = λ j k. pushed o m (activation_at c.args.regs.now c.args.stack.now) (below_of below) (Address (CellPlace j k 0)) in
+    let go : ℕ → ℕ → Run Machine = λ j k. when (has_cell m j k) o (put j k) in
+    no_rule_in l line p p below before now _ _ _ _ o m s (not_in_frame m (activation_at c.args.regs.now c.args.stack.now) c.args.level c.args.cell o go c.in-Some.span.number (put c.in-Some.span.number)
+    (ap (λ z. level m (activation_at c.args.regs.now c.args.stack.now) z o (Then m (activation_at c.args.regs.now c.args.stack.now) c.args.level c.args.cell o go)) (sym elevel) ∙ c.in-Some.ensures.row p.cells.items m (activation_at c.args.regs.now c.args.stack.now) o (Then m (activation_at c.args.regs.now c.args.stack.now) c.args.level c.args.cell o go) h led refl)
+    (ap (λ z. index z o (go c.in-Some.span.number)) (sym ecell) ∙ c.in_default-cell_of.ensures.row c.args.frames.now p.cells.items m o (put c.in-Some.span.number) h c.in-Some.ensures.span))
 
 pub returns-then-span-clause-row : goal.returns-then-span-clause-row
 unfolding Obeys Leaves
@@ -45,12 +46,14 @@ returns-clause-row c l line p below now e before o m s =
     let h : Holds c.args.frames.now p.cells.items m = subst (λ v. Holds v p.cells.items m) e s.stores.frames in
     let led : Leads c.args.frames.now m c.args.regs.now.home = subst (λ v. Leads v m c.args.regs.now.home) e s.top.home in
     let ecell : to_z w64 (of_z w64 c.args.cell) ≡ c.args.cell = search rules in
-    let go : ℕ → ℕ → Run Machine = λ j k. pushed o m (activation_at c.args.regs.now c.args.stack.now) (below_of below) (Address (CellPlace j k 0)) in
+    let put : ℕ → ℕ → Run Machine = λ j k. pushed o m (activation_at c.args.regs.now c.args.stack.now) (below_of below) (Address (CellPlace j k 0)) in
+    let go : ℕ → ℕ → Run Machine = λ j k. when (has_cell m j k) o (put j k) in
     let frame : FrameRef = record { frame = c.in-Some.span.region; stamp = c.in-Some.span.number } in
     let there : Leads c.args.frames.now m frame = has_leads c.args.frames.now p.cells.items m frame h c.in-Some.ensures.span.has in
-    let n : c.in-Some-index.number ≡ c.in-Ok.short = search rules in
     let v = c.cell.ensures.value in
     along l line p below before now _ _ _ _ _
-    (at_cell m (activation_at c.args.regs.now c.args.stack.now) c.args.level c.args.cell o go c.in-Some.span.number c.in-Some-index.number (ap (λ z. level m (activation_at c.args.regs.now c.args.stack.now) z o (Then m (activation_at c.args.regs.now c.args.stack.now) c.args.level c.args.cell o go)) (sym elevel) ∙ c.in-Some.ensures.row p.cells.items m (activation_at c.args.regs.now c.args.stack.now) o (Then m (activation_at c.args.regs.now c.args.stack.now) c.args.level c.args.cell o go) h led refl) (c.in-Some-index.ensures ∙ ap number ecell)
-    ∙ ap (λ k. go c.in-Some.span.number k) n ∙ ap (λ v. pushed o m (activation_at c.args.regs.now c.args.stack.now) (below_of below) v) (sym v))
+    (in_frame m (activation_at c.args.regs.now c.args.stack.now) c.args.level c.args.cell o go c.in-Some.span.number c.in-Some-cell_of.number (put c.in-Some.span.number)
+    (ap (λ z. level m (activation_at c.args.regs.now c.args.stack.now) z o (Then m (activation_at c.args.regs.now c.args.stack.now) c.args.level c.args.cell o go)) (sym elevel) ∙ c.in-Some.ensures.row p.cells.items m (activation_at c.args.regs.now c.args.stack.now) o (Then m (activation_at c.args.regs.now c.args.stack.now) c.args.level c.args.cell o go) h led refl)
+    (ap (λ z. index z o (go c.in-Some.span.number)) (sym ecell) ∙ c.in-Some-cell_of.ensures.row c.args.frames.now p.cells.items m o (put c.in-Some.span.number) h c.in-Some.ensures.span)
+    ∙ ap (λ v. pushed o m (activation_at c.args.regs.now c.args.stack.now) (below_of below) v) (sym v))
     (c.push.ensures.row l line p below before now o m s (subst (λ v. SlotLeads v m c.cell.result) (sym e) (c.cell.ensures.leads c.args.frames.now m there)) (λ names. absurd (off (sym c.cell.ensures.no_array ∙ names))))

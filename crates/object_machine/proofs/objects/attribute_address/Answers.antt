@@ -1,8 +1,8 @@
 use Rattle.std.proofs.Common.{rules, to_z, of_z, w64, ◌≡◌, ◌∷◌, ℕ, ◌∙◌, ap, sym}
 use Rattle.std.specs.Prelude.{ℤ}
-use Rattle.sim_code.specs.Events.{pop_object}
+use Rattle.sim_code.specs.Events.{pop_object, when}
 use Rattle.sim_code.specs.Instances.{CellPlace}
-use Rattle.sim_code.specs.Machine.{Address, Machine, index, on, plain}
+use Rattle.sim_code.specs.Machine.{Address, Machine, has_cell, index, on, plain}
 use Rattle.sim_code.specs.Outcome.{Run}
 use Rattle.sim_code.specs.Rows.{qualified}
 use Rattle.object_machine.specs.Standing.{Leaves, Obeys, activation_at, below_of}
@@ -11,24 +11,24 @@ use Rattle.object_machine.proofs.objects.attribute_address.Goals as goal
 
 pub returns-in-Class-clause-row : goal.returns-in-Class-clause-row
 unfolding Obeys
-returns-in-Class-clause-row c code l line p below now e before o m s =
+returns-in-Class-clause-row c code l line p below now e e2 before o m s =
     let eclass : to_z w64 (of_z w64 c.args.class) ≡ c.args.class = search rules in
     let ecell : to_z w64 (of_z w64 c.args.cell) ≡ c.args.cell = search rules in
     let a = activation_at c.args.regs.now c.args.stack.now in
-    let go : ℤ → ℕ → Run Machine = λ z q. pop_object plain line a.stack o (λ j st. index z o (λ n. on o m a (Address (CellPlace j n q) ∷ st) (below_of below))) in
+    let go : ℤ → ℕ → Run Machine = λ z q. pop_object plain line a.stack o (λ j st. index z o (λ n. when (has_cell m j n) o (on o m a (Address (CellPlace j n q) ∷ st) (below_of below)))) in
     along l line p below before now _ _ _ _ _
     (ap (λ z. qualified code z o (go c.args.cell)) (sym eclass) ∙ c.in-Class.ensures.row code e o (go c.args.cell) ∙ ap (λ z. go z c.in-Class.number) (sym ecell))
-    (c.attribute.ensures.row l line p below now before o m s)
+    (c.attribute.ensures.row l line p below now e2 before o m s)
 
 pub returns-in-NoRule-clause-row : goal.returns-in-NoRule-clause-row
 unfolding Obeys
-returns-in-NoRule-clause-row c code l line p below now e before o m s =
+returns-in-NoRule-clause-row c code l line p below now e e2 before o m s =
     let eclass : to_z w64 (of_z w64 c.args.class) ≡ c.args.class = search rules in
     let ecell : to_z w64 (of_z w64 c.args.cell) ≡ c.args.cell = search rules in
     let a = activation_at c.args.regs.now c.args.stack.now in
-    let go : ℤ → ℕ → Run Machine = λ z q. pop_object plain line a.stack o (λ j st. index z o (λ n. on o m a (Address (CellPlace j n q) ∷ st) (below_of below))) in
+    let go : ℤ → ℕ → Run Machine = λ z q. pop_object plain line a.stack o (λ j st. index z o (λ n. when (has_cell m j n) o (on o m a (Address (CellPlace j n q) ∷ st) (below_of below)))) in
     no_rule_in l line p p below before now _ _ _ _ o m s (ap (λ z. qualified code z o (go c.args.cell)) (sym eclass) ∙ c.in-NoRule.ensures.row code e o (go c.args.cell))
 
 pub returns-in-Memory-clause-row : goal.returns-in-Memory-clause-row
 unfolding Obeys Leaves
-returns-in-Memory-clause-row c code l line p below now e before o m s = tt
+returns-in-Memory-clause-row c code l line p below now e e2 before o m s = tt

@@ -12,7 +12,7 @@ pub returns-in-AddrR-clause-row : goal.returns-in-AddrR-clause-row
 returns-in-AddrR-clause-row c code line below now eb ec =
     let ecell : to_z w64 (of_z w64 c.in-AddrR.cell) ≡ c.in-AddrR.cell = search rules in
     let eclass : to_z w64 (of_z w64 c.in-AddrR.class) ≡ c.in-AddrR.class = search rules in
-    for_instr _ code c.args.limits.now line _ _ _ _ _ _ below now c.args.instr _ (c.in-AddrR.is ∙ ap (λ z. i.AddrR z c.in-AddrR.class) (sym ecell) ∙ ap (λ z. i.AddrR (to_z w64 (of_z w64 c.in-AddrR.cell)) z) (sym eclass)) (c.attribute_address.ensures.row code c.args.limits.now line c.args.storage.now below now ec)
+    for_instr _ code c.args.limits.now line _ _ _ _ _ _ below now c.args.instr _ (c.in-AddrR.is ∙ ap (λ z. i.AddrR z c.in-AddrR.class) (sym ecell) ∙ ap (λ z. i.AddrR (to_z w64 (of_z w64 c.in-AddrR.cell)) z) (sym eclass)) (c.attribute_address.ensures.row code c.args.limits.now line c.args.storage.now below now ec (sym c.deref-in-AddrR.ensures.value))
 
 pub returns-in-AddrImg-clause-row : goal.returns-in-AddrImg-clause-row
 returns-in-AddrImg-clause-row c code line below now eb ec =

@@ -11,6 +11,7 @@ use Rattle.object_machine.specs.Standing.{Stands, Stores, outside}
 use Rattle.object_machine.specs.Named.{InputEnds}
 use Rattle.object_machine.specs.Taking.{NeverTakes}
 use Rattle.object_machine.proofs.Closings.{broken_write}
+use Rattle.object_machine.specs.Placed.{IsPlaced}
 use Rattle.object_machine.proofs.Taking.{later}
 use Rattle.object_machine.proofs.Whole.{ends_after, first_going, input_still, steady_of, stops_first, stops_later}
 use Rattle.object_machine.proofs.Written.{append_nothing}
@@ -19,6 +20,10 @@ use Rattle.object_machine.proofs.running.run.Goals as goal
 pub returns-in_default-clause-ran : goal.returns-in_default-clause-ran
 unfolding RanAs
 returns-in_default-clause-ran g c input told = (0, ([], [], append_nothing (g.O.Sink.written c.args.out.now), refl))
+
+pub returns-in_default-place-clause-ran : goal.returns-in_default-place-clause-ran
+unfolding RanAs
+returns-in_default-place-clause-ran g c input told = (0, ([], [], append_nothing (g.O.Sink.written c.args.out.now), refl))
 
 pub returns-in-Stopped-clause-ran : goal.returns-in-Stopped-clause-ran
 unfolding RanAs
@@ -42,6 +47,9 @@ returns-in-Stopped-clause-ran g c input told =
 
 pub steps-stop-requires-clause-runs : goal.steps-stop-requires-clause-runs
 steps-stop-requires-clause-runs g c = subst (λ v. AllRun v) (ap (λ k. k.instrs) (sym c.code.view_is) ∙ sym c.deref-in-Started-2.ensures.value) c.requires.runs
+
+pub steps-stop-requires-clause-placed : goal.steps-stop-requires-clause-placed
+steps-stop-requires-clause-placed g c = subst (λ v. IsPlaced v c.in-Ok-place.placed) (ap (λ k. k.instrs) (sym c.code.view_is) ∙ sym c.deref-in-Started-2.ensures.value) c.in-Ok-place.ensures
 
 pub returns-in-WriteFault-clause-ran : goal.returns-in-WriteFault-clause-ran
 unfolding RanAs

@@ -156,10 +156,11 @@ returns-in-NameVal-clause-row g c s e = (
     λ code line e1 e2 e3 e4 e5 e6.
         let elevel : to_z w64 (of_z w64 c.in-NameVal.level) ≡ c.in-NameVal.level = search rules in
         let ecell : to_z w64 (of_z w64 c.in-NameVal.cell) ≡ c.in-NameVal.cell = search rules in
+        let elast : to_z w64 (of_z w64 c.in-NameVal.class) ≡ c.in-NameVal.class = search rules in
         c.without_ports-in-NameVal.ensures.row _ _ _ _ _ _ _ _ _ _ _ _ _
-        (for_instr_in _ code c.args.limits.now line _ _ _ _ _ _ _ _ _ _ c.args.instr (i.NameVal (to_z w64 (of_z w64 c.in-NameVal.level)) (to_z w64 (of_z w64 c.in-NameVal.cell)) c.in-NameVal.class)
-        (c.in-NameVal.is ∙ ap (λ z. i.NameVal z c.in-NameVal.cell c.in-NameVal.class) (sym elevel) ∙ ap (λ z. i.NameVal (to_z w64 (of_z w64 c.in-NameVal.level)) z c.in-NameVal.class) (sym ecell))
-        (c.use_name-flow.ensures.row code line (outside (g.O.Sink.written c.args.out.now) s) e6 e2)),
+        (for_instr_in _ code c.args.limits.now line _ _ _ _ _ _ _ _ _ _ c.args.instr (i.NameVal (to_z w64 (of_z w64 c.in-NameVal.level)) (to_z w64 (of_z w64 c.in-NameVal.cell)) (to_z w64 (of_z w64 c.in-NameVal.class)))
+        (c.in-NameVal.is ∙ ap (λ z. i.NameVal z c.in-NameVal.cell c.in-NameVal.class) (sym elevel) ∙ ap (λ z. i.NameVal (to_z w64 (of_z w64 c.in-NameVal.level)) z c.in-NameVal.class) (sym ecell) ∙ ap (λ z. i.NameVal (to_z w64 (of_z w64 c.in-NameVal.level)) (to_z w64 (of_z w64 c.in-NameVal.cell)) z) (sym elast))
+        (c.use_value-flow.ensures.row code line (outside (g.O.Sink.written c.args.out.now) s) e4 e6 e2)),
   ),
 )
 
@@ -178,10 +179,11 @@ returns-in-NameAddr-clause-row g c s e = (
     λ code line e1 e2 e3 e4 e5 e6.
         let elevel : to_z w64 (of_z w64 c.in-NameAddr.level) ≡ c.in-NameAddr.level = search rules in
         let ecell : to_z w64 (of_z w64 c.in-NameAddr.cell) ≡ c.in-NameAddr.cell = search rules in
+        let elast : to_z w64 (of_z w64 c.in-NameAddr.value) ≡ c.in-NameAddr.value = search rules in
         c.without_ports-in-NameAddr.ensures.row _ _ _ _ _ _ _ _ _ _ _ _ _
-        (for_instr_in _ code c.args.limits.now line _ _ _ _ _ _ _ _ _ _ c.args.instr (i.NameAddr (to_z w64 (of_z w64 c.in-NameAddr.level)) (to_z w64 (of_z w64 c.in-NameAddr.cell)) c.in-NameAddr.value)
-        (c.in-NameAddr.is ∙ ap (λ z. i.NameAddr z c.in-NameAddr.cell c.in-NameAddr.value) (sym elevel) ∙ ap (λ z. i.NameAddr (to_z w64 (of_z w64 c.in-NameAddr.level)) z c.in-NameAddr.value) (sym ecell))
-        (c.use_name-flow-in-NameAddr.ensures.row code line (outside (g.O.Sink.written c.args.out.now) s) e6 e2)),
+        (for_instr_in _ code c.args.limits.now line _ _ _ _ _ _ _ _ _ _ c.args.instr (i.NameAddr (to_z w64 (of_z w64 c.in-NameAddr.level)) (to_z w64 (of_z w64 c.in-NameAddr.cell)) (to_z w64 (of_z w64 c.in-NameAddr.value)))
+        (c.in-NameAddr.is ∙ ap (λ z. i.NameAddr z c.in-NameAddr.cell c.in-NameAddr.value) (sym elevel) ∙ ap (λ z. i.NameAddr (to_z w64 (of_z w64 c.in-NameAddr.level)) z c.in-NameAddr.value) (sym ecell) ∙ ap (λ z. i.NameAddr (to_z w64 (of_z w64 c.in-NameAddr.level)) (to_z w64 (of_z w64 c.in-NameAddr.cell)) z) (sym elast))
+        (c.use_place-flow.ensures.row code line (outside (g.O.Sink.written c.args.out.now) s) e6 e2)),
   ),
 )
 

@@ -1,0 +1,4 @@
+//! That the run of whatever code comes to an end.
+#![tactic(auto)]
+
+pub mod laws;
