@@ -15,7 +15,7 @@ use Rattle.closed_actuals.specs.Evaluations.{BeginsProgram, with_owner, began_ev
 use Rattle.sim_code.specs.Outcome.{Ended, Going, Run}
 use Rattle.sim_meaning.specs.Meaning.{step}
 use Rattle.closed_actuals.proofs.Does.{ChainDoes, first_enters}
-use Rattle.closed_actuals.proofs.Lifts.{Goes}
+use Rattle.code_finite.proofs.Lifts.{Goes}
 use Rattle.closed_actuals.proofs.Steps.{step_does}
 use Rattle.closed_actuals.proofs.Moving.{AllOn}
 use Rattle.closed_actuals.proofs.Neat.{IsWhole, Neat, WholeActivation, operator_evaluates, own_evaluates, reached_neat}
@@ -240,7 +240,7 @@ first_begins m [] d is (first_enters x {v = v} alone empty own) = record {
 first_step : (s : Source) (t : NextMoments s) → (t.now).chain ≡ [] → BeginsProgram t.now t.next
 first_step s t is = from_run (step s t.limits t.world t.now) (step_does s t.limits t.world t.now) t.goes_on
   where
-    from_run : (r : Run Configuration) → Goes (ChainDoes (t.now).memory (t.now).chain) r → r ≡ Going t.next_world t.next → BeginsProgram t.now t.next
+    from_run : (r : Run Configuration) → Goes (λ _. ChainDoes (t.now).memory (t.now).chain) r → r ≡ Going t.next_world t.next → BeginsProgram t.now t.next
     from_run (Going p d) does e = let same : d ≡ t.next = cc in subst (BeginsProgram t.now) same (first_begins (t.now).memory (t.now).chain d is does)
     from_run (Ended p q) does e = absurd (cc)
 

@@ -1,5 +1,3 @@
-mod Lifts
-mod Scheduling
 mod Does
 mod Adding
 mod Operators

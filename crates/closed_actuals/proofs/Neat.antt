@@ -13,7 +13,7 @@ use Rattle.sim_meaning.specs.Meaning.{run, step}
 use Rattle.sim_meaning.specs.Pending.{Activation, Configuration, Do, EndLevel, Instances, Item, Op, evaluates}
 use Rattle.closed_actuals.specs.Evaluations.{Adds, adds_level, adds_nothing, adds_operator}
 use Rattle.closed_actuals.proofs.Does.{ChainDoes, Does, IsOwn, ItemDoes, WorkDoes, act, attached_ends, begins, enters, first_enters, generates, gives, is_last, leaves, level_ends, operator_does, own_end, own_level, own_operator, resumed_ends, transfers, works}
-use Rattle.closed_actuals.proofs.Lifts.{Goes}
+use Rattle.code_finite.proofs.Lifts.{Goes}
 use Rattle.closed_actuals.proofs.Moving.{AllIn, AllKept, AllOn, Rooted, all_joined, kept_at, kept_more, kept_set, parts, rooted_behind, rooted_under, transfers_all}
 use Rattle.closed_actuals.proofs.Steps.{step_does}
 
@@ -133,7 +133,7 @@ module _ (s : Source) (l : Limits) where
   step_neat : (o p : World) (c d : Configuration) → Neat c → step s l o c ≡ Going p d → Neat d
   step_neat o p c d neat is = from_run (step s l o c) (step_does s l o c) is
     where
-      from_run : (r : Run Configuration) → Goes (ChainDoes c.memory c.chain) r → r ≡ Going p d → Neat d
+      from_run : (r : Run Configuration) → Goes (λ _. ChainDoes c.memory c.chain) r → r ≡ Going p d → Neat d
       from_run (Going q b) does is = let same : b ≡ d = cc in subst Neat same (chain_neat c.memory c.chain b neat does)
       from_run (Ended q e) does is = absurd (cc)
 

@@ -12,7 +12,7 @@ use Rattle.sim_code.proofs.Growing.{after_more}
 use Rattle.sim_meaning.specs.Meaning.{opening, run}
 use Rattle.sim_meaning.specs.Sane.{SaneOn, StaysSane, Lives, lives_alone, lives_inside}
 use Rattle.closed_actuals.proofs.Does.{Alike, EnteredFrom, AllLast, ChainDoes, Does, ItemDoes, WorkDoes, all_last_same, all_last_then, attached_ends, begins, enters, first_enters, generates, gives, leaves, level_ends, live_there, more_last, operator_does, resumed_ends, transfers, works}
-use Rattle.closed_actuals.proofs.Lifts.{Goes}
+use Rattle.code_finite.proofs.Lifts.{Goes}
 use Rattle.closed_actuals.proofs.Steps.{step_does}
 
 -- ---- instances last
@@ -50,7 +50,7 @@ module _ (s : Source) (l : Limits) where
   later_last zero o p c d is = let same : c ≡ d = cc in subst (λ (z : Configuration). AllLast c.memory.instances z.memory.instances) same (all_last_same c.memory.instances)
   later_last (suc k) o p c d is = by_step (step s l o c) (step_does s l o c) is (λ q b. later_last k q p b d)
     where
-      by_step : (r : Run Configuration) → Goes (ChainDoes c.memory c.chain) r → after (step s l) k r ≡ Going p d
+      by_step : (r : Run Configuration) → Goes (λ _. ChainDoes c.memory c.chain) r → after (step s l) k r ≡ Going p d
           → ((q : World) (b : Configuration) → after (step s l) k (Going q b) ≡ Going p d → AllLast b.memory.instances d.memory.instances) → AllLast c.memory.instances d.memory.instances
       by_step (Going q b) does is further = all_last_then c.memory.instances b.memory.instances d.memory.instances (chain_last c.memory c.chain b does) (further q b is)
       by_step (Ended q e) does is further = absurd (ended_stays k q p e d is)
@@ -156,7 +156,7 @@ module _ (s : Source) (sane : StaysSane s) (l : Limits) (input : List ℕ) where
       let count : n + 1 ≡ suc n = omega arith in
       by_last (run s l input n) refl (sym (after_more Configuration (step s l) n 1 (opening s l input)) ∙ ap (λ (k : ℕ). run s l input k) count ∙ is) (λ p b e. reached_enclosed n p b e)
     where
-      by_step : (p : World) (b : Configuration) → run s l input n ≡ Going p b → Enclosed b.memory.instances → (r : Run Configuration) → Goes (ChainDoes b.memory b.chain) r → r ≡ Going o c → Enclosed c.memory.instances
+      by_step : (p : World) (b : Configuration) → run s l input n ≡ Going p b → Enclosed b.memory.instances → (r : Run Configuration) → Goes (λ _. ChainDoes b.memory b.chain) r → r ≡ Going o c → Enclosed c.memory.instances
       by_step p b reached enclosed (Going q d) does is = let same : d ≡ c = cc in subst (λ (z : Configuration). Enclosed z.memory.instances) same (chain_enclosed b.memory b.chain (sane l input n p b reached) enclosed d does)
       by_step p b reached enclosed (Ended q e) does is = absurd (cc)
 

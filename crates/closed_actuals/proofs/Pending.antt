@@ -15,7 +15,7 @@ use Rattle.sim_meaning.specs.Meaning.{step}
 use Rattle.sim_meaning.specs.Pending.{Activation, CloseOp, Configuration, Do, EndEvaluation, EndLevel, EndObject, Instances, Item, Op, evaluates, owner}
 use Rattle.closed_actuals.specs.Evaluations.{Adds, Done, DoesPending, EndsInstance, NextMoments, OnChain, StandAsBefore, WorksOffPending, adds_level, adds_nothing, adds_operator, began_evaluation, behind_evaluation, behind_level, by_operator, ended_object, entered_instance, entered_object, in_front, inside, left_instance, of_block, of_prefixed, of_procedure, on_chain, transferred_control, waiting}
 use Rattle.closed_actuals.proofs.Does.{ChainDoes, Does, ItemDoes, WorkDoes, act, attached_ends, begins, enters, generates, gives, is_last, leaves, level_ends, operator_does, resumed_ends, transfers, works}
-use Rattle.closed_actuals.proofs.Lifts.{Goes}
+use Rattle.code_finite.proofs.Lifts.{Goes}
 use Rattle.closed_actuals.proofs.Moving.{AllIn, Rooted}
 use Rattle.closed_actuals.proofs.Neat.{IsWhole, WholeActivation, adds_evaluates, level_evaluates, nothing_behind, operator_evaluates, own_evaluates, reached_neat, whole_behind}
 use Rattle.closed_actuals.proofs.Steps.{step_does}
@@ -200,7 +200,7 @@ chain_pending m (a ∷ rest) d neat some does = by_work a.work refl does
 step_pending : (s : Source) (t : NextMoments s) → ((t.now).chain ≡ [] → ⊥) → DoesPending t.now t.next
 step_pending s t some = from_run (step s t.limits t.world t.now) (step_does s t.limits t.world t.now) t.goes_on
   where
-    from_run : (r : Run Configuration) → Goes (ChainDoes (t.now).memory (t.now).chain) r → r ≡ Going t.next_world t.next → DoesPending t.now t.next
+    from_run : (r : Run Configuration) → Goes (λ _. ChainDoes (t.now).memory (t.now).chain) r → r ≡ Going t.next_world t.next → DoesPending t.now t.next
     from_run (Going p d) does is =
         let same : d ≡ t.next = cc in
         subst (DoesPending t.now) same (chain_pending (t.now).memory (t.now).chain d (reached_neat s t.limits t.input t.steps t.world t.now t.reaches) some does)

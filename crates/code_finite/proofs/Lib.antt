@@ -2,7 +2,7 @@ mod Weights
 mod Words
 mod Stages
 mod Rows
-mod Transfers
-mod Lifts
-mod Scheduling
+pub mod Transfers
+pub mod Lifts
+pub mod Scheduling
 mod Main

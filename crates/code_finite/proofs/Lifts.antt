@@ -1,4 +1,4 @@
--- What each event goes on with: the ticks are as they were, or there is one more.
+-- What each event goes on with, for runs of code and of the meaning: the ticks are as they were, or there is one more.
 use Rattle.std.proofs.Common.{◌≡◌, ◌≤◌, ◌<◌, ℕ, zero, suc, ◌+◌, Bool, true, false, List, [], ◌∷◌, Option, Some, None, refl, sym, ◌∙◌, arith, subst}
 use Rattle.std.proofs.lemmas.Bool.Decides.{nat_tests}
 use Rattle.std.specs.Prelude.{ℤ, ◌==◌, nat_lt, Result, Ok, Err, if◌then◌else◌}
@@ -13,9 +13,9 @@ use Rattle.sim_values.specs.Operators.{Answer}
 use Rattle.sim_values.specs.Plain.{Character, Integer, MainOf, Nothing, Object, Plain, Text, Truth}
 use Rattle.sim_values.specs.Words.{array_words, is_exhausted}
 use Rattle.sim_code.specs.Outcome.{Ended, Ending, Going, Run, World}
-use Rattle.sim_values.specs.Texts.{Making, assign, copy}
+use Rattle.sim_values.specs.Texts.{Making, assign, concatenated, copy}
 use Rattle.sim_code.specs.Formals.{ArrayCopied, Copied, NothingCopied, TextCopied, copying_value, suiting}
-use Rattle.sim_code.specs.Events.{answering, applying_one, applying_two, assigning, choosing, computing, entering, having, integer_in, making_text, no_rule, not_nothing, performing, pop_integers, pop_many, pop_object, pop_operands, pop_plain, pop_reference, pop_text, pop_truth, popping, putting_back, referring, stopping, taking, testing_step, text_val, ticking, truth_in, when, with_texts}
+use Rattle.sim_code.specs.Events.{answering, applying_one, applying_two, assigning, choosing, computing, entering, having, integer_in, joining, making_text, no_rule, not_nothing, performing, pop_integers, pop_many, pop_object, pop_operands, pop_plain, pop_reference, pop_text, pop_truth, popping, putting_back, qualifying, referring, stopping, taking, testing_step, text_val, ticking, truth_in, when, with_texts}
 use Rattle.sim_code.specs.Simulations.{named_in}
 use Rattle.sim_code.specs.Virtuals.{counting, matching}
 use Rattle.sim_code.specs.Sets.{linkage_given, linkage_named, performing_set, pop_given, set_effect, takes_linkage}
@@ -25,6 +25,10 @@ use Rattle.sim_code.specs.Arrays.{copying_array, finding_element, keeping_array,
 abbrev pub Goes : {S : Type 0} → (P : World → S → Type 0) → Run S → Type 0
 Goes P (Going o c) = P o c
 Goes P (Ended o e) = Unit {0}
+
+pub goes_with : {S : Type 0} (P Q : World → S → Type 0) (r : Run S) → ((o : World) (c : S) → P o c → Q o c) → Goes P r → Goes Q r
+goes_with P Q (Going o c) f x = f o c x
+goes_with P Q (Ended o e) f x = tt
 
 module _ {S : Type 0} (P : World → S → Type 0) where
   pub goes_if : (b : Bool) (r q : Run S) → (b ≡ true → Goes P r) → Goes P q → Goes P (if b then r else q)
@@ -66,14 +70,27 @@ module _ {S : Type 0} (P : World → S → Type 0) where
   having_knows None o f x = none o
   having_knows (Some a) o f x = x a refl
 
-  pub when_goes : (b : Bool) (o : World) (r : Run S) → Goes P r → Goes P (when b o r)
+  pub when_knows : (b : Bool) (o : World) (r : Run S) → (b ≡ true → Goes P r) → Goes P (when b o r)
   unfolding when
-  when_goes b o r x = goes_if b r (no_rule o) (λ _. x) (none o)
+  when_knows b o r x = goes_if b r (no_rule o) x (none o)
+
+  pub when_goes : (b : Bool) (o : World) (r : Run S) → Goes P r → Goes P (when b o r)
+  when_goes b o r x = when_knows b o r (λ _. x)
 
   pub computing_goes : {A : Type 0} (line : ℕ) (r : Result A RunError) (o : World) (f : A → Run S) → ((a : A) → Goes P (f a)) → Goes P (computing line r o f)
   unfolding computing
   computing_goes line (Ok a) o f x = x a
   computing_goes line (Err e) o f x = stops _ o
+
+  pub qualifying_goes : (line : ℕ) (is_in : Plain → Bool) (p : Plain) (o : World) (r : Run S) → Goes P r → Goes P (qualifying line is_in p o r)
+  unfolding qualifying
+  qualifying_goes line is_in (Object j) o r x = goes_if (is_in (Object j)) r (stopping _ o) (λ _. x) (stops _ o)
+  qualifying_goes line is_in (MainOf b) o r x = goes_if (is_in (MainOf b)) r (stopping _ o) (λ _. x) (stops _ o)
+  qualifying_goes line is_in Nothing o r x = x
+  qualifying_goes line is_in (Integer z) o r x = none o
+  qualifying_goes line is_in (Truth b) o r x = none o
+  qualifying_goes line is_in (Character c) o r x = none o
+  qualifying_goes line is_in (Text t) o r x = none o
 
   referring_goes : (line : ℕ) (p : Plain) (o : World) (f : ℕ → Run S) → ((j : ℕ) → Goes P (f j)) → Goes P (referring line p o f)
   unfolding referring
@@ -134,24 +151,24 @@ module _ {S : Type 0} (P : World → S → Type 0) where
     operands_goes read zero first stack o f x = x [] first stack
     operands_goes read (suc n) first stack o f x = popping_goes stack o _ (λ v rest. having_goes (read v) o _ (λ p. operands_goes read n (Some v) rest o _ (λ ps first rest. x (p ∷ ps) first rest)))
 
-    module _ {M : Type 0} (put : V → TextVal → World → M → (World → M → Run S) → Run S) (kept : M → ℕ) where
-      -- where putting a text back goes on, it leaves the ticks, and what the memory keeps
+    module _ {M : Type 0} (put : V → TextVal → World → M → (World → M → Run S) → Run S) (Kept : M → M → Type 0) (still : (m : M) → Kept m m) where
+      -- where putting a text back goes on, it leaves the ticks, and this holds of the memory before and behind
       abbrev pub Puts : Type 0
-      Puts = (v : V) (t : TextVal) (o : World) (m : M) (f : World → M → Run S) → ((p : World) (n : M) → p.ticks ≡ o.ticks → kept n ≡ kept m → Goes P (f p n)) → Goes P (put v t o m f)
+      Puts = (v : V) (t : TextVal) (o : World) (m : M) (f : World → M → Run S) → ((p : World) (n : M) → p.ticks ≡ o.ticks → Kept m n → Goes P (f p n)) → Goes P (put v t o m f)
 
-      back_goes : Puts → (first : Option V) (moved : Option TextVal) (o : World) (m : M) (f : World → M → Run S) → ((p : World) (n : M) → p.ticks ≡ o.ticks → kept n ≡ kept m → Goes P (f p n)) → Goes P (putting_back put first moved o m f)
+      back_goes : Puts → (first : Option V) (moved : Option TextVal) (o : World) (m : M) (f : World → M → Run S) → ((p : World) (n : M) → p.ticks ≡ o.ticks → Kept m n → Goes P (f p n)) → Goes P (putting_back put first moved o m f)
       unfolding putting_back
       back_goes puts (Some v) (Some t) o m f x = puts v t o m f x
-      back_goes puts (Some v) None o m f x = x o m refl refl
-      back_goes puts None (Some t) o m f x = x o m refl refl
-      back_goes puts None None o m f x = x o m refl refl
+      back_goes puts (Some v) None o m f x = x o m refl (still m)
+      back_goes puts None (Some t) o m f x = x o m refl (still m)
+      back_goes puts None None o m f x = x o m refl (still m)
 
       pub performing_goes : Puts → (read : World → M → V → Option Plain) (l : Limits) (line : ℕ) (name : Standard) (stack : List V) (o : World) (m : M) (f : World → M → Option Plain → List V → Run S)
-          → ((p : World) (n : M) (value : Option Plain) (rest : List V) → p.ticks ≡ o.ticks → kept n ≡ kept m → Goes P (f p n value rest)) → Goes P (performing read put l line name stack o m f)
+          → ((p : World) (n : M) (value : Option Plain) (rest : List V) → p.ticks ≡ o.ticks → Kept m n → Goes P (f p n value rest)) → Goes P (performing read put l line name stack o m f)
       unfolding performing
       performing_goes puts read l line name stack o m f x =
           operands_goes (read o m) _ None stack o _ (λ vs first rest. having_goes _ o _ (λ effect. taking_goes l line _ o _ (λ p same. computing_goes line effect.answer _ _ (λ value.
-          back_goes puts first effect.moved (record p { store = effect.store }) m _ (λ q n more still. x q n value rest (more ∙ same) still)))))
+          back_goes puts first effect.moved (record p { store = effect.store }) m _ (λ q n more kept. x q n value rest (more ∙ same) kept)))))
 
     module _ (plain : V → Option Plain) where
       pub plain_goes : (stack : List V) (o : World) (f : Plain → List V → Run S) → ((p : Plain) (rest : List V) → Goes P (f p rest)) → Goes P (pop_plain plain stack o f)
@@ -209,6 +226,10 @@ module _ {S : Type 0} (P : World → S → Type 0) where
       pub assigning_goes : (line : ℕ) (stack : List V) (o : World) (f : World → List V → Run S) → ((p : World) (rest : List V) → p.ticks ≡ o.ticks → Goes P (f p rest)) → Goes P (assigning plain line stack o f)
       unfolding assigning
       assigning_goes line stack o f x = text_goes stack o _ (λ right rest. text_goes rest o _ (λ left rest. computing_goes line _ o _ (λ done. x (with_texts o (assign o.store.frames left right).frames) rest refl)))
+
+      pub joining_goes : (l : Limits) (line : ℕ) (stack : List V) (o : World) (f : Plain → World → List V → Run S) → ((z : Plain) (p : World) (rest : List V) → p.ticks ≡ o.ticks → Goes P (f z p rest)) → Goes P (joining plain l line stack o f)
+      unfolding joining
+      joining_goes l line stack o f x = text_goes stack o _ (λ b rest. text_goes rest o _ (λ a rest. taking_goes l line 0 o _ (λ p same. making_text_goes l line (concatenated p.store.frames a b) p _ (λ t q more. x _ q rest (more ∙ same)))))
 
       pub finding_goes : (array_in : V → Option ℕ) (n line : ℕ) (stack : List V) (o : World) (f : ℕ → ℕ → List V → Run S) → ((a k : ℕ) (rest : List V) → Goes P (f a k rest)) → Goes P (finding_element plain array_in n line stack o f)
       unfolding finding_element

@@ -1,6 +1,6 @@
 -- Each row leaves less to do, or takes a tick.
 use Rattle.std.proofs.Common.{◌≡◌, ◌≤◌, ◌<◌, ℕ, zero, suc, ◌+◌, List, [], ◌∷◌, ◌++◌, length, Option, Some, None, true, refl, subst, ◌∙◌, arith}
-use Rattle.std.specs.Prelude.{◌==◌, ◌*◌, ℤ, pos, slice_get, Result, Ok, Err}
+use Rattle.std.specs.Prelude.{◌==◌, ◌*◌, ℤ, pos, nat_lt, slice_get, Result, Ok, Err}
 use Rattle.sim_base.specs.declared.limits.Limits.{Limits}
 use Rattle.sim_base.specs.declared.run_error.RunError.{RunError}
 use Rattle.sim_values.specs.declared.operators.Dyadic.{Dyadic}
@@ -42,7 +42,7 @@ use Rattle.code_finite.proofs.Lifts.{Goes, assigning_goes, choosing_goes, comput
 use Rattle.code_finite.proofs.Scheduling.{activation_goes, process_goes, simulation_goes}
 use Rattle.code_finite.proofs.Stages.{behind_outward, declarations_last, declarations_next, level_there, statements_last, statements_next}
 use Rattle.code_finite.proofs.Transfers.{NotMore, NotMoreIn, given_small, transfer_small}
-use Rattle.code_finite.proofs.Weights.{Lower, chain_weight, found_within, further, jumped, kept_weight, later_stage, lighter, place_weight, size, stage_weight, standings_weight, thunk_less, ticked, unit_some, work, work_some}
+use Rattle.code_finite.proofs.Weights.{Lower, activation_weight, chain_weight, found_within, further, jumped, kept_weight, later_stage, lighter, place_weight, size, stage_weight, standings_weight, thunk_less, ticked, unit_some, work, work_some}
 use Rattle.code_finite.proofs.Words.{any_goes, admitting_goes, back_goes, back_ticks, begun_ticks, block_goes, cell_goes, cell_kept, enrolled_ticks, handed_ticks, index_goes, joined_ticks, jumping_goes, leading_goes, left_kept, level_goes, levelled_goes, locating_goes, objects_goes, own_goes, own_levels_goes, pushing_goes, qualified_goes, qualifying_goes, result_goes, storing_goes, when_knows}
 
 -- a thunk begins on top of a chain
@@ -191,7 +191,7 @@ module _ (code : CodeOf) (l : Limits) (o : World) (m : Frames) (a : Activation) 
   below_falls p same stack [] standings less = tt
   below_falls p same stack (c ∷ rest) standings less = lighter same (omega (arith, less, further code a (suc a.pc) (omega arith) here, unit_some code a.thunk))
 
-  moved_falls : (p : World) → p.ticks ≡ o.ticks → (line : ℕ) (stack : List Value) (r : Result (Components Activation) RunError) → NotMore code (chain_weight code (waiting a stack ∷ below) + kept_weight code m) r
+  moved_falls : (p : World) → p.ticks ≡ o.ticks → (line : ℕ) (stack : List Value) (r : Result (Components Activation) RunError) → NotMore (activation_weight code) (chain_weight code (waiting a stack ∷ below) + kept_weight code m) r
       → Goes P (computing line r p (λ c. going_below p c.operating (record m { standings = c.standings })))
   unfolding computing
   moved_falls p same line stack (Ok c) less = below_falls p same stack c.operating c.standings less
@@ -202,7 +202,7 @@ module _ (code : CodeOf) (l : Limits) (o : World) (m : Frames) (a : Activation) 
   transfer_falls stack t line v = by_value v
     where
       by_component : (y : Option (Option ℕ)) → Goes P (having y o (λ y. having (transferred owner t (system_head m) (record { operating = waiting a stack ∷ below; standings = m.standings }) y) o (λ r. computing line r o (λ c. going_below o c.operating (record m { standings = c.standings })))))
-      by_component y = having_goes P y o _ (λ y. having_knows P (transferred owner t (system_head m) _ y) o _ (λ r is. moved_falls o refl line stack r (subst (NotMoreIn code (chain_weight code (waiting a stack ∷ below) + kept_weight code m)) is (transfer_small code t (system_head m) _ y))))
+      by_component y = having_goes P y o _ (λ y. having_knows P (transferred owner t (system_head m) _ y) o _ (λ r is. moved_falls o refl line stack r (subst (NotMoreIn (activation_weight code) (chain_weight code (waiting a stack ∷ below) + kept_weight code m)) is (transfer_small owner (activation_weight code) t (system_head m) _ y))))
 
       by_value : (v : Plain) → Goes P (transferring owner t line o (waiting a stack ∷ below) m v)
       by_value (MainOf b) = stops P _ o
@@ -217,7 +217,7 @@ module _ (code : CodeOf) (l : Limits) (o : World) (m : Frames) (a : Activation) 
   next_falls : (stack : List Value) (line : ℕ) (p : World) → p.ticks ≡ o.ticks → (x : Simulation) (next : Next) → Goes P (going_to owner line p (waiting a stack ∷ below) m x next)
   next_falls stack line p same x next.Stay = lighter same (omega (arith, further code a (suc a.pc) (omega arith) here, unit_some code a.thunk))
   next_falls stack line p same x (next.Resume n) =
-      having_goes P (component_of x n.0) p _ (λ y. moved_falls p same line stack _ (given_small code (system_head m) (record { operating = waiting a stack ∷ below; standings = m.standings }) x.block y))
+      having_goes P (component_of x n.0) p _ (λ y. moved_falls p same line stack _ (given_small owner (activation_weight code) (system_head m) (record { operating = waiting a stack ∷ below; standings = m.standings }) x.block y))
 
   decided_falls : (line : ℕ) (p : World) (x : ℕ × Simulation) (r : Result (List Notice) RunError) (stack : List Value) → p.ticks ≡ o.ticks → Goes P (decided o m a below line p x r stack)
   unfolding deciding
@@ -233,7 +233,7 @@ module _ (code : CodeOf) (l : Limits) (o : World) (m : Frames) (a : Activation) 
       (process_goes P plain (encloser_of m) name line a.stack o _ (λ value stack. goes _))
       (choosing_goes P (is_simulation_name name) _ _
       (simulation_goes P plain link_in (in_process code m) o (decided o m a below line) (decided_falls line) (ending_process code m a) name a.stack _ (λ value stack. goes _))
-      (when_goes P _ o _ (performing_goes P put_back (kept_weight code) (back_goes P code) operand l line name a.stack o m _ (λ p n value stack same still. goes_on p n _ same still)))))
+      (when_goes P _ o _ (performing_goes P put_back (λ m n. kept_weight code n ≡ kept_weight code m) (λ m. refl) (back_goes P code) operand l line name a.stack o m _ (λ p n value stack same still. goes_on p n _ same still)))))
 
   -- ---- thunks
 
@@ -416,7 +416,7 @@ module _ (code : CodeOf) (l : Limits) (o : World) (m : Frames) (a : Activation) 
   row_falls line (i.NextDecl z) = index_goes P z o _ declared_falls
   row_falls line (i.Inner z) = index_goes P z o _ inner_falls
   row_falls line (i.EndLevel z) = index_goes P z o _ level_falls
-  row_falls line (i.Array z n) = having_goes P (element_kind z) o _ (λ kind. index_goes P n o _ (λ n. integers_goes P plain (2 * n) [] a.stack o _ (λ bounds stack. making_goes P l line a.home kind _ o _ (λ array p same. pushing_goes P a.room stack _ p _ (λ s. changes p same _)))))
+  row_falls line (i.Array z n) = having_goes P (element_kind z) o _ (λ kind. index_goes P n o _ (λ n. when_goes P (nat_lt 0 n) o _ (integers_goes P plain (2 * n) [] a.stack o _ (λ bounds stack. making_goes P l line a.home kind _ o _ (λ array p same. pushing_goes P a.room stack _ p _ (λ s. changes p same _))))))
   row_falls line i.CopyArr = popping_goes P a.stack o _ (λ v stack. having_goes P (array_in v) o _ (λ array. copying_goes P l line a.home array o _ (λ copy p same. changes p same _)))
   row_falls line i.Keep = popping_goes P a.stack o _ (λ v stack. having_goes P (array_in v) o _ (λ array. keeping_goes P array o _ (λ p same. changes p same _)))
   row_falls line i.AssignT = assigning_goes P plain line a.stack o _ (λ p stack same. changes p same _)

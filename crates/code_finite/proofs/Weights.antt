@@ -3,13 +3,14 @@ use Rattle.std.proofs.Common.{◌≡◌, ◌≤◌, ◌<◌, ℕ, zero, suc, ◌
 use Rattle.std.proofs.lemmas.Bool.Decides.{nat_tests}
 use Rattle.std.specs.Prelude.{◌-◌, nat_lt, if◌then◌else◌, slice_get}
 use Rattle.sim_base.specs.declared.limits.Limits.{Limits}
-use Rattle.sim_chains.specs.Components.{DetachedObject, NoObject, Standing}
+use Rattle.sim_chains.specs.Components.{Standing}
 use Rattle.sim_code.specs.declared.stage.Stage.{Stage}
 use Rattle.sim_code.specs.declared.stage.Stage.TheVariants as stage
 use Rattle.sim_code.specs.Code.{CodeOf}
 use Rattle.sim_code.specs.Outcome.{World}
 use Rattle.sim_code.specs.Machine.{Activation, Frames, Machine, is_there, is_tick}
 use Rattle.sim_code.specs.Formals.{runs_inside}
+use Rattle.code_finite.proofs.Transfers as each
 
 -- ---- products and powers
 
@@ -145,18 +146,10 @@ module _ (code : CodeOf) where
   -- ---- all chains
 
   abbrev pub chain_weight : List Activation → ℕ
-  chain_weight [] = 0
-  chain_weight (a ∷ rest) = activation_weight a + chain_weight rest
-
-  -- the chain that an instance keeps
-  abbrev pub standing_weight : Standing Activation → ℕ
-  standing_weight (NoObject (Some main)) = chain_weight main
-  standing_weight (DetachedObject chain) = chain_weight chain
-  standing_weight _ = 0
+  chain_weight chain = each.chain_weight activation_weight chain
 
   abbrev pub standings_weight : List (Standing Activation) → ℕ
-  standings_weight [] = 0
-  standings_weight (x ∷ xs) = standing_weight x + standings_weight xs
+  standings_weight standings = each.standings_weight activation_weight standings
 
   abbrev pub kept_weight : Frames → ℕ
   kept_weight m = standings_weight m.standings

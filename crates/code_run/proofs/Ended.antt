@@ -1,35 +1,27 @@
--- What the machine's run of settled code says of the run of the code.
-use Rattle.std.proofs.Common.{◌≡◌, ◌∙◌, ◌<◌, ℕ, zero, suc, ◌+◌, ◌-◌, List, ◌++◌, Option, Some, None, Result, Ok, IfOk, length, take, map, option_map, true, inl, inr, refl, sym, ap, subst, arith}
+-- What the machine's answer says of the run of the code.
+use Rattle.std.proofs.Common.{◌≡◌, ◌∙◌, ◌<◌, ℕ, zero, suc, ◌+◌, ◌-◌, List, ◌++◌, Option, Result, Ok, IfOk, length, take, inl, inr, refl, sym, ap, subst, arith}
 use Rattle.std.proofs.Math.Seq.{take-append_seam, take-length}
 use Rattle.std.proofs.lemmas.Bool.{cases_lt}
 use Rattle.std.proofs.lemmas.List.{take-append-le, take_all}
-use Rattle.std.specs.Prelude.{slice_get}
 use Rattle.std.specs.Io.KnownBytes.{Appends}
 use Rattle.sim_base.specs.declared.limits.Limits.{Limits}
 use Rattle.sim_ports.specs.Bytes.{AddsPrefix}
 use Rattle.sim_code.specs.declared.ending.Ending.{Ending as Answer}
 use Rattle.sim_code.specs.declared.ending.Ending.TheVariants as answer
-use Rattle.sim_code.specs.declared.instr.Lined.{Lined}
 use Rattle.sim_code.specs.Code.{CodeOf}
 use Rattle.sim_code.specs.Growing.{OutputGrows, written}
 use Rattle.sim_code.specs.Machine.{Machine}
 use Rattle.sim_code.specs.Outcome.{Ended, Ending, Going, Normal, NoRule, Run, RunFault, StorageExhausted, TickLimit, World, after, answer_of}
 use Rattle.sim_code.specs.Rows.{mrun, mstep, next_place, opening}
-use Rattle.sim_code.specs.Running.{AllRun, runs}
 use Rattle.sim_code.proofs.Growing.{after_more}
-use Rattle.standard_calls.specs.Taking.{HasAll}
 use Rattle.object_machine.specs.Running.{FaultsAs, HasEnded, InputAs, RanAs, WasBroken, WasCut}
 use Rattle.object_machine.specs.Standing.{WrotePart, world_of}
-use Rattle.object_machine.specs.Taking.{Reads}
-use Rattle.object_machine.specs.Taking.{TakesNothing as SettledTakesNothing}
+use Rattle.code_finite.specs.Coming.{ComesToAnEnd}
 use Rattle.code_run.specs.declared.running.CodeEnd.{CodeEnd}
 use Rattle.code_run.specs.declared.running.CodeEnd.TheVariants as end
 use Rattle.code_run.specs.declared.running.CodeFailure.{CodeFailure}
 use Rattle.code_run.specs.declared.running.CodeFailure.TheVariants as failure
-use Rattle.code_run.specs.CodeEnds.{BeforeARead, Begins, BeginsSome, Broken, CodeEnds, InputAfter, OutputAfter, Ran, TakesNothing, end_of, told}
-use Rattle.code_run.specs.Settling.{settled, settled_code}
-use Rattle.code_run.proofs.Names.{settled_runs}
-use Rattle.code_run.proofs.SameRows.{mstep_same, run_same, settled_at}
+use Rattle.code_run.specs.CodeEnds.{BeforeARead, Begins, Broken, CodeEnds, HasEnd, InputAfter, OutputAfter, Ran, end_of, told}
 
 -- ---- one end
 
@@ -73,6 +65,37 @@ one_end code l input e d xs ys x y =
       ]
     ]
 
+-- it has ended at its end, and nowhere else
+pub ended_as : (code : CodeOf) (l : Limits) (input : List ℕ) (e : CodeEnd) (xs : List ℕ) (x : CodeEnds code l input e xs) (n : ℕ) (o : World) (d : Ending) → mrun code l input n ≡ Ended o d → (x.last ≡ o) × (x.ending ≡ d)
+ended_as code l input e xs x n o d is =
+    elim (cases_lt x.steps n) [
+      | inl later ↦ (
+          let k : n ≡ suc x.steps + (n - suc x.steps) = omega (arith, later) in
+          same_end (mrun code l input n) x.last o x.ending d (ap (mrun code l input) k ∙ ended_later (mstep code l) (suc x.steps) (n - suc x.steps) (opening code l input) x.last x.ending x.ended) is
+          )
+      | inr sooner ↦ (
+          let k : x.steps ≡ n + (x.steps - n) = omega (arith, sooner) in
+          absurd (not_both (mrun code l input x.steps) o x.world x.state d (ap (mrun code l input) k ∙ ended_later (mstep code l) n (x.steps - n) (opening code l input) o d is) x.come)
+          )
+    ]
+
+pub has_end : (code : CodeOf) (l : Limits) (input : List ℕ) → ComesToAnEnd code l input → HasEnd code l input
+has_end code l input x = (
+  end_of x.ending (next_place x.state),
+  x.last.store.written,
+  record {
+    steps = x.steps;
+    world = x.world;
+    state = x.state;
+    last = x.last;
+    ending = x.ending;
+    come = x.come;
+    ended = x.ended;
+    is = refl;
+    writes = refl;
+  },
+)
+
 -- ---- what was written
 
 adds_more : (a b : Option (List ℕ)) (xs ys : List ℕ) → AddsPrefix a b xs → AddsPrefix a b (xs ++ ys)
@@ -95,8 +118,8 @@ world_written (Ended o e) = refl
 
 module _ (code : CodeOf) (l : Limits) (input : List ℕ) (old new : Option (List ℕ)) where
   -- what begins the output of a moment begins that of the end
-  begins_end : OutputGrows → (n : ℕ) → AddsPrefix old new (written (mrun code l input n)) → Begins code l input old new
-  begins_end grows n adds e output ends =
+  adds_end : OutputGrows → (n : ℕ) → AddsPrefix old new (written (mrun code l input n)) → (e : CodeEnd) (output : List ℕ) → CodeEnds code l input e output → AddsPrefix old new output
+  adds_end grows n adds e output ends =
       let whole : output ≡ written (mrun code l input (suc ends.steps)) = ends.writes ∙ sym (ap written ends.ended) in
       subst (λ xs. AddsPrefix old new xs) (sym whole)
       (elim (cases_lt (suc ends.steps) n) [
@@ -114,10 +137,10 @@ module _ (code : CodeOf) (l : Limits) (input : List ℕ) (old new : Option (List
             )
       ])
 
-  -- ---- by the machine's answer
+  begins_end : OutputGrows → HasEnd code l input → (n : ℕ) → AddsPrefix old new (written (mrun code l input n)) → Begins code l input old new
+  begins_end grows (e, output, ends) n adds = (e, output, ends, adds_end grows n adds e output ends)
 
-  same : CodeOf
-  same = settled_code code
+  -- ---- by the machine's answer
 
   told_end : (e : Ending) (at : ℕ) → told (answer_of e at) ≡ Ok (end_of e at)
   told_end Normal at = refl
@@ -129,7 +152,7 @@ module _ (code : CodeOf) (l : Limits) (input : List ℕ) (old new : Option (List
   same_ok : (r : Result CodeEnd CodeFailure) (e d : CodeEnd) → r ≡ Ok e → r ≡ Ok d → e ≡ d
   same_ok r e d x y = cc
 
-  ended_so : (a : Answer) (e : CodeEnd) → told a ≡ Ok e → HasEnded (settled_code code) l (opening (settled_code code) l input) a old new → Ran code l input e old new
+  ended_so : (a : Answer) (e : CodeEnd) → told a ≡ Ok e → HasEnded code l (opening code l input) a old new → Ran code l input e old new
   ended_so a e is h = record {
     output = h.last.store.written;
     ends = record {
@@ -138,15 +161,15 @@ module _ (code : CodeOf) (l : Limits) (input : List ℕ) (old new : Option (List
       state = h.state;
       last = h.last;
       ending = h.ending;
-      come = sym (run_same code l input h.steps) ∙ h.come;
-      ended = sym (run_same code l input (suc h.steps)) ∙ h.ended;
+      come = h.come;
+      ended = h.ended;
       is = same_ok (told a) e (end_of h.ending (next_place h.state)) is (ap told h.answer ∙ told_end h.ending (next_place h.state));
       writes = refl;
     };
     writes = h.written;
   }
 
-  pub ran_of : (faults now : ℕ) (a : Answer) → RanAs faults now (settled_code code) l input a old new → IfOk (told a) (λ e. Ran code l input e old new)
+  pub ran_of : (faults now : ℕ) (a : Answer) → RanAs faults now code l input a old new → IfOk (told a) (λ e. Ran code l input e old new)
   unfolding RanAs
   ran_of faults now answer.Normal h = ended_so answer.Normal end.Normal refl h
   ran_of faults now (answer.RunFault error line) h = ended_so (answer.RunFault error line) (end.RunFault error line) refl h
@@ -157,37 +180,26 @@ module _ (code : CodeOf) (l : Limits) (input : List ℕ) (old new : Option (List
   ran_of faults now answer.Memory h = tt
   ran_of faults now (answer.BadCode at) h = ended_so (answer.BadCode at) (end.BadCode at) refl h
 
-  was_broken : OutputGrows → WasBroken (settled_code code) l (opening (settled_code code) l input) old new → BeginsSome code l input old new × Begins code l input old new
-  was_broken grows (steps, part) =
-      let written_so : (world_of (mrun (settled_code code) l input steps)).store.written ≡ written (mrun code l input steps) =
-      world_written (mrun (settled_code code) l input steps) ∙ ap written (run_same code l input steps) in
-      let adds : AddsPrefix old new (written (mrun code l input steps)) = subst (λ xs. AddsPrefix old new xs) written_so (part_adds old new _ part) in
-      ((steps, adds), begins_end grows steps adds)
+  was_broken : OutputGrows → HasEnd code l input → WasBroken code l (opening code l input) old new → Begins code l input old new
+  was_broken grows has (steps, part) =
+      begins_end grows has steps (subst (λ xs. AddsPrefix old new xs) (world_written (mrun code l input steps)) (part_adds old new _ part))
 
-  was_cut : OutputGrows → (faults now : ℕ) → WasCut faults now (settled_code code) l (opening (settled_code code) l input) old new → BeforeARead faults now code l input old new × Begins code l input old new
-  was_cut grows faults now h =
-      let come : mrun code l input h.steps ≡ Going h.world h.state = sym (run_same code l input h.steps) ∙ h.come in (
-        record {
-          steps = h.steps;
-          world = h.world;
-          state = h.state;
-          come = come;
-          writes = h.written;
-          reads = subst (λ (f : World → Machine → Run Machine). Reads faults now h.world (f h.world h.state)) (mstep_same code l) h.reads;
-        },
-        begins_end grows h.steps (subst (λ (r : Run Machine). AddsPrefix old new (written r)) (sym come) (adds_all old new h.world.store.written h.written)),
-      )
+  was_cut : OutputGrows → HasEnd code l input → (faults now : ℕ) → WasCut faults now code l (opening code l input) old new → BeforeARead faults now code l input old new × Begins code l input old new
+  was_cut grows has faults now h = (
+    record { steps = h.steps; world = h.world; state = h.state; come = h.come; writes = h.written; reads = h.reads },
+    begins_end grows has h.steps (subst (λ (r : Run Machine). AddsPrefix old new (written r)) (sym h.come) (adds_all old new h.world.store.written h.written)),
+  )
 
-  pub broken_of : OutputGrows → (faults now : ℕ) (a : Answer) → RanAs faults now (settled_code code) l input a old new → Broken faults now code l input old new (told a)
+  pub broken_of : OutputGrows → HasEnd code l input → (faults now : ℕ) (a : Answer) → RanAs faults now code l input a old new → Broken faults now code l input old new (told a)
   unfolding RanAs
-  broken_of grows faults now answer.Normal h = tt
-  broken_of grows faults now (answer.RunFault error line) h = tt
-  broken_of grows faults now (answer.StorageExhausted line used wanted) h = tt
-  broken_of grows faults now (answer.TickLimit ticks) h = tt
-  broken_of grows faults now answer.InputFault h = was_cut grows faults now h
-  broken_of grows faults now answer.WriteFault h = was_broken grows h
-  broken_of grows faults now answer.Memory h = was_broken grows h
-  broken_of grows faults now (answer.BadCode at) h = tt
+  broken_of grows has faults now answer.Normal h = tt
+  broken_of grows has faults now (answer.RunFault error line) h = tt
+  broken_of grows has faults now (answer.StorageExhausted line used wanted) h = tt
+  broken_of grows has faults now (answer.TickLimit ticks) h = tt
+  broken_of grows has faults now answer.InputFault h = was_cut grows has faults now h
+  broken_of grows has faults now answer.WriteFault h = was_broken grows has h
+  broken_of grows has faults now answer.Memory h = was_broken grows has h
+  broken_of grows has faults now (answer.BadCode at) h = tt
 
 pub output_of : {S : Type 0} (written : S → Option (List ℕ)) (faults : S → ℕ) (old new : S) (a : Answer) → FaultsAs written faults a old new → OutputAfter written faults old new (told a)
 output_of written faults old new answer.Normal h = h
@@ -208,19 +220,3 @@ input_of before now answer.InputFault h = h
 input_of before now answer.WriteFault h = h
 input_of before now answer.Memory h = h
 input_of before now (answer.BadCode at) h = h
-
--- what takes nothing takes nothing when it is settled
-pub settled_takes : (code : CodeOf) (l : Limits) (input : List ℕ) → TakesNothing code l input → SettledTakesNothing (settled_code code) l input
-settled_takes code l input never n = subst (λ (r : Run Machine). HasAll input r) (sym (run_same code l input n)) (never n)
-
--- the machine does each settled instruction
-run_at : (y : Option Lined) (x : Lined) → option_map settled y ≡ Some x → runs x.instr ≡ true
-run_at None x is = cc is
-run_at (Some y) x is = ap (λ (z : Lined). runs z.instr) (sym (same_some (settled y) x is)) ∙ settled_runs y.instr
-  where
-    same_some : (y x : Lined) → Some y ≡ Some x → y ≡ x
-    same_some y x is = cc is
-
-pub all_run : (instrs : List Lined) → AllRun (map settled instrs)
-unfolding AllRun
-all_run instrs k x is = run_at (slice_get instrs k) x (sym (settled_at instrs k) ∙ is)

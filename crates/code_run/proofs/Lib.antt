@@ -1,5 +1,1 @@
 pub mod Ended
-mod Names
-mod SameFormals
-mod SameRows
-mod SameTables

@@ -5,7 +5,6 @@ use Rattle.sim_base.specs.declared.limits.Limits.{Limits}
 use Rattle.sim_code.specs.declared.ending.Ending.{Ending as Answer}
 use Rattle.sim_code.specs.declared.ending.Ending.TheVariants as answer
 use Rattle.sim_code.specs.Code.{CodeOf}
-use Rattle.sim_code.specs.Growing.{written}
 use Rattle.sim_code.specs.Machine.{Machine}
 use Rattle.sim_code.specs.Outcome.{Ended, Ending, Going, Normal, NoRule, RunFault, StorageExhausted, TickLimit, World}
 use Rattle.sim_code.specs.Rows.{mrun, mstep, next_place}
@@ -60,13 +59,13 @@ pub record Ran (code : CodeOf) (l : Limits) (input : List ℕ) (end : CodeEnd) (
 abbrev pub TakesNothing : CodeOf → Limits → (input : List ℕ) → Type 0
 TakesNothing code l input = (steps : ℕ) → HasAll input (mrun code l input steps)
 
--- what was written begins what the run has written at some moment
-abbrev pub BeginsSome : CodeOf → Limits → (input : List ℕ) → (old new : Option (List ℕ)) → Type 0
-BeginsSome code l input old new = (steps : ℕ) × AddsPrefix old new (written (mrun code l input steps))
+-- the run of the code comes to an end
+abbrev pub HasEnd : CodeOf → Limits → (input : List ℕ) → Type 0
+HasEnd code l input = (end : CodeEnd) × (output : List ℕ) × CodeEnds code l input end output
 
--- what was written begins the output of the run, if it ends
+-- the run of the code comes to an end, and what was written begins its output
 abbrev pub Begins : CodeOf → Limits → (input : List ℕ) → (old new : Option (List ℕ)) → Type 0
-Begins code l input old new = (end : CodeEnd) (output : List ℕ) → CodeEnds code l input end output → AddsPrefix old new output
+Begins code l input old new = (end : CodeEnd) × (output : List ℕ) × CodeEnds code l input end output × AddsPrefix old new output
 
 -- What was written is all that the run had written before a step that takes something of the input, by the counts of faults of the input
 -- before and after.
@@ -83,7 +82,7 @@ pub record BeforeARead (faults faults_now : ℕ) (code : CodeOf) (l : Limits) (i
 abbrev pub Broken : (faults faults_now : ℕ) → CodeOf → Limits → (input : List ℕ) → (old new : Option (List ℕ)) → Result CodeEnd CodeFailure → Type 0
 Broken faults faults_now code l input old new (Ok end) = ⊤
 Broken faults faults_now code l input old new (Err failure.Input) = BeforeARead faults faults_now code l input old new × Begins code l input old new
-Broken faults faults_now code l input old new (Err _) = BeginsSome code l input old new × Begins code l input old new
+Broken faults faults_now code l input old new (Err _) = Begins code l input old new
 
 -- It failed by the output where a write failed, after which nothing was written. Else no write failed.
 abbrev pub OutputAfter : {S : Type 0} → (S → Option (List ℕ)) → (S → ℕ) → S → S → Result CodeEnd CodeFailure → Type 0

@@ -1,2 +1,1 @@
 pub mod CodeEnds
-pub mod Settling

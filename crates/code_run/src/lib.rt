@@ -2,6 +2,5 @@
 #![tactic(auto)]
 
 mod running;
-mod settling;
 
 pub use running::{CodeEnd, CodeFailure, exec};

@@ -1,8 +1,8 @@
 //! Code run to its end.
 ghost use Rattle.std.specs.Prelude.{◌≡◌, ℕ, List, IfOk, Some};
-ghost use Rattle.code_run.specs.CodeEnds.{Broken, InputAfter, OutputAfter, Ran, TakesNothing, told};
+ghost use Rattle.code_run.specs.CodeEnds.{Broken, HasEnd, InputAfter, OutputAfter, Ran, TakesNothing, told};
 
-use crate::settling::settled_code;
+use code_finite::laws::every_code_ends;
 use object_machine::run;
 use sim_base::{Limits, Line, RunError};
 use sim_code::laws::output_grows;
@@ -67,6 +67,7 @@ pub fn exec<I: Source, O: Sink>(
     input: &mut I,
     out: &mut O,
 ) -> Result<CodeEnd, CodeFailure>
+    ensures ends { (bytes : List ℕ) → HasEnd code limits.now bytes }
     ensures ran { (bytes : List ℕ) → I.left input.old ≡ Some bytes → IfOk result (λ end. Ran code limits.now bytes end (O.written out.old) (O.written out.new)) }
     ensures broken { (bytes : List ℕ) → I.left input.old ≡ Some bytes → Broken (I.faults input.old) (I.faults input.new) code limits.now bytes (O.written out.old) (O.written out.new) result }
     ensures output { OutputAfter O.written O.faults out.old out.new result }
@@ -75,10 +76,10 @@ pub fn exec<I: Source, O: Sink>(
     // The input is as it was where the run takes nothing of it, however the call ends.
     ensures takes { (bytes : List ℕ) → I.left input.old ≡ Some bytes → TakesNothing code limits.now bytes → input.new ≡ input.old }
 {
-    // What is written stays written.
+    // What is written stays written, and each run comes to an end.
     output_grows();
-    let settled = settled_code(code);
-    end_of(run(alloc, &settled, limits, input, out))
+    every_code_ends();
+    end_of(run(alloc, &code, limits, input, out))
 }
 
 // How code has ended, by the machine's answer.

@@ -180,15 +180,15 @@ element_of d [] line ne = absurd (ne refl)
 element_of d (x ∷ xs) line ne = refl
 
 module _ (b : Bound) (w : Spot) where
-  -- what is not built is found not to be
-  not_built : (t : Stored) → NoPlace ≡ t → IsVariable (source_of b) w left.NoPlace t
-  not_built t e = subst (λ z. IsVariable (source_of b) w left.NoPlace z) e (λ h. h)
+  -- what has no code is found to have none
+  is_no_place : (t : Stored) → NoPlace ≡ t → IsVariable (source_of b) w left.NoPlace t
+  is_no_place t e = subst (λ z. IsVariable (source_of b) w left.NoPlace z) e (λ h. h)
 
   -- ---- variables
 
   pub variable_subscripts : (d : DeclNo) (es : List Expr) → length es ≢ 0 → FindsVariable b w d es left.NoPlace
   unfolding FindsVariable
-  variable_subscripts d es ne = not_built _ (variable_alone (source_of b) d es ne)
+  variable_subscripts d es ne = is_no_place _ (variable_alone (source_of b) d es ne)
 
   cell_of : (d : DeclNo) (es : List Expr) → length es ≡ 0 → (r : Left) → IsVariable (source_of b) w r (InCell (block_of (source_of b) d) (Declared d.0)) → FindsVariable b w d es r
   unfolding FindsVariable
@@ -213,7 +213,7 @@ module _ (b : Bound) (w : Spot) where
 
   pub element_none : (token : TokenNo) (d : DeclNo) (es : List Expr) → length es ≡ 0 → FindsElement b w token d es left.NoPlace
   unfolding FindsElement
-  element_none token d es none = not_built _ (sym (ap (λ z. stored_element d z (line_at (source_of b) token.0)) (no_operands es none)))
+  element_none token d es none = is_no_place _ (sym (ap (λ z. stored_element d z (line_at (source_of b) token.0)) (no_operands es none)))
 
   pub element_found : (token : TokenNo) (d : DeclNo) (l : Bor (List Expr)) → length l.now ≢ 0 → FindsElement b w token d l.now (left.Element token d l)
   unfolding FindsElement
@@ -221,7 +221,7 @@ module _ (b : Bound) (w : Spot) where
 
   pub result_subscripts : (k : ℕ) (es : List Expr) → length es ≢ 0 → FindsResult b w k es left.NoPlace
   unfolding FindsResult
-  result_subscripts k es ne = not_built _ (result_alone k es ne)
+  result_subscripts k es ne = is_no_place _ (result_alone k es ne)
 
   result_of : (k : ℕ) (es : List Expr) → length es ≡ 0 → (r : Left) → IsVariable (source_of b) w r (InCell k Result) → FindsResult b w k es r
   unfolding FindsResult

@@ -159,16 +159,22 @@ module _ (b : Bound) (w : Spot) where
   write_none_made a c type n [] none ec = emits_nothing w a c _ _ (λ h. h) ec
   write_none_made a c type n (x ∷ xs) none ec = absurd (omega (arith, none))
 
-  pub write_made : (a c1 c2 c3 : DraftOf) (type : TypeName) (n line : ℕ) (xs : List Identifier) (x : Identifier) (element : ℤ) (k : Instr) → length xs ≢ 0 → x ≡ slice_index_or xs 0 x → element ≡ element_number (kind_named type) → k ≡ i.Array element (pos n) → line ≡ line_at (source_of b) x.token.0 → c1 ≡ with_push a 0 k line
+  pub write_flat_made : (a c : DraftOf) (type : TypeName) (n : ℕ) (xs : List Identifier) → n ≡ 0 → c ≡ given_up a → WritesMade b w a c type n xs
+  unfolding WritesMade
+  write_flat_made a c type n [] none ec = emits_nothing w a c _ _ (λ h. h) ec
+  write_flat_made a c type n (x ∷ xs) none ec = emits_nothing w a c _ _ (λ h. absurd (let some = h.0 in omega (arith, some, none))) ec
+
+  pub write_made : (a c1 c2 c3 : DraftOf) (type : TypeName) (n line : ℕ) (xs : List Identifier) (x : Identifier) (element : ℤ) (k : Instr) → length xs ≢ 0 → n ≢ 0 → x ≡ slice_index_or xs 0 x → element ≡ element_number (kind_named type) → k ≡ i.Array element (pos n) → line ≡ line_at (source_of b) x.token.0 → c1 ≡ with_push a 0 k line
       → WritesKeep b w c1 c2 x.token → WritesFurther b w c2 c3 x.token (drop 1 xs) → WritesMade b w a c3 type n xs
   unfolding WritesMade WritesKeep WritesFurther
-  write_made a c1 c2 c3 type n line [] x element k ne at ee ek el ec keep further = absurd (ne refl)
-  write_made a c1 c2 c3 type n line (y ∷ ys) x element k ne at ee ek el ec keep further =
+  write_made a c1 c2 c3 type n line [] x element k ne some at ee ek el ec keep further = absurd (ne refl)
+  write_made a c1 c2 c3 type n line (y ∷ ys) x element k ne some at ee ek el ec keep further =
       let s = source_of b in
       let here = declared_at s x.token.0 in
+      let one : 0 < n = omega (arith, some) in
       let put : k ≡ i.Array (element_number (kind_named type)) (pos n) = ek ∙ ap (λ z. i.Array z (pos n)) ee in
-      subst (λ z. Emits w a c3 (MadeBuilt s w.text (z ∷ ys)) (λ final site p q. MakesAt s final site (kind_named type) n (z ∷ ys) p q)) at
-      (emits_as w _ _ _ _ a c3 (λ h. (tt, (h.0, names_of here ys h.0 h.1))) (λ h. (h.1.0, further_of here ys h.1.1)) (λ final site p q _ _ g. (g.0, g.2.0, g.1.1, g.1.0, g.2.1, g.2.2))
+      subst (λ z. Emits w a c3 (MadeBuilt s w.text n (z ∷ ys)) (λ final site p q. MakesAt s final site (kind_named type) n (z ∷ ys) p q)) at
+      (emits_as w _ _ _ _ a c3 (λ h. (tt, (h.1.0, names_of here ys h.1.0 h.1.1))) (λ h. (one, (h.1.0, further_of here ys h.1.1))) (λ final site p q _ _ g. (g.0, g.2.0, one, g.1.1, g.1.0, g.2.1, g.2.2))
       (emits_then w ⊤ _ (λ final site p q. At final (i.Array (element_number (kind_named type)) (pos n)) (line_at s x.token.0) p q × (0 < site.room)) (λ final site p q. (z : ℕ) × KeepsArray s final site here p z × FurtherAt s final site here ys z q) a c1 c3
       (emits_push_at w a c1 0 (i.Array (element_number (kind_named type)) (pos n)) (line_at s x.token.0) (ec ∙ ap (λ z. with_push a 0 z line) put ∙ ap (λ z. with_push a 0 (i.Array (element_number (kind_named type)) (pos n)) z) el) (λ z. cc) refl)
       (emits_then w _ _ (λ final site p q. KeepsArray s final site here p q) (λ final site p q. FurtherAt s final site here ys p q) c1 c2 c3 keep further)))
@@ -186,8 +192,8 @@ module _ (b : Bound) (w : Spot) where
   write_segment a c e type x bs xs n eb f en exs g =
       let s = source_of b in
       let f' = subst (λ z. Emits w a c (BoundsBuilt s w.text (map bound_pair_syntax z)) (λ final site p q. BoundsAt s final site 0 (map bound_pair_syntax z) (λ p q. q ≡ p) p q)) eb f in
-      let g' = subst (λ z. Emits w c e (MadeBuilt s w.text z) (λ final site p q. MakesAt s final site (kind_named type) n z p q)) exs g in
-      let g'' = subst (λ z. Emits w c e (MadeBuilt s w.text x.names.items) (λ final site p q. MakesAt s final site (kind_named type) z x.names.items p q)) (en ∙ sym (mapped bound_pair_syntax x.bounds.items)) g' in
+      let g' = subst (λ z. Emits w c e (MadeBuilt s w.text n z) (λ final site p q. MakesAt s final site (kind_named type) n z p q)) exs g in
+      let g'' = subst (λ z. Emits w c e (MadeBuilt s w.text z x.names.items) (λ final site p q. MakesAt s final site (kind_named type) z x.names.items p q)) (en ∙ sym (mapped bound_pair_syntax x.bounds.items)) g' in
       emits_as w _ _ _ _ a e (λ h. (h.0, h.1)) (λ h. (h.0, h.1)) (λ final site p q _ _ r. bounds_end s final site (MakesAt s final site (kind_named type) (length (map bound_pair_syntax x.bounds.items)) x.names.items) (map bound_pair_syntax x.bounds.items) 0 p r.0 q r.1 r.2)
       (emits_then w _ _ (λ final site p q. BoundsAt s final site 0 (map bound_pair_syntax x.bounds.items) (λ p q. q ≡ p) p q) (λ final site p q. MakesAt s final site (kind_named type) (length (map bound_pair_syntax x.bounds.items)) x.names.items p q) a c e f' g'')
 
@@ -244,4 +250,4 @@ module _ (b : Bound) (w : Spot) where
   unfolding OwesArrays WritesArrays
   arrays_none a c xs r f is = f c (subst (WritesArrays b w c c) (sym is) (emits_none w c))
 
-pub ruleset declared = (kept_nowhere, kept_elsewhere, kept_constant, kept_found, write_keep, write_no_keep, write_load, write_no_load, write_none_made, write_made, write_segment, puts_variables, puts_procedure, puts_class, puts_arrays)
+pub ruleset declared = (kept_nowhere, kept_elsewhere, kept_constant, kept_found, write_keep, write_no_keep, write_load, write_no_load, write_none_made, write_flat_made, write_made, write_segment, puts_variables, puts_procedure, puts_class, puts_arrays)

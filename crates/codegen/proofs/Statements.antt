@@ -154,7 +154,7 @@ module _ (b : Bound) (w : Spot) where
       (tick_then _ _ c0 c1 new e1
       (emits_loop w (IsBuilt s w.text (syntax_of h)) (StatementBuilt s w.text (statement_syntax y)) (λ z site. ExprAt s z site 0 (syntax_of h)) (λ z site. StmAt s z site 0 (statement_syntax y)) c1 c2 c3 c4 c5 c6 new start end jump es e2 f ej e4 g e6 ee en)))
 
-  -- what is not built
+  -- what has no code
   no_meaning : (a c : DraftOf) (x : Stmt) (y : Statement) → statement_syntax x ≡ y → (StatementBuilt (source_of b) w.text y → ⊥) → c ≡ given_up a → WritesStatement b w a c x
   no_meaning a c x y is never ec = stm_as a c x y is (emits_nothing w a c _ _ never ec)
 

@@ -272,7 +272,7 @@ module _ (b : Bound) where
   pub first_block : (old new : Written) (k : ℕ) (p : Block) → k ≡ 0 → WritesBlockText b old new 0 p → WritesBlockText b old new k p
   first_block old new k p e f = subst (λ z. WritesBlockText b old new z p) (sym e) f
 
--- ---- texts that are not built
+-- ---- texts that have no code
 
 pub text_given_up : (s : Source) (old new : Written) (k : ℕ) (x : Text) → (TextBuilt s k x → ⊥) → new.draft ≡ given_up old.draft → new.blocks ≡ old.blocks → new.classes ≡ old.classes → TextEmitted s old new k x
 unfolding given_up

@@ -1,5 +1,5 @@
 -- Which programs are built: all whose expressions and left sides are built.
-use Rattle.std.specs.Prelude.{◌≡◌, ⊤, ℕ, zero, suc, Bool, true, false, ◌||◌, List, [], ◌∷◌, Option, Some, None}
+use Rattle.std.specs.Prelude.{◌≡◌, ◌<◌, ⊤, ℕ, zero, suc, Bool, true, false, ◌||◌, List, [], ◌∷◌, length, Option, Some, None}
 use Rattle.sim_base.specs.declared.numbering.DeclNo.{DeclNo}
 use Rattle.sim_scope.specs.Assignments.{last_value, left_sides}
 use Rattle.sim_scope.specs.Access.{encloser}
@@ -202,14 +202,14 @@ abbrev pub NamesBuilt : Source → (text : ℕ) → List Identifier → Type 0
 NamesBuilt s text [] = ⊤
 NamesBuilt s text (x ∷ xs) = KeptBuilt s text (declared_at s x.token.0) × NamesBuilt s text xs
 
--- arrays with the same bounds, at least one
-abbrev pub MadeBuilt : Source → (text : ℕ) → List Identifier → Type 0
-MadeBuilt s text [] = ⊥
-MadeBuilt s text (x ∷ xs) = NamesBuilt s text (x ∷ xs)
+-- arrays with the same bounds, at least one, and at least one dimension
+abbrev pub MadeBuilt : Source → (text : ℕ) → (dimensions : ℕ) → List Identifier → Type 0
+MadeBuilt s text n [] = ⊥
+MadeBuilt s text n (x ∷ xs) = (0 < n) × NamesBuilt s text (x ∷ xs)
 
 abbrev pub SegmentsBuilt : Source → (text : ℕ) → List Arrayed → Type 0
 SegmentsBuilt s text [] = ⊤
-SegmentsBuilt s text (a ∷ more) = BoundsBuilt s text a.bounds × MadeBuilt s text a.names × SegmentsBuilt s text more
+SegmentsBuilt s text (a ∷ more) = BoundsBuilt s text a.bounds × MadeBuilt s text (length a.bounds) a.names × SegmentsBuilt s text more
 
 abbrev pub ArraysBuilt : Source → (text : ℕ) → Declarations → Type 0
 ArraysBuilt s text NoDeclaration = ⊤

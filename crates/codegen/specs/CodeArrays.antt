@@ -35,11 +35,11 @@ FurtherAt s code site first [] p q = q ≡ p
 FurtherAt s code site first (x ∷ xs) p q =
     (a : ℕ) × (b : ℕ) × (c : ℕ) × LoadsArray s code site first p a × At code i.CopyArr (line_at s x.token.0) a b × KeepsArray s code site (declared_at s x.token.0) b c × FurtherAt s code site first xs c q
 
--- the bounds stand on the stack, two for each dimension
+-- the bounds stand on the stack, two for each dimension, of which there is at least one
 abbrev pub MakesAt : Source → CodeOf → Site → Kind → (dimensions : ℕ) → List Identifier → ℕ → ℕ → Type 0
 MakesAt s code site kind n [] p q = ⊥
 MakesAt s code site kind n (x ∷ xs) p q =
-    (a : ℕ) × (b : ℕ) × (0 < site.room) × At code (i.Array (element_number kind) (pos n)) (line_at s x.token.0) p a × KeepsArray s code site (declared_at s x.token.0) a b × FurtherAt s code site (declared_at s x.token.0) xs b q
+    (a : ℕ) × (b : ℕ) × (0 < n) × (0 < site.room) × At code (i.Array (element_number kind) (pos n)) (line_at s x.token.0) p a × KeepsArray s code site (declared_at s x.token.0) a b × FurtherAt s code site (declared_at s x.token.0) xs b q
 
 -- n values are on the stack: the bounds before these
 abbrev pub BoundsAt : Source → CodeOf → Site → ℕ → List BoundPair → (End : ℕ → ℕ → Type 0) → ℕ → ℕ → Type 0

@@ -27,7 +27,7 @@ use Rattle.codegen_expr.specs.CodeExpr.{ByNameAt, ElementAt, ExprAt, ExprsAt, He
 
 -- What a left side is in code: a cell, by its level and its slot; the address on the stack of an element, of what is found anew, or of
 -- a reference, which is held against its class; a text on the stack to which a text is assigned, which is the value of an expression or lies
--- in the cell of the result of a procedure; or not built.
+-- in the cell of the result of a procedure; or what is no place.
 pub data Stored : Type 0 where
   InCell : (text : ℕ) → Key → Stored
   AtAddress : DeclNo → Expressions → (line : ℕ) → Stored

@@ -57,11 +57,11 @@ unfoldable pub OwesBounds : Bound → Spot → (old : DraftOf) → List Bounds �
 OwesBounds b w old bs m now rest = (end : DraftOf) → WritesBounds b w m now end rest → WritesBounds b w 0 old end bs
 
 unfoldable pub WritesMade : Bound → Spot → (old new : DraftOf) → TypeName → (dimensions : ℕ) → List Identifier → Type 0
-WritesMade b w old new type n xs = Emits w old new (MadeBuilt (source_of b) w.text xs) (λ final site p q. MakesAt (source_of b) final site (kind_named type) n xs p q)
+WritesMade b w old new type n xs = Emits w old new (MadeBuilt (source_of b) w.text n xs) (λ final site p q. MakesAt (source_of b) final site (kind_named type) n xs p q)
 
 unfoldable pub WritesSegment : Bound → Spot → (old new : DraftOf) → TypeName → ArraySegment → Type 0
 WritesSegment b w old new type a =
-    Emits w old new (BoundsBuilt (source_of b) w.text (segment_syntax a).bounds × MadeBuilt (source_of b) w.text (segment_syntax a).names)
+    Emits w old new (BoundsBuilt (source_of b) w.text (segment_syntax a).bounds × MadeBuilt (source_of b) w.text (length (segment_syntax a).bounds) (segment_syntax a).names)
     (λ final site p q. BoundsAt (source_of b) final site 0 (segment_syntax a).bounds (MakesAt (source_of b) final site (kind_named type) (length (segment_syntax a).bounds) (segment_syntax a).names) p q)
 
 unfoldable pub WritesSegments : Bound → Spot → (old new : DraftOf) → TypeName → List ArraySegment → Type 0

@@ -192,6 +192,10 @@ fn emit_made(
         draft.give_up();
         return Ok(());
     }
+    if dimensions == 0 {
+        draft.give_up();
+        return Ok(());
+    }
     let first = &names[0];
     draft.push(
         0,

@@ -27,7 +27,7 @@ use sim_scope::{Bound, block_at, encloser};
 use sim_tree::{Assigned, Block, Expr, Identifier, Stmt};
 use std::alloc::AllocError;
 
-/// Writes the code of a statement, which stands on no value. The draft stops being whole where a form is not built.
+/// Writes the code of a statement, which stands on no value. The draft stops being whole where something has no code.
 #[cycle(emit)]
 #[tactic(auto, using(crate::proofs::Statements::writes))]
 pub(crate) fn emit_statement(

@@ -68,7 +68,7 @@ no_operands None x xs h = h
 no_operands (Some v) x xs h = h
 
 module _ (b : Bound) (w : Spot) (n : ℕ) where
-  -- what stands behind something and is not built
+  -- what stands behind something and has no code
   pub gives_up : (P Q : Type 0) (A B : Part) (a c d : DraftOf) → Emits w a c P A → (Q → ⊥) → d ≡ given_up c → Emits w a d Q B
   gives_up P Q A B a c d f never is =
       emits_as w (P × ⊥) Q _ _ a d (λ q. absurd (never q)) (λ q. absurd q.1) (λ final site p q _ _ r. absurd r.2)

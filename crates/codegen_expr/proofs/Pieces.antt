@@ -273,7 +273,7 @@ emits_push_at t a b n x line e ne r =
     has_room : {m : ℕ} {r : ℕ} → suc n ≤ m → m ≤ r → n < r
     has_room h1 h2 = omega (arith, h1, h2)
 
--- what is not built
+-- what has no code
 pub emits_nothing : (t : Spot) (a b : DraftOf) (P : Type 0) (H : CodeOf → Site → ℕ → ℕ → Type 0) → (P → ⊥) → b ≡ given_up a → Emits t a b P H
 unfolding given_up
 emits_nothing t a b P H never e =

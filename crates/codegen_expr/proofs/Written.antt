@@ -238,7 +238,7 @@ module _ (b : Bound) (w : Spot) (n : ℕ) where
       and_emits (sort_of (is_text s left) operator) (line_at s token.0) (λ f site. ExprAt s f site n left) (λ f site. ExprAt s f site n (syntax_of a)) (λ f site. ExprAt s f site (suc n) (syntax_of a)) (IsBuilt s w.text left) (IsBuilt s w.text (syntax_of a)) begin c7 (sym ex ∙ ek ∙ ap sorted_of (sym st))
       (emits_if w (IsBuilt s w.text left) (IsBuilt s w.text (syntax_of a)) ⊤ (λ z site. ExprAt s z site n left) (λ z site. ExprAt s z site n (syntax_of a)) (λ z site. Pushes z site n (i.Bool (pos 0))) begin c1 c2 c3 c4 c5 c6 c7 jump over start end l ej e2 f3 eo e4 es (emits_push w c4 c5 n (i.Bool (pos 0)) 0 e5 (λ z. cc) refl) ee e6 e7)
 
-  -- what stands behind something and is not built
+  -- what stands behind something and has no code
   gives_up : (P Q : Type 0) (A B : Place) (a c d : DraftOf) → Emits w a c P A → (Q → ⊥) → d ≡ given_up c → Emits w a d Q B
   gives_up P Q A B a c d f never is =
       emits_as w (P × ⊥) Q _ _ a d (λ q. absurd (never q)) (λ q. absurd q.1) (λ final site p q _ _ r. absurd r.2)

@@ -22,7 +22,7 @@ pub record PlannedOf : Type 0 where
   pub types : List CodeType
 
 -- What is written so far: the instructions, the room on the operand stack that is enough for them, how many cells and temps are enough, and
--- whether all that was to be written is written. Where a form is not built, it is not. And for each block of the code what is planned of it. And
+-- whether all that was to be written is written. Where something has no code, it is not. And for each block of the code what is planned of it. And
 -- the thunks so far, of which one has room for no value as long as its code is being written; and the actual parameters of checked calls.
 pub record DraftOf : Type 0 where
   pub instrs : List Lined
@@ -73,7 +73,7 @@ thunk_ended c t n = record { instrs = c.instrs; room = n; size = c.size; whole =
 unfoldable pub with_list : DraftOf → List CodeActual → DraftOf
 with_list c xs = record { instrs = c.instrs; room = c.room; size = c.size; whole = c.whole; classes = c.classes; thunks = c.thunks; lists = c.lists ++ (xs ∷ []) }
 
--- something is not built
+-- something has no code
 unfoldable pub given_up : DraftOf → DraftOf
 given_up c = record { instrs = c.instrs; room = c.room; size = c.size; whole = false; classes = c.classes; thunks = c.thunks; lists = c.lists }
 

@@ -261,7 +261,7 @@ impl Draft {
         i64::try_from(self.instrs.len()).map_err(|_| AllocError)
     }
 
-    /// What comes next is not built yet.
+    /// What comes next has no code.
     #[tactic(auto, unfolding(crate::specs::Drafts::given_up))]
     pub fn give_up(&mut self)
         ensures { self.new ≡ given_up self.old }

@@ -20,8 +20,8 @@ use sim_scope::Bound;
 use sim_tree::{Expr, Operator};
 use std::alloc::AllocError;
 
-/// Writes the code of an expression, which stands on so many values and leaves one more. The draft stops being whole where a form is
-/// not built. The depth must stay below 2^32.
+/// Writes the code of an expression, which stands on so many values and leaves one more. The draft stops being whole where something
+/// has no code. The depth must stay below 2^32.
 #[cycle(emit)]
 #[tactic(auto, using(crate::proofs::Written::writes))]
 pub fn emit_expr(

@@ -93,7 +93,7 @@ pub(crate) enum Seen {
     NamedArray,
     /// A formal parameter that is a procedure, by name or not.
     Procedure(bool),
-    /// It is not built.
+    /// It has no code.
     Nothing,
 }
 

@@ -101,6 +101,14 @@ leads_given fs cells m place j f x r h has e leads = (
       has_to fs place f r.frame r.stamp (λ p. ne (sym old.2 ∙ ap (λ q. (frame_at fs q).number) p ∙ has.2)) old,
 )
 
+found_given : (fs : List Frame) (cells : List Slot) (m : Frames) (place j : ℕ) (f : Frame) (x : Instance Cells) (n : ℕ) → Holds fs cells m → Has fs place j → slice_get m.instances j ≡ Some x →
+    is_live (with_instance m j (record x { given_back = true })) n ≡ true → (at : ℕ) × Has (set fs place f) at n
+found_given fs cells m place j f x n h has e on =
+    let y : Instance Cells = record x { given_back = true } in
+    let ne : n ≡ j → ⊥ = λ s. off (sym (ap is_live_in (gone_now m j x e)) ∙ ap (is_live (with_instance m j y)) (sym s) ∙ on) in
+    let was = h.found n (sym (ap is_live_in (live_other m j x y n ne)) ∙ on) in
+    (was.0, has_to fs place f was.0 n (λ p. ne (sym was.1.2 ∙ ap (λ q. (frame_at fs q).number) p ∙ has.2)) was.1)
+
 gives_in : (fs : List Frame) (cells : List Slot) (m : Frames) (place j : ℕ) (f : Frame) (x : Instance Cells) → Holds fs cells m → Has fs place j → slice_get m.instances j ≡ Some x →
     f.live ≡ false → f.base ≡ (frame_at fs place).base → f.cells ≡ (frame_at fs place).cells → Holds (set fs place f) cells (with_instance m j (record x { given_back = true }))
 gives_in fs cells m place j f x h has e free b0 c0 =
@@ -111,6 +119,7 @@ gives_in fs cells m place j f x h has e free b0 c0 =
           get_set_other m.instances n j _ (λ s. ne q n hq (h.single q place n (was q n hq) (has.0, has.1, has.2 ∙ sym s)))
           ∙ h.known q n (was q n hq)
           ∙ ap (λ g. Some (instance_of cells g)) (sym (frame_other fs place f q (ne q n hq)));
+      found = λ n on. found_given fs cells m place j f x n h has e on;
       standings = λ q n hq. subst (λ g. StandsAs g.component (slice_get m.standings n)) (sym (frame_other fs place f q (ne q n hq))) (h.standings q n (was q n hq));
       counted = h.counted ∙ sym (length-set m.instances j _);
       single = λ p q n hp hq. h.single p q n (was p n hp) (was q n hq);

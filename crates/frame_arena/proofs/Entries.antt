@@ -26,6 +26,11 @@ module _ {X : Type 0} where
   get_new [] y = refl
   get_new (x ∷ xs) y = get_new xs y
 
+below_live : (xs : List (Instance Cells)) (n : ℕ) → is_live_in (unless_given (slice_get xs n)) ≡ true → n < length xs
+below_live [] n on = absurd (off on)
+below_live (x ∷ xs) zero on = omega arith
+below_live (x ∷ xs) (suc n) on = let less = below_live xs n on in omega (arith, less)
+
 live_old : (m : Frames) (x : Instance Cells) (s : Standing Activation) (n : ℕ) → n < length m.instances → live (entered m x s) n ≡ live m n
 live_old m x s n h = ap unless_given (get_old m.instances (x ∷ []) n h)
 
@@ -45,10 +50,10 @@ leads_entered fs m place f x s r free leads =
 pub here_entered : (fs : List Frame) (place : ℕ) (f : Frame) → place < length fs → f.live ≡ true → Has (set fs place f) place f.number
 here_entered fs place f there on = (subst (λ l. place < l) (sym (length-set fs place f)) there, ap (λ g. g.live) (frame_same fs place f there) ∙ on, ap (λ g. g.number) (frame_same fs place f there))
 
-pub enters : (fs : List Frame) (cells : List Slot) (m : Frames) (place : ℕ) (f : Frame) (s : Standing Activation) → StandsAs f.component (Some s) → Holds fs cells m → place < length fs → (frame_at fs place).live ≡ false →
+pub enters : (fs : List Frame) (cells : List Slot) (m : Frames) (place : ℕ) (f : Frame) (s : Standing Activation) → StandsAs f.component (Some s) → Holds fs cells m → place < length fs → (frame_at fs place).live ≡ false → f.live ≡ true →
     f.number ≡ length m.instances → f.base ≡ (frame_at fs place).base → f.cells ≡ (frame_at fs place).cells → ((r : FrameRef) → f.parent ≡ Some r → Leads fs m r) →
     Holds (set fs place f) cells (entered m (instance_of cells f) s)
-enters fs cells m place f s stands h there free numbered b0 c0 parent =
+enters fs cells m place f s stands h there free on0 numbered b0 c0 parent =
     let x : Instance Cells = instance_of cells f in
     let fresh : (q n : ℕ) → q ≡ place → Has (set fs place f) q n → n ≡ length m.instances = λ q n p hq. sym hq.2 ∙ ap (λ z. (frame_at (set fs place f) z).number) p ∙ ap (λ g. g.number) (frame_same fs place f there) ∙ numbered in
     record {
@@ -58,6 +63,14 @@ enters fs cells m place f s stands h there free numbered b0 c0 parent =
             | inr ne ↦
                 let was : Has fs q n = has_from fs place f q n ne hq in
                 get_old m.instances (x ∷ []) n (known_below fs cells m q n h was) ∙ h.known q n was ∙ ap (λ g. Some (instance_of cells g)) (sym (frame_other fs place f q ne))
+          ];
+      found = λ n on.
+          elim (same_or_not n (length m.instances)) [
+            | inl e ↦ (place, subst (Has (set fs place f) place) (numbered ∙ sym e) (here_entered fs place f there on0))
+            | inr ne ↦
+                let less : n < length m.instances = let a = below_live (m.instances ++ x ∷ []) n on in let b = length-append m.instances (x ∷ []) in omega (arith, a, b, ne) in
+                let was = h.found n (sym (ap is_live_in (live_old m x s n less)) ∙ on) in
+                (was.0, has_to fs place f was.0 n (λ p. off (sym free ∙ ap (λ z. (frame_at fs z).live) (sym p) ∙ was.1.1)) was.1)
           ];
       standings = λ q n hq.
           elim (same_or_not q place) [
@@ -153,6 +166,7 @@ frees fs cells m place c s h there free h1 h2 leads =
           let ne : place ≡ q → ⊥ = λ p. off (sym free ∙ ap (λ z. (frame_at fs z).live) p ∙ hq.1) in
           h.known q n hq
           ∙ ap (λ l. Some (record (instance_of cells (frame_at fs q)) { cells = l })) (sym (cells_elsewhere cells (frame_at fs q).base (frame_at fs q).cells k s (apart_from (frame_at fs place) (frame_at fs q) c (h.apart place q there hq.0 ne) h1)));
+      found = h.found;
       standings = h.standings;
       counted = h.counted;
       single = h.single;
@@ -184,6 +198,13 @@ leads_written fs m j x y r e below leads = (
         | inr ne ↦ leads.1 (sym (ap is_live_in (live_other m j x y r.stamp ne)) ∙ on)
       ],
 )
+
+found_written : (fs : List Frame) (cells : List Slot) (m : Frames) (j : ℕ) (x y : Instance Cells) (n : ℕ) → Holds fs cells m → live m j ≡ Some x → is_live (with_instance m j y) n ≡ true → (place : ℕ) × Has fs place n
+found_written fs cells m j x y n h e on =
+    elim (same_or_not n j) [
+      | inl s ↦ h.found n (ap (is_live m) s ∙ ap is_live_in e)
+      | inr ne ↦ h.found n (sym (ap is_live_in (live_other m j x y n ne)) ∙ on)
+    ]
 
 cell_set_is : (m : Frames) (j c : ℕ) (x : Instance Cells) (v : Value) → live m j ≡ Some x → c < length x.cells → cell_set m j c v ≡ Some (with_instance m j (record x { cells = set x.cells c (Some v) }))
 cell_set_is m j c x v e h =
@@ -225,6 +246,7 @@ writes_in fs cells m place j c s h has h1 h2 leads held =
                 ∙ h.known q n hq
                 ∙ ap (λ l. Some (record (instance_of cells (frame_at fs q)) { cells = l })) (sym (cells_elsewhere cells (frame_at fs q).base (frame_at fs q).cells k s (apart_from f (frame_at fs q) c (h.apart place q has.0 hq.0 (λ e. ne (sym e))) h1)))
           ];
+      found = λ n on. found_written fs cells m j x y n h lives on;
       standings = h.standings;
       counted = h.counted ∙ sym (length-set m.instances j y);
       single = h.single;
@@ -300,6 +322,7 @@ keeps fs cells m place h there on =
                 ∙ h.known q n (was q n hq)
                 ∙ ap (λ g. Some (instance_of cells g)) (sym (frame_other fs place f q ne))
           ];
+      found = λ n on. let at = found_written fs cells m j x y n h lives on in (at.0, will at.0 n at.1);
       standings = λ q n hq. subst (λ c. StandsAs c (slice_get m.standings n)) (sym (kept_by (λ g. g.component) fs place f q there refl)) (h.standings q n (was q n hq));
       counted = h.counted ∙ sym (length-set m.instances j y);
       single = λ p q n hp hq. h.single p q n (was p n hp) (was q n hq);
@@ -329,6 +352,7 @@ none_has q n h = omega (arith, h.0)
 pub begins : Holds [] [] empty_memory
 begins = record {
   known = λ q n h. absurd (none_has q n h);
+  found = λ n on. absurd (off on);
   standings = λ q n h. absurd (none_has q n h);
   counted = refl;
   single = λ p q n h h2. absurd (none_has p n h);

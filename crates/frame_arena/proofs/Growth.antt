@@ -28,6 +28,7 @@ grown_cells cells base (suc n) =
 pub grows : (fs : List Frame) (cells : List Slot) (m : Frames) → Holds fs cells m → Holds fs (cells ++ empty_slot ∷ []) m
 grows fs cells m h = record {
   known = λ q n hq. h.known q n hq ∙ ap (λ l. Some (record (instance_of cells (frame_at fs q)) { cells = l })) (sym (grown_cells cells (frame_at fs q).base (frame_at fs q).cells));
+  found = h.found;
   standings = h.standings;
   counted = h.counted;
   single = h.single;
@@ -85,6 +86,7 @@ adds fs old cells m f ho h free base inside =
       known = λ q n hq.
           let was = has_old fs f free q n hq in
           h.known q n was ∙ ap (λ g. Some (instance_of cells g)) (sym (frame_before fs f q was.0));
+      found = λ n on. let at = h.found n on in (at.0, has_more fs f free at.0 n at.1);
       standings = λ q n hq.
           let was = has_old fs f free q n hq in
           subst (λ g. StandsAs g.component (slice_get m.standings n)) (sym (frame_before fs f q was.0)) (h.standings q n was);

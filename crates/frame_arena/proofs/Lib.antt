@@ -3,7 +3,9 @@ pub mod Enclosers
 pub mod Tops
 pub mod Reading
 pub mod Changes
+pub mod Counts
 pub mod Entries
+pub mod Freed
 pub mod Growth
 pub mod Pairs
 pub mod Rooms

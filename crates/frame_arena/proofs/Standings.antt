@@ -50,6 +50,7 @@ module _ (fs : List Frame) (place : ℕ) (there : place < length fs) (c : Compon
               | inl p ↦ ap (λ z. Some (instance_of cells (frame_at fs z))) p ∙ ap (λ g. Some (instance_of cells g)) (sym (ap (frame_at (set fs place changed)) p ∙ frame_same fs place changed there))
               | inr ne ↦ ap (λ g. Some (instance_of cells g)) (sym (frame_other fs place changed q ne))
             ];
+        found = λ n on. let at = h.found n on in (at.0, has_kept at.0 n at.1);
         standings = λ q n hq.
             elim (same_or_not q place) [
               | inl p ↦

@@ -122,9 +122,10 @@ IsKeeping frames place number c = Has frames place number × ((frame_at frames p
 abbrev pub KeptBefore : (old new : List Frame) → Type 0
 KeptBefore old new = (place number : ℕ) (c : Component) → IsKeeping new place number c → IsKeeping old place number c
 
--- The frames in the regions are the instances that are not given back.
+-- The frames in the regions are the instances that are not given back, one for one.
 pub record Holds (frames : List Frame) (cells : List Slot) (m : Frames) : Type 0 where
   pub known : (place number : ℕ) → Has frames place number → slice_get m.instances number ≡ Some (instance_of cells (frame_at frames place))
+  pub found : (number : ℕ) → is_live m number ≡ true → (place : ℕ) × Has frames place number
   pub standings : (place number : ℕ) → Has frames place number → StandsAs (frame_at frames place).component (slice_get m.standings number)
   pub counted : length m.standings ≡ length m.instances
   pub single : (place other number : ℕ) → Has frames place number → Has frames other number → place ≡ other

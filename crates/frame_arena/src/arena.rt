@@ -1,8 +1,10 @@
 //! The storage as a whole.
-ghost use Rattle.std.specs.Prelude.{length};
+ghost use Rattle.std.specs.Prelude.{◌≡◌, length};
+ghost use Rattle.sim_code.specs.Machine.{Frames};
 ghost use Rattle.frame_arena.specs.Frames.{Holds, Laid, empty_memory, rooms};
+ghost use Rattle.frame_arena.specs.Free.{live_instances};
 
-use crate::frames::Frame;
+use crate::frames::{self, Frame};
 use crate::slot::Slot;
 use std::alloc::Global;
 
@@ -28,5 +30,12 @@ impl Arena {
             cells: Vec::new(alloc),
             stacks: Vec::new(alloc),
         }
+    }
+
+    /// How many frames there are, which is how many instances are not given back.
+    pub fn live(&self) -> usize
+        ensures { (m : Frames) → Holds self.now.frames.items self.now.cells.items m → result ≡ live_instances m }
+    {
+        frames::live(&self.frames)
     }
 }

@@ -1,12 +1,13 @@
 //! Frames, and their cells in one list of slots. A frame lies in a region, which is used again when the frame is given back; its number
 //! in the order of entry is never used again. A reference to a frame has its region and, as its stamp, its number.
-ghost use Rattle.std.specs.Prelude.{◌≡◌, ℕ, ◌<◌, List, IfSome, Some, None, length, slice_get, slice_set, nat_lt, true, false};
+ghost use Rattle.std.specs.Prelude.{◌≡◌, ℕ, ◌<◌, List, ◌∷◌, Option, IfSome, Some, None, length, slice_get, slice_set, nat_lt, true, false};
 ghost use Rattle.sim_values.specs.declared.value.FrameRef.{FrameRef};
 ghost use Rattle.sim_chains.specs.Components.{Standing};
 ghost use Rattle.sim_code.specs.Instances.{Instance, at_level as frame_of_level, entered, given, is_given_at_end as ends_for_good, is_live, with_instance};
 ghost use Rattle.sim_code.specs.Machine.{Activation, Cells, Frames, Value, joined, cell as cell_of_frame, cell_set};
 ghost use Rattle.frame_arena.specs.declared.slot.Slot.{Slot};
 ghost use Rattle.frame_arena.specs.Frames.{Has, Holds, HoldsAfter, IsKeeping, IsSpan, KeptBefore, Leads, LeadsAfter, SlotLeads, StandsAs, cells_at, found_value, frame_at, instance_of, keeps_chain, number_in, number_there, rooms, span_number, stands_first};
+ghost use Rattle.frame_arena.specs.Free.{FreeLists, live_instances, with_list};
 ghost use Rattle.frame_arena.specs.Slots.{cell_value, value_of};
 ghost use Rattle.frame_arena.specs.Stacks.{slot_at};
 ghost use Rattle.sim_code.specs.Outcome.{ArrayOf};
@@ -61,6 +62,13 @@ pub struct Frame {
     pub room: u32,
     /// The next free region of its block.
     pub next: u32,
+}
+
+/// How many regions have a frame, which is how many instances are not given back.
+pub fn live(frames: &[Frame]) -> usize
+    ensures instances { (cells : List Slot) (m : Frames) → Holds frames.now cells m → result ≡ live_instances m }
+{
+    frames.iter().filter(|frame| frame.live).count()
 }
 
 /// The region of a frame, if it was not given back.
@@ -253,6 +261,9 @@ pub fn give_back(frames: &mut [Frame], heads: &mut [u32], place: u32)
         block < length heads.old → slice_get heads.new block ≡ Some place }
     ensures leads { (cells : List Slot) (m : Frames) (r : FrameRef) → Holds frames.old cells m → Leads frames.old m r → Leads frames.new (given m (frame_at frames.old place).number) r }
     ensures chains { KeptBefore frames.old frames.new }
+    ensures lists { (lists : ℕ → List ℕ) → FreeLists frames.old heads.old lists None →
+        let block = (frame_at frames.old place).block in
+        FreeLists frames.new heads.new (with_list lists block (place ∷ lists block)) None }
 {
     let frame = &mut frames[place as usize];
     frame.live = false;
@@ -305,6 +316,7 @@ pub fn enter(frames: &mut [Frame], place: usize, entry: Entry)
         let region = frame_at frames.old place in
         Holds frames.new cells (entered m (record { text = entry.block; level = entry.level; encloser = number_in entry.parent; cells = cells_at cells region.base region.cells; passing = entry.passing; kept = false; given_back = false }) (stands_first entry.object)) }
     ensures chains { KeptBefore frames.old frames.new }
+    ensures lists { (heads : List ℕ) (lists : ℕ → List ℕ) → FreeLists frames.old heads lists (Some place) → entry.block < length heads → FreeLists frames.new heads lists None }
 {
     let frame = &mut frames[place];
     frame.live = true;
@@ -375,6 +387,7 @@ pub fn keep(frames: &mut [Frame], place: usize)
         let frame = frame_at frames.old place in
         Leads frames.new (with_instance m frame.number (record (instance_of cells frame) { kept = true })) r }
     ensures chains { KeptBefore frames.old frames.new }
+    ensures lists { (heads : List ℕ) (lists : ℕ → List ℕ) → FreeLists frames.old heads lists None → FreeLists frames.new heads lists None }
 {
     frames[place].kept = true;
 }
@@ -400,6 +413,7 @@ pub fn stand(frames: &mut [Frame], place: usize, component: Component)
     ensures has { (at number : ℕ) → Has frames.old at number → Has frames.new at number }
     ensures chains { (at number : ℕ) (c : Component) → (at ≡ place → ⊥) → IsKeeping frames.new at number c → IsKeeping frames.old at number c }
     ensures stands { (frame_at frames.new place).component ≡ component }
+    ensures lists { (heads : List ℕ) (lists : ℕ → List ℕ) → FreeLists frames.old heads lists None → FreeLists frames.new heads lists None }
 {
     frames[place].component = component;
 }

@@ -1,15 +1,19 @@
 //! New regions for frames.
-ghost use Rattle.std.specs.Prelude.{◌≡◌, ◌+◌, ◌<◌, ℕ, List, IfOk, IfSome, Some, length, slice_get, false};
+ghost use Rattle.std.specs.Prelude.{◌≡◌, ◌+◌, ◌<◌, ℕ, List, [], ◌∷◌, IfOk, IfSome, MatchOption, Some, None, length, slice_get, false};
 ghost use Rattle.sim_code.specs.Machine.{Frames};
 ghost use Rattle.frame_arena.specs.declared.frames.Frame.{Frame};
 ghost use Rattle.sim_code.specs.Outcome.{ArrayOf};
 ghost use Rattle.frame_arena.specs.Arrays.{AllLeadArrays, RegionOf};
+ghost use Rattle.frame_arena.specs.Free.{AllHaveShape, FreeLists, with_list};
 ghost use Rattle.frame_arena.specs.Frames.{Holds, frame_at, HasShape, KeptBefore, Laid, Leads, rooms};
 ghost use Rattle.sim_values.specs.declared.value.FrameRef.{FrameRef};
 
 use crate::frames::{Component, Frame};
 use crate::slot::{EMPTY, Slot};
 use std::alloc::AllocError;
+
+/// No region has this number, which ends a list of free regions.
+pub const NO_REGION: u32 = u32::MAX;
 
 // As many slots more, none of which has a value.
 fn grow(slots: &mut Vec<Slot>, count: u32) -> Result<(), AllocError>
@@ -24,7 +28,7 @@ fn grow(slots: &mut Vec<Slot>, count: u32) -> Result<(), AllocError>
 }
 
 /// A new region that is free, with as many cells and as much room for operands. It answers its place, or want of memory, as where
-/// there would be 2^32 cells or operands.
+/// there would be 2^32 cells, operands or regions.
 pub fn add_region(
     frames: &mut Vec<Frame>,
     cells: &mut Vec<Slot>,
@@ -43,6 +47,7 @@ pub fn add_region(
     ensures chains { IfOk result (λ place. KeptBefore frames.old.items frames.new.items) }
     ensures arrays { IfOk result (λ place. (regions : List RegionOf) (arrays : List ArrayOf) → AllLeadArrays regions arrays cells.old.items → AllLeadArrays regions arrays cells.new.items) }
     ensures stacks { IfOk result (λ place. Laid 0 (rooms frames.old.items) (length stacks.old.items) → Laid 0 (rooms frames.new.items) (length stacks.new.items)) }
+    ensures lists { IfOk result (λ place. (heads : List ℕ) (lists : ℕ → List ℕ) → FreeLists frames.old.items heads lists None → FreeLists frames.new.items heads lists (Some place)) }
 {
     let Ok(base) = u32::try_from(cells.len()) else {
         return Err(AllocError);
@@ -51,6 +56,9 @@ pub fn add_region(
         return Err(AllocError);
     };
     let place = frames.len();
+    if place >= NO_REGION as usize {
+        return Err(AllocError);
+    }
     grow(cells, count)?;
     grow(stacks, room)?;
     frames.push(Frame {
@@ -86,6 +94,9 @@ pub fn take_free(
     ensures shape { IfSome result (λ place. HasShape (frame_at frames.now place) cells room) }
     ensures first { (place : ℕ) → slice_get heads.old block ≡ Some place → place < length frames.now → (frame_at frames.now place).live ≡ false →
         HasShape (frame_at frames.now place) cells room → result ≡ Some place }
+    ensures lists { (lists : ℕ → List ℕ) → FreeLists frames.now heads.old lists None → block < length heads.old →
+        MatchOption result ((heads.new ≡ heads.old) × (AllHaveShape frames.now block cells room → lists block ≡ []))
+        (λ place. (rest : List ℕ) × (lists block ≡ place ∷ rest) × FreeLists frames.now heads.new (with_list lists block rest) (Some place)) }
 {
     if block as usize >= heads.len() {
         return None;

@@ -71,7 +71,7 @@ pub find_held : (nodes : List Node) (root : Option ProcessNo) (l : List Notice) 
 find_held nodes root l x h has =
     let same : sum_by (one_of x) (in_order h.tree) ≡ sum_by (one_of x) l = ap (sum_by (one_of x)) h.listed in
     find_in nodes None x l (λ f. total f h.tree) h.tree [] None (omega (arith, total-listed (one_of x) h.tree))
-    refl h.rooted.stands (append-nil (in_order h.tree) ∙ h.listed) (λ f. omega arith) h.rooted.balanced tt
+    refl h.rooted.stands (append-nil (in_order h.tree) ∙ h.listed) (λ f. omega arith) h.rooted.balanced tt tt
 
 -- the list around a notice that is found
 pub record IsAround (x : ℕ) (l front back : List Notice) (n : Notice) : Type 0 where

@@ -1,5 +1,5 @@
 -- A new notice comes into an empty place.
-use Rattle.std.proofs.Common.{◌≡◌, ◌≢◌, ℕ, ℤ, ◌+◌, ◌^◌, ◌<◌, ◌≤◌, Bool, inl, inr, Option, Some, None, List, [], ◌∷◌, ◌++◌, length, set, refl, sym, ap, ◌∙◌, subst, arith, length-set}
+use Rattle.std.proofs.Common.{◌≡◌, ◌≢◌, ℕ, zero, suc, ℤ, ◌+◌, ◌^◌, ◌<◌, ◌≤◌, Bool, true, false, inl, inr, Option, Some, None, List, [], ◌∷◌, ◌++◌, length, set, refl, sym, ap, ◌∙◌, subst, arith, length-set}
 use Rattle.std.specs.List.{sum_by}
 use Rattle.std.proofs.lemmas.Bool.{cond-true, cond-false, cases_eq, ne_eqb}
 use Rattle.std.proofs.lemmas.List.Sums.{sum_by-append}
@@ -9,11 +9,11 @@ use Rattle.notices.specs.Schedule.{IsOnce}
 use Rattle.notice_tree.specs.declared.node.Node.{Node}
 use Rattle.notice_tree.specs.declared.spot.Spot.{Spot}
 use Rattle.notice_tree.specs.Nodes.{node_at, hung, linked_at, leaf}
-use Rattle.notice_tree.specs.Trees.{Tree, Empty, Branch, in_order, total, one_of, one, Step, OnLeft, OnRight, before, after, way_total, WayStands}
+use Rattle.notice_tree.specs.Trees.{Tree, Empty, Branch, in_order, total, one_of, one, Step, OnLeft, OnRight, before, after, way_total, TellHeights, WayStands}
 use Rattle.notice_tree.specs.Climb.{IsGap, IsWhole}
 use Rattle.notice_tree.specs.Spots.{SideIs}
 use Rattle.notice_tree.specs.Held.{IsHeld, IsOpen}
-use Rattle.notice_tree.proofs.StandLemmas.{one_of-differs, node_at-set_other, node_at-set_same, Stands-kept, WayStands-kept, Stands-hung, hung-kept}
+use Rattle.notice_tree.proofs.StandLemmas.{one_of-differs, node_at-set_other, node_at-set_same, Stands-kept, TellHeights-kept, WayStands-kept, Stands-hung, hung-kept}
 use Rattle.notice_tree.proofs.ListLemmas.{way_total-listed, sum_by-one, once_listed, one_of-le, one_of-zero}
 
 pub length-linked_at : (nodes : List Node) (parent : Option ProcessNo) (on_left : Bool) (x : ProcessNo) → length (linked_at nodes parent on_left x) ≡ length nodes
@@ -27,6 +27,19 @@ linked_at-kept nodes stop link parent on_left x (OnLeft n u ∷ way) y s e =
     ap (λ (p : Option ProcessNo). node_at (linked_at nodes p on_left x) y) s.0 ∙ node_at-set_other nodes n.process.0 y _ (one_of-differs y n (omega arith))
 linked_at-kept nodes stop link parent on_left x (OnRight u n ∷ way) y s e =
     ap (λ (p : Option ProcessNo). node_at (linked_at nodes p on_left x) y) s.0 ∙ node_at-set_other nodes n.process.0 y _ (one_of-differs y n (omega arith))
+
+-- no height changes
+set_height : (nodes : List Node) (x y : ℕ) (c : Node) → c.height ≡ (node_at nodes x).height → (node_at (set nodes x c) y).height ≡ (node_at nodes y).height
+set_height [] x y c e = refl
+set_height (d ∷ nodes) zero zero c e = e
+set_height (d ∷ nodes) zero (suc y) c e = refl
+set_height (d ∷ nodes) (suc x) zero c e = refl
+set_height (d ∷ nodes) (suc x) (suc y) c e = set_height nodes x y c e
+
+linked_height : (nodes : List Node) (parent : Option ProcessNo) (on_left : Bool) (x : ProcessNo) (y : ℕ) → (node_at (linked_at nodes parent on_left x) y).height ≡ (node_at nodes y).height
+linked_height nodes None on_left x y = refl
+linked_height nodes (Some up) true x y = set_height nodes up.0 y (record (node_at nodes up.0) { left = Some x }) refl
+linked_height nodes (Some up) false x y = set_height nodes up.0 y (record (node_at nodes up.0) { right = Some x }) refl
 
 -- the way leads from the new node
 linked_way : (nodes : List Node) (parent : Option ProcessNo) (on_left : Bool) (x : ProcessNo) (way : List Step) → WayStands nodes None None way parent → SideIs on_left way → ((y : ℕ) → way_total (one_of y) way ≤ 1) → WayStands (linked_at nodes parent on_left x) None (Some x) way parent
@@ -118,6 +131,7 @@ IsPut-made nodes spot front back x t o within once none room short =
         short = omega arith;
         balanced = (omega arith, omega arith, tt, tt);
         way_balanced = o.balanced;
+        heights = TellHeights-kept nodes new 0 o.way (λ y h. linked_height first spot.parent spot.on_left x y ∙ ap (λ (d : Node). d.height) (node_at-set_other nodes x.0 y (leaf t) (apart y h))) o.heights;
         low = omega arith;
         high = omega arith;
       };

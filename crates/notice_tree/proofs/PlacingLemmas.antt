@@ -19,7 +19,7 @@ use Rattle.notice_tree.specs.declared.spot.Spot.{Spot}
 use Rattle.notice_tree.specs.declared.spot.Aim.{Aim}
 use Rattle.notice_tree.specs.declared.spot.Aim.TheVariants.{First, Last, At}
 use Rattle.notice_tree.specs.Nodes.{node_at}
-use Rattle.notice_tree.specs.Trees.{Tree, Empty, Branch, in_order, height, top, total, one_of, one, Stands, NodeIs, Step, OnLeft, OnRight, before, after, way_total, IsWayBalanced, WayStands}
+use Rattle.notice_tree.specs.Trees.{Tree, Empty, Branch, in_order, height, top, total, one_of, one, Stands, NodeIs, Step, OnLeft, OnRight, before, after, way_total, IsWayBalanced, TellHeights, WayStands}
 use Rattle.notice_tree.specs.Spots.{stands_in_front, front, back, IsParted, SideIs, IsSought, first_process}
 use Rattle.notice_tree.specs.Held.{IsHeld, IsOpen, front_beside, back_beside}
 use Rattle.notice_tree.proofs.ListLemmas.{none_removed, once_listed, sum_by-one, way_total-listed, after_first-lacks, lacks-from, first_process-get}
@@ -86,6 +86,7 @@ IsOpen-sought nodes root l aim spot h s = record {
   front_is = s.in_front ∙ ap (front aim) h.listed;
   back_is = s.behind ∙ append-nil (back aim (in_order h.tree)) ∙ ap (back aim) h.listed;
   balanced = s.balanced h.rooted.balanced tt;
+  heights = s.heights tt;
   absent = λ x e. h.rooted.absent x (omega (arith, s.totals (one_of x)));
 }
 
@@ -158,6 +159,7 @@ beside_before nodes root l y m spot link h s found at seeks =
           ∙ ap (λ (k : Notice). k ∷ (in_order f.right ++ after f.way)) same
           ∙ ap (λ (k : List Notice). m ∷ k) (sym (after_is y.0 l (before f.way ++ in_order f.left) (in_order f.right ++ after f.way) f.notice around));
       balanced = sought.balanced f.balanced.2 (f.balanced.0, f.balanced.1, f.balanced.3, f.way_balanced);
+      heights = sought.heights (f.stands.1, f.way_heights);
       absent = λ x e. h.rooted.absent x (omega (arith, sought.totals (one_of x), f.totals (one_of x)));
     }
 
@@ -190,6 +192,7 @@ beside_after nodes root l y m spot link h s found at seeks =
       back_is = sought.behind ∙ ap (λ (k : List Notice). k ++ after f.way) (back_first (in_order f.right))
           ∙ sym (after_is y.0 l (before f.way ++ in_order f.left) (in_order f.right ++ after f.way) f.notice around);
       balanced = sought.balanced f.balanced.3 (f.balanced.1, f.balanced.0, f.balanced.2, subst (λ k. IsWayBalanced (k + 1) f.way) (max_swap (height f.left) (height f.right)) f.way_balanced);
+      heights = sought.heights (f.stands.1 ∙ ap (λ k. k + 1) (max_swap (height f.left) (height f.right)), subst (λ k. TellHeights nodes (k + 1) f.way) (max_swap (height f.left) (height f.right)) f.way_heights);
       absent = λ x e. h.rooted.absent x (omega (arith, sought.totals (one_of x), f.totals (one_of x)));
     }
 

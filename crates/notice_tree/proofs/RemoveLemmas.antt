@@ -10,12 +10,12 @@ use Rattle.notice_tree.specs.declared.node.Node.{Node}
 use Rattle.notice_tree.specs.declared.spot.Spot.{Spot}
 use Rattle.notice_tree.specs.declared.spot.Aim.TheVariants.{First, Last}
 use Rattle.notice_tree.specs.Nodes.{node_at, vacant, hung}
-use Rattle.notice_tree.specs.Trees.{Tree, Empty, Branch, in_order, height, top, total, one_of, one, NodeIs, IsBalanced, Stands, Step, OnLeft, OnRight, before, after, way_total, way_height, IsWayBalanced, WayStands}
+use Rattle.notice_tree.specs.Trees.{Tree, Empty, Branch, in_order, height, top, total, one_of, one, NodeIs, IsBalanced, Stands, Step, OnLeft, OnRight, before, after, way_total, way_height, IsWayBalanced, TellHeights, WayStands}
 use Rattle.notice_tree.specs.Balance.{AreParts, AreJoined, AreMerged}
 use Rattle.notice_tree.specs.Climb.{IsGap, IsWhole}
 use Rattle.notice_tree.specs.Spots.{front, back, IsParted, IsSought}
 use Rattle.notice_tree.specs.Held.{IsHeld}
-use Rattle.notice_tree.proofs.StandLemmas.{one_of-self, node_at-set_other, node_at-set_same, Stands-kept, WayStands-kept}
+use Rattle.notice_tree.proofs.StandLemmas.{one_of-self, node_at-set_other, node_at-set_same, Stands-kept, TellHeights-kept, WayStands-kept}
 use Rattle.notice_tree.proofs.ClimbLemmas.{near}
 use Rattle.notice_tree.proofs.SpotLemmas.{empty_by_top}
 use Rattle.notice_tree.proofs.ListLemmas.{removed-around, one_of-zero}
@@ -77,17 +77,18 @@ pub record IsFirst (nodes : List Node) (stop : Option ProcessNo) (r : Tree) (par
   pub totals : (w : Notice → ℕ) → w first + total w under + way_total w way ≡ total w r
   pub balanced : IsBalanced r → IsBalanced under × IsWayBalanced (max 0 (height under) + 1) way
   pub height_is : way_height (max 0 (height under) + 1) way ≡ height r
+  pub heights : TellHeights nodes (max 0 (height under) + 1) way
 
 pub IsFirst-sought : (nodes : List Node) (stop : Option ProcessNo) (r : Tree) (spot : Spot) → 1 ≤ total one r → IsSought nodes stop First [] r spot → IsFirst nodes stop r spot.parent
 IsFirst-sought nodes stop r spot some s =
-    by_way s.way s.stands (s.in_front ∙ front_first (in_order r)) (s.behind ∙ append-nil (back First (in_order r)) ∙ back_first (in_order r)) s.totals (λ b. s.balanced b tt) s.height_is
+    by_way s.way s.stands (s.in_front ∙ front_first (in_order r)) (s.behind ∙ append-nil (back First (in_order r)) ∙ back_first (in_order r)) s.totals (λ b. s.balanced b tt) s.height_is (s.heights tt)
   where
-    by_way : (way : List Step) → WayStands nodes stop None way spot.parent → before way ≡ [] → after way ≡ in_order r → ((w : Notice → ℕ) → way_total w way ≡ total w r + 0) → (IsBalanced r → IsWayBalanced 0 way) → way_height 0 way ≡ height r → IsFirst nodes stop r spot.parent
-    by_way [] ws f b totals bal h = absurd (omega (arith, totals one))
-    by_way (OnRight u n ∷ way) ws f b totals bal h =
+    by_way : (way : List Step) → WayStands nodes stop None way spot.parent → before way ≡ [] → after way ≡ in_order r → ((w : Notice → ℕ) → way_total w way ≡ total w r + 0) → (IsBalanced r → IsWayBalanced 0 way) → way_height 0 way ≡ height r → TellHeights nodes 0 way → IsFirst nodes stop r spot.parent
+    by_way [] ws f b totals bal h hs = absurd (omega (arith, totals one))
+    by_way (OnRight u n ∷ way) ws f b totals bal h hs =
         absurd (let len : length (before way ++ in_order u ++ n ∷ []) ≡ 0 = ap length f in
         omega (arith, length-append (before way ++ in_order u) (n ∷ [])))
-    by_way (OnLeft n u ∷ way) ws f b totals bal h = record {
+    by_way (OnLeft n u ∷ way) ws f b totals bal h hs = record {
       first = n;
       under = u;
       way = way;
@@ -99,6 +100,7 @@ IsFirst-sought nodes stop r spot some s =
       totals = λ w. omega (arith, totals w);
       balanced = λ br. ((bal br).2, (bal br).3);
       height_is = h;
+      heights = hs.1;
     }
 
 -- the gap that the first node leaves
@@ -115,6 +117,7 @@ first_gap nodes process r parent f once apart small short b = record {
   short = short;
   balanced = (f.balanced b).0;
   way_balanced = (f.balanced b).1;
+  heights = f.heights;
   low = omega arith;
   high = omega arith;
 }
@@ -214,6 +217,8 @@ removal_gap nodes second root l process below h s short f m =
       short = omega (arith, m.len);
       balanced = m.balanced;
       way_balanced = f.way_balanced;
+      heights = TellHeights-kept nodes new (height (Branch f.left f.notice f.right)) f.way
+          (λ x e. ap (λ (d : Node). d.height) (node_at-set_other second process.0 x vacant (differs_by_count (λ y. way_total (one_of y) f.way) x process.0 e counts.1) ∙ m.kept x (omega (arith, f.totals (one_of x), once x)))) f.way_heights;
       low = m.low;
       high = m.high;
     }

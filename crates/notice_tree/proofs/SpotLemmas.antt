@@ -10,7 +10,7 @@ use Rattle.notice_tree.specs.declared.node.Node.{Node}
 use Rattle.notice_tree.specs.declared.spot.Spot.{Spot}
 use Rattle.notice_tree.specs.declared.spot.Aim.{Aim}
 use Rattle.notice_tree.specs.Nodes.{node_at}
-use Rattle.notice_tree.specs.Trees.{Tree, Empty, Branch, in_order, height, top, one_of, Stands, Step, OnLeft, OnRight, before, after, way_total, way_height, IsWayBalanced, WayStands}
+use Rattle.notice_tree.specs.Trees.{Tree, Empty, Branch, in_order, height, top, one_of, Stands, Step, OnLeft, OnRight, before, after, way_total, way_height, IsWayBalanced, TellHeights, WayStands}
 use Rattle.notice_tree.specs.Spots.{stands_in_front, front, back, IsParted, SideIs, IsSought, first_process}
 use Rattle.notice_tree.proofs.StandLemmas.{one_of-self}
 use Rattle.notice_tree.proofs.ClimbLemmas.{total-top}
@@ -74,8 +74,8 @@ IsSeeking-begun nodes stop aim spot link way t ws side s is parted = record {
 regroup_front : (a l f : List Notice) (n : Notice) → (a ++ l ++ n ∷ []) ++ f ≡ a ++ (l ++ n ∷ f)
 regroup_front a l f n = simp append_assoc
 
-sought_right : (nodes : List Node) (stop : Option ProcessNo) (aim : Aim) (last : Spot) (l : Tree) (n : Notice) (r : Tree) (way : List Step) → IsParted aim (Branch l n r) → stands_in_front aim n ≡ true → IsSought nodes stop aim (OnRight l n ∷ way) r last → IsSought nodes stop aim way (Branch l n r) last
-sought_right nodes stop aim last l n r way parted e s = record {
+sought_right : (nodes : List Node) (stop : Option ProcessNo) (aim : Aim) (last : Spot) (l : Tree) (n : Notice) (r : Tree) (way : List Step) → (node_at nodes n.process.0).height ≡ max (height l) (height r) + 1 → IsParted aim (Branch l n r) → stands_in_front aim n ≡ true → IsSought nodes stop aim (OnRight l n ∷ way) r last → IsSought nodes stop aim way (Branch l n r) last
+sought_right nodes stop aim last l n r way high parted e s = record {
   way = s.way;
   stands = s.stands;
   side = s.side;
@@ -84,13 +84,14 @@ sought_right nodes stop aim last l n r way parted e s = record {
   totals = λ w. omega (arith, s.totals w);
   balanced = λ b z. s.balanced b.3 (omega (arith, b.0), omega (arith, b.1), b.2, subst (λ h. IsWayBalanced (h + 1) way) (max_swap (height l) (height r)) z);
   height_is = s.height_is ∙ ap (λ h. way_height (h + 1) way) (sym (max_swap (height l) (height r)));
+  heights = λ z. s.heights (high ∙ ap (λ h. h + 1) (max_swap (height l) (height r)), subst (λ h. TellHeights nodes (h + 1) way) (max_swap (height l) (height r)) z);
 }
   where
     max_swap : (a b : ℕ) → max a b ≡ max b a
     max_swap a b = omega arith
 
-sought_left : (nodes : List Node) (stop : Option ProcessNo) (aim : Aim) (last : Spot) (l : Tree) (n : Notice) (r : Tree) (way : List Step) → IsParted aim (Branch l n r) → stands_in_front aim n ≡ false → IsSought nodes stop aim (OnLeft n r ∷ way) l last → IsSought nodes stop aim way (Branch l n r) last
-sought_left nodes stop aim last l n r way parted e s = record {
+sought_left : (nodes : List Node) (stop : Option ProcessNo) (aim : Aim) (last : Spot) (l : Tree) (n : Notice) (r : Tree) (way : List Step) → (node_at nodes n.process.0).height ≡ max (height l) (height r) + 1 → IsParted aim (Branch l n r) → stands_in_front aim n ≡ false → IsSought nodes stop aim (OnLeft n r ∷ way) l last → IsSought nodes stop aim way (Branch l n r) last
+sought_left nodes stop aim last l n r way high parted e s = record {
   way = s.way;
   stands = s.stands;
   side = s.side;
@@ -99,6 +100,7 @@ sought_left nodes stop aim last l n r way parted e s = record {
   totals = λ w. omega (arith, s.totals w);
   balanced = λ b z. s.balanced b.2 (b.0, b.1, b.3, z);
   height_is = s.height_is;
+  heights = λ z. s.heights (high, z);
 }
 
 pub IsSeeking-more : (nodes : List Node) (stop : Option ProcessNo) (aim : Aim) (spot : Spot) (process : ProcessNo) (way : List Step) (t : Tree) (i : ℕ) (on_left : Bool) → IsSeeking nodes stop aim spot (Some process) way t i → ((n : Notice) → (node_at nodes process.0).time ≡ Some n.time → on_left ≡ not (stands_in_front aim n)) → IsSeeking nodes stop aim (record { parent = Some process; on_left = on_left }) (cond on_left (node_at nodes process.0).left (node_at nodes process.0).right) way t (i + 1)
@@ -125,7 +127,7 @@ IsSeeking-more nodes stop aim spot process way t i on_left s test =
       top_is = sym (subst (λ (x : ProcessNo). (node_at nodes x.0).right ≡ top r) is st.0.right);
       parted = parted.5;
       steps = omega arith;
-      ends = λ last w. ends last (sought_right nodes stop aim last l n r here parted e w);
+      ends = λ last w. ends last (sought_right nodes stop aim last l n r here st.1 parted e w);
     }
     by_side false l n r here e is ws st parted steps ends = record {
       here = OnLeft n r ∷ here;
@@ -146,7 +148,7 @@ IsSeeking-more nodes stop aim spot process way t i on_left s test =
       top_is = sym (subst (λ (x : ProcessNo). (node_at nodes x.0).left ≡ top l) is st.0.left);
       parted = parted.4;
       steps = omega arith;
-      ends = λ last w. ends last (sought_left nodes stop aim last l n r here parted e w);
+      ends = λ last w. ends last (sought_left nodes stop aim last l n r here st.1 parted e w);
     }
 
     by_tree : (tree : Tree) (here : List Step) → WayStands nodes stop (Some process) here spot.parent → Stands nodes spot.parent tree → top tree ≡ Some process → IsParted aim tree → height tree + i ≤ height t → ((last : Spot) → IsSought nodes stop aim here tree last → IsSought nodes stop aim way t last) → IsSeeking nodes stop aim (record { parent = Some process; on_left = on_left }) (cond on_left (node_at nodes process.0).left (node_at nodes process.0).right) way t (i + 1)
@@ -169,6 +171,7 @@ IsSeeking-ended nodes stop aim spot link way t i s none =
       totals = λ w. omega arith;
       balanced = λ b z. z;
       height_is = refl;
+      heights = λ z. z;
     }))
 
 pub empty_by_top : (t : Tree) → top t ≡ None → t ≡ Empty

@@ -6,7 +6,7 @@ use Rattle.notices.specs.declared.notice.ProcessNo.{ProcessNo}
 use Rattle.notices.specs.Notices.{is_of}
 use Rattle.notice_tree.specs.declared.node.Node.{Node}
 use Rattle.notice_tree.specs.Nodes.{node_at, height_at, vacant, hung, joined}
-use Rattle.notice_tree.specs.Trees.{Tree, Empty, Branch, height, top, total, one_of, NodeIs, Stands, Step, OnLeft, OnRight, way_total, WayStands}
+use Rattle.notice_tree.specs.Trees.{Tree, Empty, Branch, height, top, total, one_of, NodeIs, Stands, Step, OnLeft, OnRight, way_total, TellHeights, WayStands}
 
 -- ---- counting
 
@@ -68,6 +68,11 @@ WayStands-kept nodes new stop link (OnRight t n ∷ z) parent len same s =
       subst (λ (p : Option ProcessNo). WayStands new stop (Some n.process) z p) (ap (λ (c : Node). c.parent) (sym here))
           (WayStands-kept nodes new stop (Some n.process) z (node_at nodes n.process.0).parent len (λ x h. same x (omega arith)) s.3),
     )
+
+pub TellHeights-kept : (nodes new : List Node) (h : ℕ) (z : List Step) → ((x : ℕ) → 1 ≤ way_total (one_of x) z → (node_at new x).height ≡ (node_at nodes x).height) → TellHeights nodes h z → TellHeights new h z
+TellHeights-kept nodes new h [] same s = s
+TellHeights-kept nodes new h (OnLeft n t ∷ z) same s = (same n.process.0 (omega (arith, one_of-self n)) ∙ s.0, TellHeights-kept nodes new (max h (height t) + 1) z (λ x k. same x (omega arith)) s.1)
+TellHeights-kept nodes new h (OnRight t n ∷ z) same s = (same n.process.0 (omega (arith, one_of-self n)) ∙ s.0, TellHeights-kept nodes new (max h (height t) + 1) z (λ x k. same x (omega arith)) s.1)
 
 -- ---- a tree hangs under another parent
 

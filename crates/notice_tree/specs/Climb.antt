@@ -1,10 +1,10 @@
 -- A place in a tree where another tree has come, of a height that differs a little; and the whole that becomes of it.
-use Rattle.std.specs.Prelude.{◌≡◌, ℕ, ◌+◌, ◌^◌, ◌<◌, ◌≤◌, List, ◌++◌, Option, Some, length}
+use Rattle.std.specs.Prelude.{◌≡◌, ℕ, ◌+◌, ◌^◌, ◌<◌, ◌≤◌, max, Bool, true, List, ◌++◌, Option, Some, length}
 use Rattle.notices.specs.declared.notice.Notice.{Notice}
 use Rattle.notices.specs.declared.notice.ProcessNo.{ProcessNo}
 use Rattle.notice_tree.specs.declared.node.Node.{Node}
 use Rattle.notice_tree.specs.Nodes.{node_at}
-use Rattle.notice_tree.specs.Trees.{Tree, in_order, height, top, total, one_of, one, IsBalanced, Stands, Step, OnLeft, OnRight, before, after, way_total, way_height, IsWayBalanced, WayStands}
+use Rattle.notice_tree.specs.Trees.{Tree, in_order, height, top, total, one_of, one, IsBalanced, Stands, Step, OnLeft, OnRight, before, after, way_total, way_height, IsWayBalanced, TellHeights, WayStands}
 use Rattle.notice_tree.specs.Balance.{AreJoined}
 
 -- The way leads from a node under `parent` up to a root under `stop`. In the place of the node `from`, which is gone and whose tree
@@ -21,13 +21,34 @@ pub record IsGap (nodes : List Node) (from : ProcessNo) (below parent stop : Opt
   pub short : length nodes < 2 ^ 64
   pub balanced : IsBalanced t
   pub way_balanced : IsWayBalanced h way
+  pub heights : TellHeights nodes h way
   pub low : h ≤ height t + 1
   pub high : height t ≤ h + 1
+
+-- The tree has come to where one with the same root and of the same height was, so that all above it is as it was.
+pub record IsSettled (nodes : List Node) (from : ProcessNo) (parent : Option ProcessNo) (t : Tree) (h : ℕ) : Type 0 where
+  pub stands : Stands nodes parent t
+  pub top_is : top t ≡ Some from
+  pub as_high : height t ≡ h
 
 -- one step up is done
 abbrev pub IsOneUp : List Node → List Node → Step → Tree → ProcessNo → Type 0
 IsOneUp old new (OnLeft n u) t root = AreJoined old new t n u root
 IsOneUp old new (OnRight u n) t root = AreJoined old new u n t root
+
+-- the tree that comes of it, and the height of the one that was there
+abbrev pub tree_up : (old new : List Node) (step : Step) (t : Tree) (root : ProcessNo) → IsOneUp old new step t root → Tree
+tree_up old new (OnLeft n u) t root j = j.tree
+tree_up old new (OnRight u n) t root j = j.tree
+
+abbrev pub height_up : (h : ℕ) → Step → ℕ
+height_up h (OnLeft n u) = max h (height u) + 1
+height_up h (OnRight u n) = max h (height u) + 1
+
+-- One step up is done, to the place of the node of a process.
+pub record IsUp (old new : List Node) (step : Step) (t : Tree) (process root : ProcessNo) (h : ℕ) (settled : Bool) : Type 0 where
+  pub up : IsOneUp old new step t root
+  pub settles : settled ≡ true → IsSettled new process (node_at old process.0).parent (tree_up old new step t root up) (height_up h step)
 
 -- the whole is a balanced tree at `link`, of nearly the old height, and no other node has changed
 pub record IsWhole (old new : List Node) (link : Option ProcessNo) (way : List Step) (t : Tree) (h : ℕ) : Type 0 where

@@ -8,7 +8,7 @@ use Rattle.notices.specs.Schedule.{IsSchedule}
 use Rattle.notice_tree.specs.declared.node.Node.{Node}
 use Rattle.notice_tree.specs.declared.spot.Spot.{Spot}
 use Rattle.notice_tree.specs.Nodes.{node_at}
-use Rattle.notice_tree.specs.Trees.{Tree, Empty, Branch, in_order, top, total, one_of, IsBalanced, Stands, Step, before, after, way_total, IsWayBalanced, WayStands}
+use Rattle.notice_tree.specs.Trees.{Tree, Empty, Branch, in_order, top, total, one_of, IsBalanced, Stands, Step, before, after, way_total, IsWayBalanced, TellHeights, WayStands}
 use Rattle.notice_tree.specs.Spots.{SideIs}
 
 -- the notice of a process, as its node tells it
@@ -51,6 +51,7 @@ pub record IsOpen (nodes : List Node) (spot : Spot) (front back : List Notice) :
   pub front_is : before way ≡ front
   pub back_is : after way ≡ back
   pub balanced : IsWayBalanced 0 way
+  pub heights : TellHeights nodes 0 way
   pub absent : (x : ℕ) → way_total (one_of x) way ≡ 0 → (node_at nodes x).time ≡ None
 
 -- beside the notice of process y, which is m: what stands in front of the place, and what behind it

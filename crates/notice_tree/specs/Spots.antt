@@ -8,7 +8,7 @@ use Rattle.notice_tree.specs.declared.node.Node.{Node}
 use Rattle.notice_tree.specs.declared.spot.Spot.{Spot}
 use Rattle.notice_tree.specs.declared.spot.Aim.{Aim}
 use Rattle.notice_tree.specs.declared.spot.Aim.TheVariants.{First, Last, At}
-use Rattle.notice_tree.specs.Trees.{Tree, Empty, Branch, in_order, height, total, IsBalanced, Step, OnLeft, OnRight, before, after, way_total, way_height, IsWayBalanced, WayStands}
+use Rattle.notice_tree.specs.Trees.{Tree, Empty, Branch, in_order, height, total, IsBalanced, Step, OnLeft, OnRight, before, after, way_total, way_height, IsWayBalanced, TellHeights, WayStands}
 
 -- whether a notice stands in front of a new one
 abbrev pub stands_in_front : Aim → Notice → Bool
@@ -47,6 +47,7 @@ pub record IsSought (nodes : List Node) (stop : Option ProcessNo) (aim : Aim) (o
   pub totals : (w : Notice → ℕ) → way_total w way ≡ total w t + way_total w old_way
   pub balanced : IsBalanced t → IsWayBalanced (height t) old_way → IsWayBalanced 0 way
   pub height_is : way_height 0 way ≡ way_height (height t) old_way
+  pub heights : TellHeights nodes (height t) old_way → TellHeights nodes 0 way
 
 -- the process of the first notice
 abbrev pub first_process : List Notice → Option ProcessNo

@@ -91,6 +91,12 @@ way_height h [] = h
 way_height h (OnLeft n s ∷ z) = way_height (max h (height s) + 1) z
 way_height h (OnRight s n ∷ z) = way_height (max h (height s) + 1) z
 
+-- the nodes of a way tell the heights of the trees under them, where a tree of a height is at the place
+abbrev pub TellHeights : List Node → ℕ → List Step → Type 0
+TellHeights nodes h [] = Unit {0}
+TellHeights nodes h (OnLeft n s ∷ z) = ((node_at nodes n.process.0).height ≡ max h (height s) + 1) × TellHeights nodes (max h (height s) + 1) z
+TellHeights nodes h (OnRight s n ∷ z) = ((node_at nodes n.process.0).height ≡ max h (height s) + 1) × TellHeights nodes (max h (height s) + 1) z
+
 -- A way stands in the nodes, from a place to which `link` leads, under `parent`, up to a root under `stop`.
 abbrev pub WayStands : List Node → Option ProcessNo → Option ProcessNo → List Step → Option ProcessNo → Type 0
 WayStands nodes stop link [] parent = parent ≡ stop

@@ -1,5 +1,5 @@
 -- Instances that stand otherwise as components, with the chains that they keep.
-use Rattle.std.proofs.Common.{◌≡◌, ℕ, zero, suc, ◌<◌, inl, inr, List, [], ◌∷◌, length, map, set, sym, subst, refl, ap, ◌∙◌}
+use Rattle.std.proofs.Common.{◌≡◌, ℕ, zero, suc, ◌<◌, inl, inr, List, [], ◌∷◌, length, map, set, sym, subst, refl, ap, ◌∙◌, length-set}
 use Rattle.std.proofs.lemmas.Option.{slice_get_within}
 use Rattle.std.specs.Prelude.{true, Option, Some, slice_get, slice_index_or}
 use Rattle.std.specs.declared.alloc.Global.{Global}
@@ -7,7 +7,7 @@ use Rattle.std.specs.declared.vec.Vec.{Vec}
 use Rattle.sim_base.specs.declared.limits.Limits.{Limits}
 use Rattle.sim_values.specs.declared.value.FrameRef.{FrameRef}
 use Rattle.sim_chains.specs.Components.{Standing}
-use Rattle.sim_code.specs.Instances.{is_live_in}
+use Rattle.sim_code.specs.Instances.{is_live, is_live_in}
 use Rattle.sim_code.specs.Machine.{Activation, Frames}
 use Rattle.sim_code.specs.Outcome.{World}
 use Rattle.frame_arena.specs.declared.frames.Component.{Component}
@@ -125,6 +125,47 @@ anew_stood l p before now o m s frames parks place j c x r has stands here count
     anew l p before now o m s frames parks place j has c x
     (subst (λ n. Holds frames.items p.cells.items (record m { standings = set m.standings n x })) has.2 (r.holds p.cells.items m x stands s.frames)) (λ standings q led. r.leads m standings q led)
     r.chains r.stands here (rooms_count p.frames.items frames.items r.stacks) count elsewhere work fit
+
+-- ---- what was given back
+
+-- No frame stands otherwise where the instance of another was given back.
+pub anew_gone : (l : Limits) (p : Storage) (before : Option (List ℕ)) (now : Outside) (o : World) (m : Frames) (s : Stores l p before now o m) (f : FrameRef) (x : Standing Activation) → Leads p.frames.items m f → (is_live m f.stamp ≡ true → ⊥) → Anew l p p before now o m (set m.standings f.stamp x)
+anew_gone l p before now o m s f x leads gone =
+    let then : Frames = record m { standings = set m.standings f.stamp x } in
+    let other : (place n : ℕ) → Has p.frames.items place n → n ≡ f.stamp → ⊥ =
+    λ place n has e. gone (ap is_live_in (live_of p.frames.items p.cells.items m place f.stamp s.frames (subst (λ k. Has p.frames.items place k) e has))) in
+    let works : (r : Registers) (stack : List Slot) → Works p.frames.items m p.arrays.regions o.arrays r stack → Works p.frames.items then p.arrays.regions o.arrays r stack =
+    λ r stack w. record { home = w.home; slots = w.slots; arrays_lead = w.arrays_lead } in
+    record {
+      stores = record {
+        world = s.world;
+        budget = s.budget;
+        frames = record {
+          known = s.frames.known;
+          found = s.frames.found;
+          standings = λ place n has. subst (λ q. StandsAs (frame_at p.frames.items place).component q) (sym (standings_other m.standings n f.stamp x (other place n has))) (s.frames.standings place n has);
+          counted = length-set m.standings f.stamp x ∙ s.frames.counted;
+          single = s.frames.single;
+          parents = s.frames.parents;
+          links = s.frames.links;
+          within = s.frames.within;
+          apart = s.frames.apart;
+        };
+        entered = s.entered;
+        arrays = s.arrays;
+        cells = s.cells;
+        elements = s.elements;
+        parks = record {
+          each = s.parks.each;
+          chains = λ place n c k. standings_other m.standings n f.stamp x (other place n k.0) ∙ s.parks.chains place n c k;
+          work = λ place k t there. works t.registers t.stack.items (s.parks.work place k t there);
+          fit = s.parks.fit;
+        };
+        members = enrolled_later p.frames.items p.frames.items m then p.members o.members (λ r led. led) s.members;
+        simulations = simulating_later p.frames.items p.frames.items m then p.simulations.items o.simulations (λ r led. led) s.simulations;
+      };
+      works = works;
+    }
 
 -- ---- more than one
 

@@ -15,6 +15,7 @@ pub mod Parks
 pub mod Transferring
 pub mod Anew
 pub mod Cutting
+pub mod Exchanging
 pub mod Moving
 pub mod Places
 pub mod BlockFacts
@@ -42,6 +43,7 @@ pub mod Having
 pub mod ReadOperands
 pub mod OperandRows
 pub mod ImageRows
+pub mod Rowless
 pub mod NameRows
 pub mod ScheduledNames
 pub mod PairRows
@@ -65,6 +67,7 @@ pub mod Prepared
 pub mod PrefixRows
 pub mod Pushed
 pub mod Held
+pub mod Living
 pub mod VirtualRows
 pub mod ThunkRows
 pub mod Fitted

@@ -45,6 +45,7 @@ none_has q n h = omega (arith, h.0)
 pub holds_nothing : Holds [] [] empty_memory
 holds_nothing = record {
   known = λ q n h. absurd (none_has q n h);
+  found = λ n on. absurd (off on);
   standings = λ q n h. absurd (none_has q n h);
   counted = refl;
   single = λ p q n h h2. absurd (none_has p n h);

@@ -1,6 +1,8 @@
 -- Rows of parameters by name.
 use Rattle.std.proofs.Common.{◌≡◌, ℕ, zero, suc, ◌+◌, ◌-◌, ◌<◌, ◌≤◌, List, [], ◌∷◌, ◌++◌, length, sym, subst, refl, ap, ◌∙◌, arith}
 use Rattle.std.specs.Prelude.{Bool, true, false, nat_lt, ℤ, Option, Some, None, Err, IfSome, slice_get}
+use Rattle.std.specs.declared.alloc.Global.{Global}
+use Rattle.std.specs.declared.vec.Vec.{Vec}
 use Rattle.sim_base.specs.declared.limits.Limits.{Limits}
 use Rattle.sim_base.specs.declared.numbering.Line.{Line}
 use Rattle.sim_base.specs.declared.run_error.RunError.TheVariants.{ActualIsNoVariable, OutsideQualification}
@@ -119,6 +121,26 @@ module _ (code : CodeOf) (o : World) (m : Frames) (t home : ℕ) (below : List A
 
       pub begun : (y : Lined) → slice_get code.instrs x.entry ≡ Some y → in_thunk code o m t home below ≡ Begun_at x
       begun y e = thunk_there ∙ having_some (slice_get code.instrs x.entry) y o (λ _. Begun_at x) (sym e)
+
+-- which operand stacks are idle does not matter
+pub stands_idle : (l : Limits) (p : Storage) (idle : Vec (Vec Slot Global) Global) (r : Registers) (stack : List Slot) (below : List working.Activation) (before : Option (List ℕ)) (now : Outside) (o : World) (m : Frames) →
+    Stands l p r stack below before now o m → Stands l (record p { idle = idle }) r stack below before now o m
+stands_idle l p idle r stack below before now o m s = record {
+  stores = record {
+    world = record { ticks = s.stores.world.ticks; words = s.stores.world.words; texts = s.stores.world.texts; image = s.stores.world.image; written = s.stores.world.written };
+    budget = s.stores.budget;
+    frames = s.stores.frames;
+    entered = s.stores.entered;
+    arrays = s.stores.arrays;
+    cells = s.stores.cells;
+    elements = s.stores.elements;
+    parks = s.stores.parks;
+    members = s.stores.members;
+    simulations = s.stores.simulations;
+  };
+  top = s.top;
+  others = s.others;
+}
 
 -- it goes on top of the chain
 module _ (l : Limits) (line : ℕ) (p : Storage) (next : working.Activation) (r : Registers) (stack : List Slot) (below : List working.Activation) (top : working.Activation) (below2 : List working.Activation) (before : Option (List ℕ)) (now : Outside) (o : World) (m : Frames)

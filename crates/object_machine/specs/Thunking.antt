@@ -43,11 +43,11 @@ FindsThunk r frames o m a level c =
 -- ---- a thunk begins
 
 -- what the beginning of a thunk answers and leaves, whose home leads to its frame
-unfoldable pub OpensThunk : Flow → List Lined → List ThunkRecord → Storage → ThunkInHand → (r r2 : Registers) → (stack stack2 : List Slot) → (below below2 : List working.Activation) → Type 0
-OpensThunk f instrs thunks p t r r2 stack stack2 below below2 =
+unfoldable pub OpensThunk : Flow → List Lined → List ThunkRecord → (p p2 : Storage) → ThunkInHand → (r r2 : Registers) → (stack stack2 : List Slot) → (below below2 : List working.Activation) → Type 0
+OpensThunk f instrs thunks p p2 t r r2 stack stack2 below below2 =
     (code : CodeOf) (l : Limits) (line : ℕ) (before : Option (List ℕ)) (now : Outside) (o : World) (m : Frames) → code.instrs ≡ instrs → code.thunks ≡ thunks →
     Stands l p r stack below before now o m → Leads p.frames.items m t.home →
-    Leaves f l line p r2 stack2 below2 before now (in_thunk code o m t.thunk t.home.stamp (waiting (activation_at r stack) (activation_at r stack).stack ∷ below_of below))
+    Leaves f l line p2 r2 stack2 below2 before now (in_thunk code o m t.thunk t.home.stamp (waiting (activation_at r stack) (activation_at r stack).stack ∷ below_of below))
 
 -- ---- what a thunk gives
 

@@ -1,7 +1,7 @@
 -- Activations that move between the operating chain and a park.
 use Rattle.std.specs.Prelude.{◌≡◌, ℕ, ◌≤◌, false, List, [], ◌∷◌, ◌++◌, length, reverse, Option, Some}
 use Rattle.sim_base.specs.declared.limits.Limits.{Limits}
-use Rattle.sim_chains.specs.Chains.{stands_on}
+use Rattle.sim_chains.specs.Chains.{is_instance, stands_on}
 use Rattle.sim_chains.specs.Components.{Standing, give_control_to}
 use Rattle.sim_code.specs.Events.{computing}
 use Rattle.sim_code.specs.Instances.{going_below, system_head}
@@ -51,6 +51,25 @@ JoinsChain flow.On kept chain left joined = (left ≡ []) × (joined ≡ kept ++
 JoinsChain flow.NoRule kept chain left joined = (front : List working.Activation) × (t : working.Activation) × (back : List working.Activation) × (kept ≡ front ++ t ∷ back) × (t.registers.depth ≤ length t.stack.items → ⊥)
 JoinsChain flow.Memory kept chain left joined = Unit {0}
 JoinsChain _ kept chain left joined = ⊥
+
+-- The top stands directly above an instance, and a chain that was kept has one activation, which has no more values than room.
+pub record StandAlone (instance : ℕ) (kept : List working.Activation) (top : working.Activation) (below : List working.Activation) : Type 0 where
+  pub one : working.Activation
+  pub is : kept ≡ one ∷ []
+  pub fits : one.registers.depth ≤ length one.stack.items
+  pub under : working.Activation
+  pub rest : List working.Activation
+  pub next : below ≡ rest ++ under ∷ []
+  pub own : frame_of under ≡ Some instance
+  pub other : is_instance instance (frame_of top) ≡ false
+
+-- What stands above an instance changes places with a chain that was kept. There is no rule where one of the activations of that has more values than
+-- room, to which no run comes.
+abbrev pub Exchanges : Flow → (instance : ℕ) → (kept chain : List working.Activation) → (above joined : List working.Activation) → Type 0
+Exchanges flow.On instance kept chain above joined = (top : working.Activation) × (below : List working.Activation) × CutsAt instance chain above top below × (joined ≡ kept ++ operating top below)
+Exchanges flow.NoRule instance kept chain above joined = (front : List working.Activation) × (t : working.Activation) × (back : List working.Activation) × (kept ≡ front ++ t ∷ back) × (t.registers.depth ≤ length t.stack.items → ⊥)
+Exchanges flow.Memory instance kept chain above joined = Unit {0}
+Exchanges _ instance kept chain above joined = ⊥
 
 -- The parts stand for what they did, but that instances stand otherwise as components.
 pub record Anew (l : Limits) (p p2 : Storage) (before : Option (List ℕ)) (now : Outside) (o : World) (m : Frames) (standings : List (Standing Activation)) : Type 0 where

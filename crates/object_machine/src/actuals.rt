@@ -137,7 +137,7 @@ fn run_thunk(
     alloc: Global,
     instrs: &[Lined],
     thunks: &[ThunkRecord],
-    storage: &Storage,
+    storage: &mut Storage,
     top: &mut Activation,
     below: &mut Vec<Activation>,
     operand: i64,
@@ -147,8 +147,10 @@ fn run_thunk(
     requires others { AllFit below.old.items }
     ensures fits { top.new.registers.depth ≤ length top.new.stack.items }
     ensures others { AllFit below.new.items }
+    ensures texts { storage.new.texts ≡ storage.old.texts }
+    ensures image { storage.new.image ≡ storage.old.image }
     ensures row { (code : CodeOf) (l : LimitsOf) (line : ℕ) (now : Outside) → code.instrs ≡ instrs.now → code.thunks ≡ thunks.now →
-        Obeys result l line (λ o m a b. running_thunk code o m a b operand) storage.now storage.now top.old.registers top.new.registers top.old.stack.items top.new.stack.items below.old.items below.new.items now now }
+        Obeys result l line (λ o m a b. running_thunk code o m a b operand) storage.old storage.new top.old.registers top.new.registers top.old.stack.items top.new.stack.items below.old.items below.new.items now now }
 {
     let Some(number) = index(operand) else {
         return Flow::NoRule;
@@ -178,7 +180,7 @@ pub fn pass_parameter(
     blocks: &[BlockRecord],
     instrs: &[Lined],
     thunks: &[ThunkRecord],
-    storage: &Storage,
+    storage: &mut Storage,
     top: &mut Activation,
     below: &mut Vec<Activation>,
     formal_operand: i64,
@@ -190,8 +192,10 @@ pub fn pass_parameter(
     requires others { AllFit below.old.items }
     ensures fits { top.new.registers.depth ≤ length top.new.stack.items }
     ensures others { AllFit below.new.items }
+    ensures texts { storage.new.texts ≡ storage.old.texts }
+    ensures image { storage.new.image ≡ storage.old.image }
     ensures row { (code : CodeOf) (l : LimitsOf) (line : ℕ) (now : Outside) → code.blocks ≡ blocks.now → code.instrs ≡ instrs.now → code.thunks ≡ thunks.now →
-        Obeys result l line (λ o m a b. row code l o m a b line (Instr.Param formal_operand value procedure)) storage.now storage.now top.old.registers top.new.registers top.old.stack.items top.new.stack.items below.old.items below.new.items now now }
+        Obeys result l line (λ o m a b. row code l o m a b line (Instr.Param formal_operand value procedure)) storage.old storage.new top.old.registers top.new.registers top.old.stack.items top.new.stack.items below.old.items below.new.items now now }
 {
     let Some(number) = index(formal_operand) else {
         return Flow::NoRule;

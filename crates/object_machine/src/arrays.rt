@@ -1,7 +1,7 @@
 //! Rows on arrays, and on what addresses lead to.
-ghost use Rattle.std.specs.Prelude.{◌≡◌, ℕ, [], ◌*◌, ◌-◌, IfOk, ◌+◌, ◌<◌, ◌≤◌, ◌∷◌, ◌^◌, List, Option, IfSome, length};
+ghost use Rattle.std.specs.Prelude.{◌≡◌, ℕ, [], ◌*◌, ◌-◌, IfOk, ◌+◌, ◌<◌, ◌≤◌, ◌∷◌, ◌^◌, List, Option, IfSome, length, nat_lt};
 ghost use Rattle.sim_code.specs.Arrays.{copying_array, finding_element, keeping_array, making_array, pairs};
-ghost use Rattle.sim_code.specs.Events.{having, pop_integers, popping};
+ghost use Rattle.sim_code.specs.Events.{having, pop_integers, popping, when};
 ghost use Rattle.sim_code.specs.Instances.{ElementPlace};
 ghost use Rattle.sim_code.specs.Machine.{Address, ArrayValue, Frames, pushing, array_in, index as index_of, on, place_in, plain, value_at as value_at_place};
 ghost use Rattle.sim_code.specs.Outcome.{World};
@@ -146,7 +146,7 @@ fn bounds_of(
     Ok(bounds)
 }
 
-/// A new array with the bounds on top.
+/// A new array with the bounds on top, of one dimension at least.
 pub fn array(
     limits: &Limits,
     storage: &mut Storage,
@@ -161,8 +161,8 @@ pub fn array(
     ensures texts { storage.new.texts ≡ storage.old.texts }
     ensures image { storage.new.image ≡ storage.old.image }
     ensures row { (line : ℕ) (below : List Activation) (now : Outside) →
-        Obeys result limits.now line (λ o m a b. having (element_kind kind) o (λ k. index_of count o (λ n. pop_integers plain (2 * n) [] a.stack o (λ bounds st.
-        making_array limits.now line a.home k (pairs bounds) o (λ array w. pushing a.room st (ArrayValue array) w (λ st. on w m a st b)))))) storage.old storage.new regs.old regs.new stack.old stack.new below below now now }
+        Obeys result limits.now line (λ o m a b. having (element_kind kind) o (λ k. index_of count o (λ n. when (nat_lt 0 n) o (pop_integers plain (2 * n) [] a.stack o (λ bounds st.
+        making_array limits.now line a.home k (pairs bounds) o (λ array w. pushing a.room st (ArrayValue array) w (λ st. on w m a st b))))))) storage.old storage.new regs.old regs.new stack.old stack.new below below now now }
 {
     let Some(kind) = element(kind) else {
         return Flow::NoRule;
@@ -170,6 +170,9 @@ pub fn array(
     let Some(count) = index(count) else {
         return Flow::NoRule;
     };
+    if count == 0 {
+        return Flow::NoRule;
+    }
     let Some(first) = stack::pop_integers(stack, regs.depth, 2 * count) else {
         return Flow::NoRule;
     };

@@ -139,6 +139,7 @@ fn take_actuals(frames: &[Frame], stack: &[Slot], depth: usize, operand: i64) ->
 }
 
 // Whether so many values fit into so many cells from a place on.
+#[inline(always)]
 fn is_filled(cells: usize, first: usize, count: usize) -> bool
     ensures yes { result ≡ true → (vs : List Value) (to : Cells) → length vs ≡ count → length to ≡ cells → Fills (filled first vs to) }
     ensures no { result ≡ false → (vs : List Value) (to : Cells) → length vs ≡ count → length to ≡ cells → filled first vs to ≡ None }
@@ -177,6 +178,7 @@ fn holds_one(formals: &[CodeFormal]) -> bool
 }
 
 // Where the formal parameters of a procedure begin: behind its result.
+#[inline(always)]
 fn first_formal(result_type: CodeType) -> usize
     ensures is { result ≡ (if is_nothing_of result_type then 0 else 1) }
     ensures short { result < 2 ^ 63 }
@@ -264,6 +266,7 @@ fn pass(
 
 // The frames on the chain are kept where the block is not class-free and has a formal by name, an array by reference or a procedure. It answers
 // whether the frames were all there, as they are in a run.
+#[inline(always)]
 fn keep_for(
     block: &BlockRecord,
     storage: &mut Storage,
@@ -285,6 +288,7 @@ fn keep_for(
 
 /// Enters the block of a procedure with actual parameters. Where it has to keep the frames on the chain and one of them is not there, to which
 /// no run comes, it answers want of memory.
+#[inline(always)]
 pub fn enter_called(
     alloc: Global,
     limits: &Limits,
@@ -333,6 +337,7 @@ pub fn enter_called(
 }
 
 /// Calls a procedure.
+#[inline(always)]
 pub fn call(
     alloc: Global,
     blocks: &[BlockRecord],

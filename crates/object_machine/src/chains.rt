@@ -1,9 +1,10 @@
 //! The operating chain: where it is cut, and what goes on top of it.
-ghost use Rattle.std.specs.Prelude.{◌≡◌, ℕ, ◌≤◌, [], List, length, true, false};
+ghost use Rattle.std.specs.Prelude.{◌≡◌, ℕ, ◌≤◌, ◌∷◌, [], List, length, true, false};
 ghost use Rattle.sim_chains.specs.Chains.{is_instance, stands_on as stands_on_chain};
 ghost use Rattle.object_machine.specs.declared.machine.Activation.{Activation as Working};
 ghost use Rattle.object_machine.specs.Standing.{AllFit};
-ghost use Rattle.object_machine.specs.Transferring.{CutsAt, JoinsChain, LeavesChain, frame_of, operating};
+ghost use Rattle.object_machine.specs.Transferring.{CutsAt, Exchanges, JoinsChain, LeavesChain, StandAlone, frame_of, operating};
+ghost use Rattle.object_machine.specs.declared.machine.Flow.TheVariants as FlowOf;
 
 use crate::machine::{Activation, Flow};
 use crate::owners::is_thunk;
@@ -121,6 +122,67 @@ pub fn leave_chain(
     let Ok(()) = kept.push(own) else {
         return Flow::Memory;
     };
+    Flow::On
+}
+
+// Whether the top stands directly above an instance, and a chain that is kept has one activation.
+fn stand_alone(instance: u64, kept: &[Activation], top: &Activation, below: &[Activation]) -> bool
+    ensures yes { result ≡ true → StandAlone instance kept.now top.now below.now }
+    ensures no { result ≡ false → StandAlone instance kept.now top.now below.now → ⊥ }
+{
+    if kept.len() != 1 || below.len() == 0 || is_frame_of(top, instance) {
+        return false;
+    }
+    if !is_frame_of(&below[below.len() - 1], instance) {
+        return false;
+    }
+    let one = &kept[0];
+    if one.registers.depth > one.stack.len() {
+        return false;
+    }
+    true
+}
+
+// The only activation of a chain changes places with the top.
+fn change_places(kept: &mut [Activation], top: &mut Activation)
+    requires { length kept.old ≡ 1 }
+    ensures top { kept.old ≡ top.new ∷ [] }
+    ensures kept { kept.new ≡ top.old ∷ [] }
+{
+    mem::swap(top, &mut kept[0]);
+}
+
+/// What stands above the first activation of an instance changes places with a chain that was kept. Where each has one activation, as the chains of
+/// most processes have, that takes no memory. Of an instance that does not stand on the chain nothing is told.
+pub fn exchange(
+    instance: u64,
+    kept: &mut Vec<Activation>,
+    top: &mut Activation,
+    below: &mut Vec<Activation>,
+) -> Flow
+    requires fits { top.old.registers.depth ≤ length top.old.stack.items }
+    requires others { AllFit below.old.items }
+    ensures fits { top.new.registers.depth ≤ length top.new.stack.items }
+    ensures others { AllFit below.new.items }
+    ensures above { result ≡ FlowOf.On → AllFit kept.new.items }
+    ensures exchanges { Exchanges result instance kept.old.items (operating top.old below.old.items) kept.new.items (operating top.new below.new.items) }
+    ensures no_memory { StandAlone instance kept.old.items top.old below.old.items → result ≡ FlowOf.On }
+{
+    if stand_alone(instance, kept, top, below) {
+        change_places(kept, top);
+        return Flow::On;
+    }
+    let alloc = *kept.allocator();
+    let mut above = Vec::new(alloc);
+    if !cut_above(instance, top, below, &mut above) {
+        return Flow::Memory;
+    }
+    let flow = join_chain(kept, top, below);
+    match flow {
+        Flow::On => {}
+        _ => return flow,
+    }
+    *kept = above;
     Flow::On
 }
 

@@ -123,6 +123,7 @@ fn all_agree(
 }
 
 // Holds the formal parameters of a procedure that is declared in a frame against actual ones.
+#[inline(always)]
 fn hold_parameters(
     frames: &[Frame],
     blocks: &[BlockRecord],
@@ -151,6 +152,7 @@ fn hold_parameters(
 }
 
 /// Holds the procedure in hand against a list of actual parameters.
+#[inline(always)]
 pub fn check_actuals(
     frames: &[Frame],
     blocks: &[BlockRecord],

@@ -44,6 +44,7 @@ pub fn hand_over(
 }
 
 // The array in a slot goes over, if it is one that a formal takes by value.
+#[inline(always)]
 fn hand_over_at(arrays: &mut Arrays, formal: CodeFormal, slot: Slot, owner: u64)
     ensures holds { (o : World) → HoldsArrays arrays.old o.arrays → SlotLeadsArray arrays.old.regions o.arrays slot → HoldsArrays arrays.new (handed_over owner (arrays_by_value (formal ∷ []) (value_of slot ∷ [])) o).arrays }
     ensures leads { (o : World) → HoldsArrays arrays.old o.arrays → SlotLeadsArray arrays.old.regions o.arrays slot → KeepLeading arrays.old o.arrays arrays.new (handed_over owner (arrays_by_value (formal ∷ []) (value_of slot ∷ [])) o).arrays }
@@ -69,6 +70,7 @@ pub fn hand_over_all(arrays: &mut Arrays, stack: &[Slot], at: usize, count: usiz
 }
 
 // The array in a slot goes over, if there is one.
+#[inline(always)]
 fn hand_over_slot(arrays: &mut Arrays, slot: Slot, owner: u64)
     ensures holds { (o : World) → HoldsArrays arrays.old o.arrays → SlotLeadsArray arrays.old.regions o.arrays slot → HoldsArrays arrays.new (handed_over owner (with_array_of (value_of slot) []) o).arrays }
     ensures leads { (o : World) → HoldsArrays arrays.old o.arrays → SlotLeadsArray arrays.old.regions o.arrays slot → KeepLeading arrays.old o.arrays arrays.new (handed_over owner (with_array_of (value_of slot) []) o).arrays }

@@ -87,47 +87,42 @@ pub fn keep_chain(storage: &mut Storage, place: usize, component: Component, cha
     frames::stand(&mut storage.frames, place, component);
 }
 
-/// A chain is kept by the object that is the outermost on it, and detached then; a thunk keeps none. It answers whether the frame of that one was found:
-/// no run comes to one that was given back.
-pub fn keep_by_object(storage: &mut Storage, chain: Vec<Activation>) -> bool
+/// A chain is kept by the object that is the outermost on it, and detached then; a thunk keeps none, nor does one that was given back.
+pub fn keep_by_object(storage: &mut Storage, chain: Vec<Activation>)
     requires fits { AllFit chain.items }
     ensures texts { storage.new.texts ≡ storage.old.texts }
     ensures image { storage.new.image ≡ storage.old.image }
     ensures has { (at number : ℕ) → Has storage.old.frames.items at number → Has storage.new.frames.items at number }
-    ensures stands { result ≡ true → (l : LimitsOf) (before : Option (List ℕ)) (now : Outside) (o : World) (m : Frames) (operating : List ActivationOf) → Stores l storage.old before now o m → AllAtWork storage.old o m chain.items →
+    ensures stands { (l : LimitsOf) (before : Option (List ℕ)) (now : Outside) (o : World) (m : Frames) (operating : List ActivationOf) → Stores l storage.old before now o m → AllAtWork storage.old o m chain.items →
         Anew l storage.old storage.new before now o m (kept_as owner (outermost owner (map activation_of chain.items)) (map activation_of chain.items) (record { operating = operating; standings = m.standings })).standings }
 {
     if chain.len() == 0 {
-        return true;
+        return;
     }
     let outermost = chain[chain.len() - 1].registers;
     if is_thunk(&outermost) {
-        return true;
+        return;
     }
     let Some(place) = frames::find(&storage.frames, outermost.home) else {
-        return false;
+        return;
     };
     keep_chain(storage, place, Component::Detached, chain);
-    true
 }
 
 /// What stood above a system head is kept by the component of the system that operates: as the main chain, by the head itself, or by
-/// the resumed object. It answers as `keep_by_object` does.
-pub fn keep_above(storage: &mut Storage, head: usize, above: Vec<Activation>) -> bool
+/// the resumed object.
+pub fn keep_above(storage: &mut Storage, head: usize, above: Vec<Activation>)
     requires there { head < length storage.old.frames.items }
     requires live { (frame_at storage.old.frames.items head).live ≡ true }
     requires fits { AllFit above.items }
     ensures texts { storage.new.texts ≡ storage.old.texts }
     ensures image { storage.new.image ≡ storage.old.image }
     ensures has { (at number : ℕ) → Has storage.old.frames.items at number → Has storage.new.frames.items at number }
-    ensures stands { result ≡ true → (number : ℕ) (l : LimitsOf) (before : Option (List ℕ)) (now : Outside) (o : World) (m : Frames) (operating : List ActivationOf) → Has storage.old.frames.items head number → Stores l storage.old before now o m → AllAtWork storage.old o m above.items →
+    ensures stands { (number : ℕ) (l : LimitsOf) (before : Option (List ℕ)) (now : Outside) (o : World) (m : Frames) (operating : List ActivationOf) → Has storage.old.frames.items head number → Stores l storage.old before now o m → AllAtWork storage.old o m above.items →
         Anew l storage.old storage.new before now o m (kept_of owner number (map activation_of above.items) (record { operating = operating; standings = m.standings })).standings }
 {
     match frames::component_at(&storage.frames, head) {
-        Component::NoObject => {
-            keep_chain(storage, head, Component::Waiting, above);
-            true
-        }
+        Component::NoObject => keep_chain(storage, head, Component::Waiting, above),
         _ => keep_by_object(storage, above),
     }
 }

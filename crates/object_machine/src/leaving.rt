@@ -180,6 +180,7 @@ fn finish(
 }
 
 /// The end of a sub-block. It answers want of memory where the frame on top was given back already, to which no run comes.
+#[inline(always)]
 pub fn leave(
     blocks: &[BlockRecord],
     storage: &mut Storage,
@@ -211,6 +212,7 @@ pub fn leave(
 
 /// The end of a procedure, whose result goes to the frame below. It answers want of memory where the frame on top was given back
 /// already, to which no run comes.
+#[inline(always)]
 pub fn give_result(
     blocks: &[BlockRecord],
     storage: &mut Storage,

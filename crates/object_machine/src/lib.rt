@@ -26,6 +26,7 @@ mod handing;
 mod images;
 mod keeping;
 mod kept_chains;
+pub mod laws;
 mod layout;
 mod leaving;
 mod levelled;

@@ -61,6 +61,8 @@ pub struct Storage {
     pub cells: Vec<Slot>,
     /// For each region the operand stack of the frame that was there last. The next one takes it, where it has the room.
     pub spares: Vec<Vec<Slot>>,
+    /// The operand stacks of thunks that came to their end. The next thunk takes the last of them.
+    pub idle: Vec<Vec<Slot>>,
     /// For each region the chain that the detached object or the system head there keeps, the innermost activation first.
     pub parks: Vec<Vec<Activation>>,
     /// For each block the region that was given back last.

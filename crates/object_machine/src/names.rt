@@ -6,7 +6,7 @@ ghost use Rattle.sim_code.specs.Formals.{TextCopied, copying_value};
 ghost use Rattle.sim_code.specs.Machine.{ArrayValue, Frames, Of, array_in, on, plain};
 ghost use Rattle.sim_code.specs.Outcome.{ArrayOf, World};
 ghost use Rattle.sim_code.specs.Rows.{standard_of, standard_row};
-ghost use Rattle.sim_code.specs.Running.{standard_runs};
+ghost use Rattle.sim_code.specs.Running.{name_runs};
 ghost use Rattle.sim_code.specs.Simulations.{is_simulation_name as is_simulation_name_of};
 ghost use Rattle.frame_arena.specs.Arrays.{AllLeadArrays, HoldsArrays};
 ghost use Rattle.frame_arena.specs.Frames.{AllLead, Holds};
@@ -46,6 +46,19 @@ fn name_of(operand: i64) -> Option<Standard>
         return None;
     };
     Standard::from_number(number)
+}
+
+// Whether a name has a row. Those of both images and of components have none: other instructions do what they do.
+fn has_row(name: Standard) -> bool
+    ensures { result ≡ name_runs name }
+{
+    match name {
+        Standard::Image | Standard::Pos | Standard::Setpos | Standard::More | Standard::Length => {
+            false
+        }
+        Standard::Detach | Standard::Call | Standard::Resume => false,
+        _ => true,
+    }
 }
 
 // Goes on with what a standard name came to, of which the first operand had this address, if any.
@@ -265,6 +278,30 @@ fn whole_apart(
     flow
 }
 
+/// Does what a standard name of numbers and characters does, and puts its value in the place of its operands. An address among them is refused
+/// as it stands, and what it leads to is not read.
+#[inline(always)]
+pub fn plain_standard(
+    storage: &mut Storage,
+    stack: &mut [Slot],
+    regs: &mut Registers,
+    name: Standard,
+) -> Flow
+    requires plain { manner name ≡ Manner.Plain }
+    requires numbers { OnNumbers (row_of name).function }
+    requires fits { regs.old.depth ≤ length stack.old }
+    requires short { regs.old.pc + 1 < 2 ^ 64 }
+    ensures fits { regs.new.depth ≤ length stack.new }
+    ensures valid { HasImages storage.old.texts storage.old.image → HasImages storage.new.texts storage.new.image }
+    ensures frames { storage.new.frames ≡ storage.old.frames }
+    ensures next { Advances result regs.old regs.new }
+    ensures row { (l : LimitsOf) (line : ℕ) (below : List Activation) (now : Outside) →
+        Obeys result l line (λ o m a b. named l line name o m a b) storage.old storage.new regs.old regs.new stack.old stack.new below below now now }
+{
+    let performed = perform_plain(name, stack, regs.depth);
+    settle_performed(storage, regs, performed, EMPTY)
+}
+
 /// Does what a quiet standard name does, and puts its value in the place of its operands, if it has one. At any other name it does
 /// nothing.
 #[inline(always)]
@@ -290,11 +327,7 @@ pub fn quiet_standard(
         return None;
     };
     match manner_of(name) {
-        // An address among numbers and characters is refused as it stands, and what it leads to is not read.
-        Manner::Plain => {
-            let performed = perform_plain(name, stack, regs.depth);
-            Some(settle_performed(storage, regs, performed, EMPTY))
-        }
+        Manner::Plain => Some(plain_standard(storage, stack, regs, name)),
         Manner::Scan => {
             let depth = regs.depth;
             let count = operand_count(name);
@@ -358,7 +391,6 @@ pub fn standard<I: Source, O: Sink>(
 ) -> Flow
     requires fits { regs.old.depth ≤ length stack.old }
     requires short { regs.old.pc + 1 < 2 ^ 64 }
-    requires runs { standard_runs (standard_of operand) ≡ true }
     requires images { HasImages storage.old.texts storage.old.image }
     ensures fits { regs.new.depth ≤ length stack.new }
     ensures valid { HasImages storage.new.texts storage.new.image }
@@ -386,6 +418,9 @@ pub fn standard<I: Source, O: Sink>(
     }
     if is_simulation_name(name) {
         return Flow::Memory;
+    }
+    if !has_row(name) {
+        return Flow::NoRule;
     }
     let depth = regs.depth;
     let Some(address) = ready(storage, stack, depth, name) else {

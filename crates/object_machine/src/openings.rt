@@ -1,5 +1,5 @@
 //! New frames.
-ghost use Rattle.std.specs.Prelude.{◌≡◌, ◌<◌, ◌≤◌, ◌^◌, ℕ, List, Option, IfOk, Some, None, length, map, replicate, false};
+ghost use Rattle.std.specs.Prelude.{◌≡◌, ◌<◌, ◌≤◌, ◌^◌, ◌++◌, ◌∷◌, [], ℕ, List, Option, IfOk, IsOk, Some, None, length, map, replicate, false, Vec, vec_capacity, vec_len};
 ghost use Rattle.sim_code.specs.Machine.{Frames, first_value, passes as passes_of};
 ghost use Rattle.sim_code.specs.Outcome.{ArrayOf, World};
 ghost use Rattle.sim_values.specs.declared.value.FrameRef.{FrameRef as Reference};
@@ -107,6 +107,36 @@ fn take_stack(
         }
     }
     new_stack(alloc, room)
+}
+
+/// An operand stack with no value: the last of those that are idle, or a new one. Where one is idle that had as much room before, no memory
+/// is taken.
+#[inline(always)]
+pub fn take_idle(
+    alloc: Global,
+    idle: &mut Vec<Vec<Slot>>,
+    room: usize,
+) -> Result<Vec<Slot>, AllocError>
+    ensures empty { IfOk result (λ v. v.items ≡ replicate room empty_slot) }
+    ensures ready { (front : List (Vec Slot Global)) (last : Vec Slot Global) → idle.old.items ≡ front ++ last ∷ [] → room ≤ vec_capacity last → IsOk result }
+{
+    let Some(mut stack) = idle.pop() else {
+        return new_stack(alloc, room);
+    };
+    stack.clear();
+    stack.resize(room, EMPTY)?;
+    Ok(stack)
+}
+
+/// An operand stack becomes idle, if there is memory to note it.
+#[inline(always)]
+pub fn keep_idle(idle: &mut Vec<Vec<Slot>>, stack: Vec<Slot>)
+    ensures { vec_len idle.old < vec_capacity idle.old → idle.new.items ≡ idle.old.items ++ stack ∷ [] }
+{
+    match idle.push(stack) {
+        Ok(()) => {}
+        Err(_) => {}
+    }
 }
 
 // The cells of a free region get their first values.

@@ -24,7 +24,7 @@ use crate::operands::{
 };
 use crate::pairs::{relate, relation_of_texts};
 use crate::texts::{image_address, notext};
-use crate::virtuals::{find_match, procedure_value};
+use crate::virtuals::procedure_value;
 use frame_arena::Slot;
 use frame_arena::frames::Span;
 use sim_base::Limits;
@@ -182,7 +182,6 @@ pub fn obey_other(
         Instr::In(class) => test_class(&storage.frames, blocks, classes, false, stack, regs, class),
         Instr::Qua(class) => qua(&storage.frames, blocks, classes, stack, regs, class),
         Instr::ProcVal(block) => procedure_value(blocks, stack, regs, block),
-        Instr::Virt(number) => { find_match(&storage.frames, blocks, classes, stack, regs, number) }
         Instr::NotNone => not_none(stack, regs),
         _ => not_built(),
     }

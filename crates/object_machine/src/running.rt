@@ -1,6 +1,5 @@
 //! Running code.
 ghost use Rattle.std.specs.Prelude.{◌≡◌, ℕ, List, Some};
-ghost use Rattle.sim_code.specs.Running.{AllRun};
 ghost use Rattle.object_machine.specs.Running.{FaultsAs, InputAs, RanAs};
 ghost use Rattle.object_machine.specs.Taking.{TakesNothing};
 
@@ -16,7 +15,7 @@ use sim_code::{Code, Ending};
 use sim_ports::{Sink, Source};
 use std::alloc::Global;
 
-/// Runs code from its first step to its end, reads its input as far as it asks for it, and writes its output.
+/// Runs code, whatever code it is, from its first step to its end, reads its input as far as it asks for it, and writes its output.
 pub fn run<I: Source, O: Sink>(
     alloc: Global,
     code: &Code,
@@ -24,7 +23,6 @@ pub fn run<I: Source, O: Sink>(
     input: &mut I,
     out: &mut O,
 ) -> Ending
-    requires runs { AllRun code.now.instrs }
     ensures ran { (bytes : List ℕ) → I.left input.old ≡ Some bytes → RanAs (I.faults input.old) (I.faults input.new) code.now limits.now bytes result (O.written out.old) (O.written out.new) }
     ensures faults { FaultsAs O.written O.faults result out.old out.new }
     ensures input_faults { InputAs (I.faults input.old) (I.faults input.new) result }

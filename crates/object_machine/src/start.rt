@@ -59,6 +59,7 @@ pub fn start(
         frames: Vec::new(alloc),
         cells: Vec::new(alloc),
         spares: Vec::new(alloc),
+        idle: Vec::new(alloc),
         parks: Vec::new(alloc),
         heads,
         entered: 0,

@@ -2,7 +2,6 @@
 ghost use Rattle.std.specs.Prelude.{◌≡◌, ◌+◌, ◌<◌, ◌≤◌, ◌^◌, ℕ, List, Option, Some, length, true};
 ghost use Rattle.sim_code.specs.Code.{CodeOf};
 ghost use Rattle.sim_code.specs.Rows.{row};
-ghost use Rattle.sim_code.specs.Running.{runs};
 ghost use Rattle.object_machine.specs.Running.{Onward};
 ghost use Rattle.object_machine.specs.Named.{FlowEnds, InputEnds, Still};
 ghost use Rattle.object_machine.specs.Standing.{AllFit, HasImages, Obeys, Outside, Row, outside};
@@ -27,7 +26,7 @@ use crate::stages::{inner, next_declarations};
 use crate::texts::constant;
 use crate::thunks::{end_thunk, push_thunk, use_place, use_value};
 use crate::transfers::{attach, detach, resume};
-use crate::virtuals::call_value;
+use crate::virtuals::{call_value, find_match};
 use sim_base::{ByteString, Limits};
 use sim_code::{ActualList, BlockRecord, ClassRecord, Instr, Lined, ThunkRecord};
 use sim_ports::{Sink, Source};
@@ -69,7 +68,6 @@ pub fn step<I: Source, O: Sink>(
     requires fits { top.old.registers.depth ≤ length top.old.stack.items }
     requires others { AllFit below.old.items }
     requires short { top.old.registers.pc + 1 < 2 ^ 64 }
-    requires runs { runs instr ≡ true }
     requires images { HasImages storage.old.texts storage.old.image }
     ensures fits { top.new.registers.depth ≤ length top.new.stack.items }
     ensures others { AllFit below.new.items }
@@ -138,6 +136,17 @@ pub fn step<I: Source, O: Sink>(
         } => {
             let flow = pass_parameter(
                 alloc, blocks, instrs, thunks, storage, top, below, formal, thunk, procedure,
+            );
+            without_ports(flow)
+        }
+        Instr::Virt(number) => {
+            let flow = find_match(
+                &storage.frames,
+                blocks,
+                classes,
+                &mut top.stack,
+                &mut top.registers,
+                number,
             );
             without_ports(flow)
         }

@@ -24,7 +24,7 @@ use crate::constants::{index, truth};
 use crate::entering::cover;
 use crate::machine::{Activation, Flow, Registers, Storage};
 use crate::objects::admit;
-use crate::openings::new_stack;
+use crate::openings::{keep_idle, take_idle};
 use crate::operands::push;
 use crate::reading::value_at;
 use frame_arena::{Slot, SlotKind, frames, stack};
@@ -32,6 +32,7 @@ use sim_base::{Limits, Line, RunError};
 use sim_code::{BlockRecord, ClassRecord, Instr, Lined, Stage, ThunkRecord};
 use sim_values::FrameRef;
 use std::alloc::Global;
+use std::mem;
 
 /// A thunk in hand.
 #[derive(Clone, Copy)]
@@ -126,12 +127,13 @@ fn named_thunk(storage: &Storage, home: FrameRef, level: i64, cell: i64) -> Opti
     thunk_of(slot)
 }
 
-/// A thunk begins on top of the chain.
+/// A thunk begins on top of the chain, with an operand stack that is idle, if there is one.
+#[inline(always)]
 pub fn begin_thunk(
     alloc: Global,
     instrs: &[Lined],
     thunks: &[ThunkRecord],
-    storage: &Storage,
+    storage: &mut Storage,
     top: &mut Activation,
     below: &mut Vec<Activation>,
     used: ThunkInHand,
@@ -141,7 +143,9 @@ pub fn begin_thunk(
     requires others { AllFit below.old.items }
     ensures fits { top.new.registers.depth ≤ length top.new.stack.items }
     ensures others { AllFit below.new.items }
-    ensures row { OpensThunk result instrs.now thunks.now storage.now used top.old.registers top.new.registers top.old.stack.items top.new.stack.items below.old.items below.new.items }
+    ensures texts { storage.new.texts ≡ storage.old.texts }
+    ensures image { storage.new.image ≡ storage.old.image }
+    ensures row { OpensThunk result instrs.now thunks.now storage.old storage.new used top.old.registers top.new.registers top.old.stack.items top.new.stack.items below.old.items below.new.items }
 {
     let Some(_place) = frames::find(&storage.frames, used.home) else {
         return Flow::NoRule;
@@ -152,7 +156,7 @@ pub fn begin_thunk(
     let Some(_entry) = instrs.get(thunk.entry as usize) else {
         return Flow::NoRule;
     };
-    let Ok(stack) = new_stack(alloc, thunk.room as usize) else {
+    let Ok(stack) = take_idle(alloc, &mut storage.idle, thunk.room as usize) else {
         return Flow::Memory;
     };
     let next = Activation {
@@ -170,6 +174,7 @@ pub fn begin_thunk(
 
 // The thunk in a cell is run for its frame, after its tick. The frame at work, which has room for what the thunk gives, waits behind its
 // instruction.
+#[inline(always)]
 fn use_name(
     alloc: Global,
     instrs: &[Lined],
@@ -205,6 +210,7 @@ fn use_name(
 }
 
 /// A use of a parameter by name for its value, which is held against a class.
+#[inline(always)]
 pub fn use_value(
     alloc: Global,
     instrs: &[Lined],
@@ -238,6 +244,7 @@ pub fn use_value(
 }
 
 /// A use of a parameter by name for where it lies, or else for its value if that is enough.
+#[inline(always)]
 pub fn use_place(
     alloc: Global,
     instrs: &[Lined],
@@ -282,6 +289,7 @@ fn is_address(slot: Slot) -> bool
 }
 
 /// The value that an actual parameter gave: itself, or what is where it lies.
+#[inline(always)]
 pub fn value_given(storage: &Storage, given: Slot) -> Option<Slot>
     ensures leads { (l : LimitsOf) (before : Option (List ℕ)) (now : Outside) (o : World) (m : Frames) → Stores l storage.now before now o m → LeadsFrom storage.now o m given → ValueLeads storage.now.frames.items m storage.now.arrays.regions o.arrays result }
     ensures row { (l : LimitsOf) (before : Option (List ℕ)) (now : Outside) (o : World) (m : Frames) → Stores l storage.now before now o m → LeadsFrom storage.now o m given → found_value result ≡ value_given_in o m (value_of given) }
@@ -299,6 +307,7 @@ pub fn value_given(storage: &Storage, given: Slot) -> Option<Slot>
 }
 
 // What a thunk gave as a value, which may stand where references of a class stand.
+#[inline(always)]
 fn value_asked(
     blocks: &[BlockRecord],
     classes: &[ClassRecord],
@@ -327,6 +336,7 @@ fn value_asked(
 }
 
 // Where a thunk says that a variable lies; or else, for 1, its value.
+#[inline(always)]
 fn place_asked(given: Slot, value_too: i64, line: Line) -> Result<Slot, Flow>
     ensures leads { (p : StorageOf) (o : World) (m : Frames) → LeadsFrom p o m given → AnswerLeads result p o m }
     ensures row { (code : CodeOf) (l : LimitsOf) (o : World) (m : Frames) (level cell : ℤ) (b : ActivationOf) (rest : List ActivationOf) →
@@ -345,6 +355,7 @@ fn place_asked(given: Slot, value_too: i64, line: Line) -> Result<Slot, Flow>
 }
 
 // What was asked for goes to the activation that waits for it, or the run ends.
+#[inline(always)]
 fn hand(waiting: &mut Activation, asked: Result<Slot, Flow>) -> Flow
     requires fits { waiting.old.registers.depth ≤ length waiting.old.stack.items }
     ensures fits { waiting.new.registers.depth ≤ length waiting.new.stack.items }
@@ -364,6 +375,7 @@ fn hand(waiting: &mut Activation, asked: Result<Slot, Flow>) -> Flow
 }
 
 // What a thunk gave goes to the activation that waits for it, whose last instruction ran it.
+#[inline(always)]
 fn give(
     blocks: &[BlockRecord],
     instrs: &[Lined],
@@ -406,6 +418,7 @@ fn give(
 }
 
 /// A thunk ends. What it gives goes to the activation below, whose last instruction ran it; an error has the line of that.
+#[inline(always)]
 pub fn end_thunk(
     blocks: &[BlockRecord],
     instrs: &[Lined],
@@ -434,6 +447,7 @@ pub fn end_thunk(
     let Some(next) = below.pop() else {
         return Flow::NoRule;
     };
-    *top = next;
+    let ended = mem::replace(top, next);
+    keep_idle(&mut storage.idle, ended.stack);
     give(blocks, instrs, classes, limits, storage, top, given)
 }

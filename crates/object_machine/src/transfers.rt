@@ -14,7 +14,7 @@ ghost use Rattle.frame_arena.specs.Stacks.{values_of};
 ghost use Rattle.object_machine.specs.Standing.{AllFit, Leaves, Obeys, Outside, Stands, activation_at, below_of};
 ghost use Rattle.object_machine.specs.Transferring.{controlling};
 
-use crate::chains::{cut_above, join_chain, leave_chain, new_chain, stands_on};
+use crate::chains::{exchange, join_chain, leave_chain, new_chain, stands_on};
 use crate::classes::{Reference, reference_in};
 use crate::kept_chains::{keep_above, keep_by_object, keep_chain, stand, take_chain};
 use crate::machine::{Activation, Flow, Storage};
@@ -70,16 +70,14 @@ fn give_to_main(
     ensures row { (l : LimitsOf) (line : ℕ) (before : Option (List ℕ)) (now : Outside) (o : World) (m : Frames) → Stands l storage.old top.old.registers top.old.stack.items below.old.items before now o m →
         Leaves result l line storage.new top.new.registers top.new.stack.items below.new.items before now (controlling line o (activation_at top.old.registers top.old.stack.items ∷ below_of below.old.items) m head.stamp None) }
 {
-    let alloc = *storage.frames.allocator();
-    let mut above = new_chain(alloc);
-    if !cut_above(head.stamp, top, below, &mut above) {
-        return Flow::Memory;
+    let mut chain = take_chain(storage, head.frame as usize, Component::NoObject);
+    let flow = exchange(head.stamp, &mut chain, top, below);
+    match flow {
+        Flow::On => {}
+        _ => return flow,
     }
-    let mut main = take_chain(storage, head.frame as usize, Component::NoObject);
-    if !keep_by_object(storage, above) {
-        return Flow::Memory;
-    }
-    join_chain(&mut main, top, below)
+    keep_by_object(storage, chain);
+    Flow::On
 }
 
 // The chain that a detached object keeps goes on top of the operating chain, and the object is attached.
@@ -126,17 +124,15 @@ fn take_turn(
     ensures row { (l : LimitsOf) (line : ℕ) (before : Option (List ℕ)) (now : Outside) (o : World) (m : Frames) → Stands l storage.old top.old.registers top.old.stack.items below.old.items before now o m → head.stamp ≡ system_head_of m object →
         Leaves result l line storage.new top.new.registers top.new.stack.items below.new.items before now (transferring owner Resuming line o (activation_at top.old.registers top.old.stack.items ∷ below_of below.old.items) m (Object object)) }
 {
-    let alloc = *storage.frames.allocator();
-    let mut above = new_chain(alloc);
-    if !cut_above(head.stamp, top, below, &mut above) {
-        return Flow::Memory;
+    let mut chain = take_chain(storage, place, Component::Attached);
+    let flow = exchange(head.stamp, &mut chain, top, below);
+    match flow {
+        Flow::On => {}
+        _ => return flow,
     }
-    let mut kept = take_chain(storage, place, Component::Attached);
-    if !keep_above(storage, head.frame as usize, above) {
-        return Flow::Memory;
-    }
+    keep_above(storage, head.frame as usize, chain);
     stand(storage, place, Component::Resumed);
-    join_chain(&mut kept, top, below)
+    Flow::On
 }
 
 /// The top goes on behind its instruction, with so many values, once it is the top again.

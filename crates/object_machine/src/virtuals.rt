@@ -68,6 +68,7 @@ fn matched(matches: &[Match], number: usize) -> Option<u32>
 }
 
 // What matches a virtual in the class of an object or prefixed block.
+#[inline(always)]
 fn match_found(
     frames: &[Frame],
     blocks: &[BlockRecord],
@@ -94,6 +95,7 @@ fn match_found(
 }
 
 /// The object on top gives way to the procedure that matches a virtual in its class, which is declared in it.
+#[inline(always)]
 pub fn find_match(
     frames: &[Frame],
     blocks: &[BlockRecord],
@@ -186,6 +188,7 @@ pub fn procedure_value(
 }
 
 // The procedure in hand, if it is below as many values and its frame was not given back.
+#[inline(always)]
 fn take_value(frames: &[Frame], stack: &[Slot], depth: usize, operand: i64) -> Option<ValueCall>
     requires fits { depth ≤ length stack.now }
     ensures within { IfSome result (λ v. v.actuals.at + v.actuals.count ≤ length stack.now) }
@@ -222,6 +225,7 @@ fn take_value(frames: &[Frame], stack: &[Slot], depth: usize, operand: i64) -> O
 }
 
 /// Calls the procedure in hand with the values above it.
+#[inline(always)]
 pub fn call_value(
     alloc: Global,
     blocks: &[BlockRecord],

@@ -21,7 +21,10 @@ fn run_source(
     requires { length source.now < 1000 }
 {
     match bind(alloc, Command::Run, source) {
-        Ok(bound) => compile_and_run(alloc, &bound, limits, input, out).ok(),
+        Ok(bound) => {
+            let ran = compile_and_run(alloc, &bound, limits, input, out).ok()?;
+            Some(ran.end)
+        }
         Err(_) => None,
     }
 }

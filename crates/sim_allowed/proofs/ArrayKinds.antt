@@ -20,7 +20,7 @@ some_name (x ∷ xs) p = tt
 
 segments_named : (s : Source) (h : Holds) (segments : List Arrayed) → FilledSegments segments → SegmentsHold s h segments → SegmentsNamed s h segments
 segments_named s h [] f p = tt
-segments_named s h (a ∷ more) f p = (some_name a.names f.0, p.0, segments_named s h more f.1 p.1)
+segments_named s h (a ∷ more) f p = (f.1, some_name a.names f.0, p.0, segments_named s h more f.2 p.1)
 
 named : (s : Source) (ds : Declarations) → FilledDeclarations ds → ArraysHold s ds → ArraysNamed s ds
 named s NoDeclaration f p = tt

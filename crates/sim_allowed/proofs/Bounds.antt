@@ -6,6 +6,7 @@ use Rattle.sim_scope.specs.Runs.{each}
 use Rattle.sim_scope.specs.Source.{Source}
 use Rattle.sim_scope.specs.Statements.{array_events, judging, pair_events, required, type_events}
 use Rattle.sim_scope.specs.Walk.{declaration_events, declarations_events}
+use Rattle.sim_tree.specs.Filled.{SomeBounds}
 use Rattle.sim_tree.specs.Syntax.{Arrayed, Arrays, BoundPair, Declarations, DeclareClass, DeclareProcedure, Expression, NoDeclaration, Variables, With}
 use Rattle.sim_values.specs.declared.kind.Kind.TheVariants as kind
 use Rattle.sim_meaning.specs.Attributes.{is_connection}
@@ -23,10 +24,10 @@ use Rattle.sim_allowed.proofs.Statements.{required_is}
 
 -- ---- bounds
 
--- the arrays of each segment are there, and hold what its type says
+-- each segment has bounds, and its arrays are there and hold what its type says
 abbrev pub SegmentsNamed : Source → Holds → List Arrayed → Type 0
 SegmentsNamed s h [] = Unit {0}
-SegmentsNamed s h (a ∷ more) = SomeName a.names × ArraysAre s h a.names × SegmentsNamed s h more
+SegmentsNamed s h (a ∷ more) = SomeBounds a.bounds × SomeName a.names × ArraysAre s h a.names × SegmentsNamed s h more
 
 abbrev pub ArraysNamed : Source → Declarations → Type 0
 ArraysNamed s NoDeclaration = Unit {0}
@@ -54,7 +55,7 @@ module _ (s : Source) (known : Tabled s) (k : ℕ) (instance : is_connection (te
   segments_are h (a ∷ more) l n there said =
       let c = both_there s (bounds_constants a.bounds) (segments_constants more) there in
       let parts = both_say s (array_events s.tables a) (each (array_events s.tables) more) said in
-      (bounds_are a.bounds l.0 c.0 parts.0, n.0, n.1, segments_are h more l.1 n.2 c.1 parts.1)
+      (bounds_are a.bounds l.0 c.0 parts.0, n.0, n.1, n.2, segments_are h more l.1 n.3 c.1 parts.1)
 
   pub arrays_typed : (ds : Declarations) → PlacedArrays s.tables k ds → ArraysNamed s ds → AllThere s (declarations_constants ds) → AllSay s (declarations_events (judging s.tables) ds) → ArraysTyped s (InBound k) ds
   unfolding judging

@@ -1,5 +1,5 @@
 -- Typed programs are built.
-use Rattle.std.proofs.Common.{◌≡◌, ℕ, zero, suc, ◌+◌, Bool, true, false, List, [], ◌∷◌, ◌++◌, Option, Some, None, refl, sym, ap, ◌∙◌, subst, arith}
+use Rattle.std.proofs.Common.{◌≡◌, ℕ, zero, suc, ◌+◌, Bool, true, false, List, [], ◌∷◌, ◌++◌, length, Option, Some, None, refl, sym, ap, ◌∙◌, subst, arith}
 use Rattle.std.specs.Prelude.{slice_get}
 use Rattle.sim_base.specs.declared.numbering.DeclNo.{DeclNo}
 use Rattle.sim_scope.specs.declared.types.StandardClass.{StandardClass}
@@ -7,7 +7,7 @@ use Rattle.sim_scope.specs.declared.types.StandardPrefix.{StandardPrefix}
 use Rattle.sim_scope.specs.declared.types.StandardPrefix.TheVariants as prefixes
 use Rattle.sim_scope.specs.Source.{Source}
 use Rattle.sim_tree.specs.declared.expr.Identifier.{Identifier}
-use Rattle.sim_tree.specs.Filled.{Filled, FilledArms, FilledBlock, FilledDeclaration, FilledDeclarations, FilledStatement, FilledStatements}
+use Rattle.sim_tree.specs.Filled.{Filled, FilledArms, FilledBlock, FilledDeclaration, FilledDeclarations, FilledStatement, FilledStatements, SomeBounds}
 use Rattle.sim_tree.specs.Syntax.{Also, Arms, Arrayed, Arrays, Begin, Block, BoundPair, Declaration, Declarations, DeclareClass, DeclareProcedure, Expressions, Heading, NoArm, NoDeclaration, NoStatement, Prefix, Statement, Statements, Variables, When, With}
 use Rattle.sim_tree.specs.Syntax as syntax
 use Rattle.sim_values.specs.declared.kind.Kind.TheVariants as kind
@@ -63,16 +63,17 @@ module _ (s : Source) (ok : Typed s) (laid : Laid s) (t : ℕ) (x : Text) (there
   behind_segments d [] more a = a
   behind_segments d (g ∷ gs) more a = behind_names d g.names (arrays_in_segments s gs more) (behind_segments d gs more a)
 
-  made_built : (xs : List Identifier) → SomeName xs → NamesBuilt s t xs → MadeBuilt s t xs
-  made_built [] some a = absurd some
-  made_built (y ∷ ys) some a = a
+  made_built : (bs : List BoundPair) (xs : List Identifier) → SomeBounds bs → SomeName xs → NamesBuilt s t xs → MadeBuilt s t (length bs) xs
+  made_built [] xs bounds some a = absurd bounds
+  made_built (b ∷ bs) [] bounds some a = absurd some
+  made_built (b ∷ bs) (y ∷ ys) bounds some a = (omega arith, a)
 
   segments_built : (h : Holds) (gs : List Arrayed) (more : List DeclNo) → ((d : DeclNo) → Among d (arrays_in_segments s gs more) → Among d (numbers_of s t)) → SegmentsAre s (InBound t) h gs → SegmentsBuilt s t gs
   segments_built h [] more listed a = tt
   segments_built h (g ∷ gs) more listed a = (
     bounds_built g.bounds a.0,
-    made_built g.names a.1 (names_built h g.names (arrays_in_segments s gs more) listed a.2),
-    segments_built h gs more (λ d b. listed d (behind_names d g.names (arrays_in_segments s gs more) b)) a.3,
+    made_built g.bounds g.names a.1 a.2 (names_built h g.names (arrays_in_segments s gs more) listed a.3),
+    segments_built h gs more (λ d b. listed d (behind_names d g.names (arrays_in_segments s gs more) b)) a.4,
   )
 
   pub arrays_built : (ds : Declarations) → ((d : DeclNo) → Among d (arrays_of_block s ds) → Among d (numbers_of s t)) → ArraysTyped s (InBound t) ds → ArraysBuilt s t ds

@@ -1,6 +1,6 @@
 -- Each row of the machine's table leaves what is written.
 use Rattle.std.proofs.Common.{◌≡◌, ℕ, zero, suc, List, [], ◌∷◌, ◌++◌, length, Option, Some, None, Bool, true, false, refl, sym, subst, ap, ◌∙◌}
-use Rattle.std.specs.Prelude.{◌==◌, ◌*◌, ℤ, pos, negsuc, slice_get, slice_set, if◌then◌else◌, Result}
+use Rattle.std.specs.Prelude.{◌==◌, ◌*◌, ℤ, pos, negsuc, nat_lt, slice_get, slice_set, if◌then◌else◌, Result}
 use Rattle.sim_base.specs.declared.limits.Limits.{Limits}
 use Rattle.sim_base.specs.declared.run_error.RunError.{RunError}
 use Rattle.sim_values.specs.declared.kind.Kind.{Kind}
@@ -550,7 +550,7 @@ row_grows code l o m a below line (i.Pref k n) = prefixed_grows code l o m a bel
 row_grows code l o m a below line (i.NextDecl z) = index_grows z o _ (λ n. declared_grows code o m a below n)
 row_grows code l o m a below line (i.Inner z) = index_grows z o _ (λ n. inner_grows code o m a below n)
 row_grows code l o m a below line (i.EndLevel z) = index_grows z o _ (λ n. level_ends code l o m a below n)
-row_grows code l o m a below line (i.Array z n) = grows_having Machine Kind (element_kind z) o _ (λ kind _. index_grows n o _ (λ n. grows_integers Machine Value plain (2 * n) [] a.stack o _ (λ bounds stack. grows_making Machine l line a.home kind _ o _ (λ array p. pushed_grows a.room stack _ p _ (λ s. going p _)))))
+row_grows code l o m a below line (i.Array z n) = grows_having Machine Kind (element_kind z) o _ (λ kind _. index_grows n o _ (λ n. grows_when Machine (nat_lt 0 n) o _ (grows_integers Machine Value plain (2 * n) [] a.stack o _ (λ bounds stack. grows_making Machine l line a.home kind _ o _ (λ array p. pushed_grows a.room stack _ p _ (λ s. going p _))))))
 row_grows code l o m a below line i.CopyArr = grows_popping Machine Value plain a.stack o _ (λ v stack. grows_having Machine ℕ (array_in v) o _ (λ array _. grows_copying Machine l line a.home array o _ (λ copy p. going p _)))
 row_grows code l o m a below line i.Keep = grows_popping Machine Value plain a.stack o _ (λ v stack. grows_having Machine ℕ (array_in v) o _ (λ array _. grows_keeping Machine array o _ (λ p. going p _)))
 row_grows code l o m a below line i.AssignT = grows_assigning Machine Value plain line a.stack o _ (λ p stack. going p _)

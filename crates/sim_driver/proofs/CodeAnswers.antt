@@ -1,5 +1,5 @@
 -- The answer of a run of code, and of a code file.
-use Rattle.std.proofs.Common.{◌≡◌, ◌∙◌, ◌⊎◌, inl, inr, ℕ, ◌<◌, ◌≤◌, List, [], Option, Result, Err, length, take, refl, sym, ap, subst, arith, lit≤, length-append, length-take}
+use Rattle.std.proofs.Common.{◌≡◌, ◌∙◌, ◌⊎◌, inl, inr, ℕ, ◌<◌, ◌≤◌, List, [], Option, Result, Err, true, false, length, take, refl, sym, ap, subst, arith, lit≤, length-append, length-take}
 use Rattle.std.proofs.KnownBytes.{Appends-nil}
 use Rattle.std.specs.Prelude.{◌≢◌}
 use Rattle.std.proofs.lemmas.Bool.{cases_lt}
@@ -7,33 +7,38 @@ use Rattle.std.proofs.lemmas.List.{take_all, take-take}
 use Rattle.std.specs.Io.KnownBytes.{Appends}
 use Rattle.sim_base.specs.declared.limits.Limits.{Limits}
 use Rattle.sim_code.specs.Code.{CodeOf}
+use Rattle.sim_ports.specs.Bytes.{AddsPrefix}
 use Rattle.code_file.specs.declared.fault.CodeRefusal.{CodeRefusal}
 use Rattle.code_file.specs.declared.fault.CodeRefusal.TheVariants as refusal
 use Rattle.code_file.specs.declared.rule.CodeRule.{CodeRule}
 use Rattle.code_file.specs.declared.rule.CodeRule.TheVariants.{NoHeader, EndsEarly, OutOfRange, NotZero, AfterEnd}
 use Rattle.code_file.specs.Faults.{Breaks, EndsAt, EndsInside}
-use Rattle.code_file.specs.Laws.{Answers, Refuses}
+use Rattle.code_file.specs.Laws.{Answers, IsBroken, IsSpelt, Refuses}
 use Rattle.code_file.specs.Spelling.{Spells, header, largest, spelling}
 use Rattle.code_run.specs.declared.running.CodeEnd.{CodeEnd}
 use Rattle.code_run.specs.declared.running.CodeFailure.{CodeFailure}
-use Rattle.code_run.specs.CodeEnds.{Begins as BeginsRun, Broken, Ran}
+use Rattle.code_run.specs.CodeEnds.{Begins as BeginsRun, Broken, HasEnd, Ran}
 use Rattle.code_run.proofs.Ended.{one_end}
 use Rattle.sim_driver.specs.Answer.{Answer, Gives}
-use Rattle.sim_driver.specs.CodeAnswer.{IsCodeAnswer, IsCodeCutOff, IsRunAnswer, status_of_end}
+use Rattle.sim_driver.specs.CodeAnswer.{HasOneAnswer, IsAnswered, IsCodeAnswer, IsCodeCutOff, IsRunAnswer, status_of_end}
 use Rattle.sim_driver.specs.Output.{Begins, Exactly, Writes}
+use Rattle.sim_driver.specs.Status.{is_answer}
 use Rattle.sim_driver.specs.declared.status.Status.{Status}
 use Rattle.sim_driver.specs.declared.status.Status.TheVariants as status
 use Rattle.sim_driver.proofs.Prefixes.{AddsPrefix-whole}
 
 -- ---- a run of code
 
-module _ (l : Limits) (code : CodeOf) (input : List ℕ) (old new : Option (List ℕ)) where
-  -- what was run to its end has an answer
-  pub ran_answer : (end : CodeEnd) → Ran code l input end old new → (answer : Answer) × IsRunAnswer l code input answer
-  ran_answer end ran =
-      (record { status = status_of_end l end; output = Exactly ran.output }, record { end = end; output = ran.output; ends = ran.ends; same = refl })
+abbrev pub answer_so : Status → List ℕ → Answer
+answer_so ended output = record { status = ended; output = Exactly output }
 
-  -- and gave each that there is
+-- each run of code has an answer
+pub end_answer : (l : Limits) (code : CodeOf) (input : List ℕ) → HasEnd code l input → (answer : Answer) × IsRunAnswer l code input answer
+end_answer l code input (end, output, ends) =
+    (record { status = status_of_end l end; output = Exactly output }, record { end = end; output = output; ends = ends; same = refl })
+
+module _ (l : Limits) (code : CodeOf) (input : List ℕ) (old new : Option (List ℕ)) where
+  -- what was run to its end gave each answer that there is
   pub ran_gives : (end : CodeEnd) (ended : Status) (answer : Answer) → Ran code l input end old new → ended ≡ status_of_end l end → IsRunAnswer l code input answer → Gives answer ended old new
   ran_gives end ended answer ran is means =
       let same = one_end code l input end means.end ran.output means.output ran.ends means.ends in
@@ -49,7 +54,9 @@ module _ (l : Limits) (code : CodeOf) (input : List ℕ) (old new : Option (List
 
   -- what failed wrote a part of it
   pub broken_begins : (answer : Answer) → BeginsRun code l input old new → IsRunAnswer l code input answer → Begins old new answer.output
-  broken_begins answer part means = subst (λ (a : Answer). Begins old new a.output) (sym means.same) (inr (means.output, refl, part means.end means.output means.ends))
+  broken_begins answer (end, output, ends, adds) means =
+      let same = one_end code l input end means.end output means.output ends means.ends in
+      subst (λ (a : Answer). Begins old new a.output) (sym means.same) (inr (means.output, refl, subst (λ xs. AddsPrefix old new xs) same.1 adds))
 
   -- what is known of a run that failed, by its cause
   pub broken_by : (faults now : ℕ) (e f : CodeFailure) → e ≡ f → Broken faults now code l input old new (Err e) → Broken faults now code l input old new (Err f)
@@ -93,6 +100,70 @@ module _ (l : Limits) (bytes input : List ℕ) where
     where
       no_memory : refusal.Broken rule place ≡ refusal.Memory → ⊥
       no_memory h = cc h
+
+  -- ---- a file has one answer
+
+  one_run : (answer other : Answer) (code : CodeOf) → IsRunAnswer l code input answer → IsRunAnswer l code input other → other ≡ answer
+  one_run answer other code is means =
+      let same = one_end code l input is.end means.end is.output means.output is.ends means.ends in
+      means.same
+      ∙ sym (ap (λ (e : CodeEnd). answer_so (status_of_end l e) means.output) same.0)
+      ∙ sym (ap (λ (xs : List ℕ). answer_so (status_of_end l is.end) xs) same.1)
+      ∙ sym is.same
+
+  spelt_answer : IsSpelt bytes → ((code : CodeOf) → HasEnd code l input) → HasOneAnswer l bytes input
+  spelt_answer x ends =
+      let found = end_answer l x.code input (ends x.code) in
+      record {
+        answer = found.0;
+        means = inr (record { code = x.code; spells = x.spells; runs = found.1 });
+        only = λ other means. one_run found.0 other x.code found.1 (run_answer x.code other (λ code spells. sym (x.only code spells)) x.unbroken means);
+      }
+
+  only_refusal : (x : IsBroken bytes) (other : Answer) → IsCodeAnswer l bytes input other → other ≡ answer_so (status.CodeRefused x.rule x.place) []
+  only_refusal x other (inl refused) =
+      refused.same
+      ∙ ap (λ (r : CodeRule). answer_so (status.CodeRefused r refused.place) []) (x.only_rule refused.rule refused.place refused.breaks)
+      ∙ ap (λ (n : ℕ). answer_so (status.CodeRefused x.rule n) []) (x.only_place refused.rule refused.place refused.breaks)
+  only_refusal x other (inr ran) = absurd (x.no_code ran.code ran.spells)
+
+  pub one_answer : IsSpelt bytes ⊎ IsBroken bytes → ((code : CodeOf) → HasEnd code l input) → HasOneAnswer l bytes input
+  one_answer (inl x) ends = spelt_answer x ends
+  one_answer (inr x) ends = record {
+    answer = answer_so (status.CodeRefused x.rule x.place) [];
+    means = inl (record { rule = x.rule; place = x.place; breaks = x.breaks; same = refl });
+    only = only_refusal x;
+  }
+
+  -- what gives each answer and begins it, has answered
+  pub has_answered : (ended : Status) (old new : Option (List ℕ)) → HasOneAnswer l bytes input
+      → ((answer : Answer) → IsCodeAnswer l bytes input answer → is_answer ended ≡ true → Gives answer ended old new)
+      → ((answer : Answer) → IsCodeAnswer l bytes input answer → Begins old new answer.output)
+      → IsAnswered l bytes input ended old new
+  has_answered ended old new one gives begins = record {
+    one = one;
+    gives = gives one.answer one.means;
+    begins = begins one.answer one.means;
+  }
+
+  -- so has what wrote nothing and is no answer
+  pub wrote_nothing : (ended : Status) (old : Option (List ℕ)) → is_answer ended ≡ false → HasOneAnswer l bytes input → IsAnswered l bytes input ended old old
+  wrote_nothing ended old none one = record {
+    one = one;
+    gives = λ is. absurd (differ (sym none ∙ is));
+    begins = inl (Appends-nil old);
+  }
+    where
+      differ : false ≡ true → ⊥
+      differ h = cc h
+
+-- the status that a run of code has at last, by what writing the line made of it
+pub answered_so : (l : Limits) (file input : List ℕ) (ended said : Status) (old new : Option (List ℕ)) → (is_answer ended ≡ true → ended ≡ said) → IsAnswered l file input said old new → IsAnswered l file input ended old new
+answered_so l file input ended said old new same found = record {
+  one = found.one;
+  gives = λ is. let given = found.gives (sym (ap is_answer (same is)) ∙ is) in record { ends = same is ∙ given.ends; writes = given.writes };
+  begins = found.begins;
+}
 
 -- ---- a file that was read up to the limit
 

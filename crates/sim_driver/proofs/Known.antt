@@ -72,7 +72,7 @@ pub same_then : (A B C : Type 0) → Same A B → Same B C → Same A C
 same_then A B C f g = record { there = λ a. g.there (f.there a); back = λ c. f.back (g.back c) }
 
 -- where what a command makes is the same, by an equation
-by_equation : {A : Type 0} (P : A → Type 0) (x y : A) → x ≡ y → Same (P x) (P y)
+pub by_equation : {A : Type 0} (P : A → Type 0) (x y : A) → x ≡ y → Same (P x) (P y)
 by_equation P x y e = record { there = λ p. subst P e p; back = λ p. subst P (sym e) p }
 
 itself : (A : Type 0) → Same A A
@@ -112,7 +112,7 @@ tree_tokens one command tokens tree c is = record {
 }
 
 -- all commands but `print` ask the static rules of it
-whole_tree : (command : Command) (tokens : List Token) (tree : Tree) (c : Compiled) → (command ≡ Print → ⊥) → Same (WholeCompiles command tokens tree c) (TreeCompiles command tokens tree c)
+pub whole_tree : (command : Command) (tokens : List Token) (tree : Tree) (c : Compiled) → (command ≡ Print → ⊥) → Same (WholeCompiles command tokens tree c) (TreeCompiles command tokens tree c)
 whole_tree Run tokens tree c asks = itself (TreeCompiles Run tokens tree c)
 whole_tree Check tokens tree c asks = itself (TreeCompiles Check tokens tree c)
 whole_tree Compile tokens tree c asks = itself (TreeCompiles Compile tokens tree c)

@@ -2,6 +2,7 @@ pub mod AllWordsOf
 pub mod Answering
 pub mod AtTheEnd
 pub mod CodeAnswers
+pub mod CompiledAnswers
 pub mod Generated
 pub mod Known
 pub mod Limits

@@ -1,5 +1,5 @@
 -- What a program means, from how it was run.
-use Rattle.std.proofs.Common.{◌≡◌, ◌⊎◌, inl, inr, ℕ, Bool, true, false, List, [], Option, OnOk, Result, Ok, Err, refl, sym, ap, ◌∙◌, subst}
+use Rattle.std.proofs.Common.{◌≡◌, ◌⊎◌, inl, inr, ℕ, Bool, true, false, List, [], Option, IfOk, OnErr, OnOk, Result, Ok, Err, refl, sym, ap, ◌∙◌, subst}
 use Rattle.std.proofs.KnownBytes.{Appends-nil}
 use Rattle.std.specs.Io.KnownBytes.{Appends}
 use Rattle.sim_base.specs.declared.limits.Limits.{Limits}
@@ -7,17 +7,19 @@ use Rattle.sim_base.specs.declared.numbering.Line.{Line}
 use Rattle.sim_base.specs.declared.rule.Rule.{Rule}
 use Rattle.sim_ports.specs.Bytes.{AddsPrefix}
 use Rattle.sim_driver.specs.Output.{Begins, Exactly, SomeCodeFile, SomeListing, Writes}
+use Rattle.sim_run.specs.declared.running.ProgramRun.{ProgramRun}
 use Rattle.sim_run.specs.declared.running.RunFailure.{RunFailure as NotRun}
 use Rattle.sim_run.specs.declared.running.RunEnd.{RunEnd}
 use Rattle.sim_run.specs.RunEnds.{BeforeARead, Begins as BeginsRun, Broken, Ran, TakesNothing}
 use Rattle.sim_run.proofs.OneEnd.{one_end}
+use Rattle.sim_run.proofs.Ran.{has_ended}
 use Rattle.sim_xref.specs.Text.{references_text}
 use Rattle.sim_scope.specs.Source.{Source}
 use Rattle.sim_driver.specs.Compiling.{BoundCompiles, Coded, Compiled, Listed, Printed, Rejected, Runnable, Sound, SourceBinds, SourceCompiles, SourcePrints, SourceRejects}
 use Rattle.sim_driver.specs.OutputAfter.{InputAfter}
 use Rattle.sim_driver.specs.declared.failure.RunFailure.{RunFailure}
 use Rattle.sim_driver.specs.declared.failure.RunFailure.TheVariants.{Input, Memory, Output}
-use Rattle.sim_driver.specs.SourceMeaning.{BoundMeans, Does, IsCutOff, Meaning, Means, RunMeans, SourceMeans, ending_of}
+use Rattle.sim_driver.specs.SourceMeaning.{BoundMeans, Does, IsCutOff, Meaning, Means, RanCode, RunMeans, SourceMeans, ending_of}
 use Rattle.sim_driver.specs.declared.status.Ending.{Ending}
 use Rattle.sim_driver.specs.declared.status.Ending.TheVariants.{Normal, Refused}
 use Rattle.command_line.specs.declared.words.Command.{Command}
@@ -26,7 +28,7 @@ use Rattle.command_line.specs.declared.words.Command.TheVariants.{Check, Compile
 -- ---- a run
 
 -- what was run to its end has a meaning
-pub ran_means : (l : Limits) (s : Source) (input : List ℕ) (end : RunEnd) (old new : Option (List ℕ)) → Ran s l input end old new → (meaning : Meaning) × BoundMeans Run l s input meaning
+ran_means : (l : Limits) (s : Source) (input : List ℕ) (end : RunEnd) (old new : Option (List ℕ)) → Ran s l input end old new → (meaning : Meaning) × BoundMeans Run l s input meaning
 ran_means l s input end old new ran = (
   record { ending = ending_of l end; output = Exactly ran.output },
   record { compiled = Runnable s; compiles = refl; means = record { end = end; output = ran.output; ends = ran.ends; same = refl } },
@@ -36,7 +38,7 @@ run_of : (l : Limits) (s : Source) (input : List ℕ) (meaning : Meaning) → Bo
 run_of l s input meaning is = subst (λ (c : Compiled). Means l input c meaning) is.compiles is.means
 
 -- it ended and wrote as every meaning says
-pub ran_does : (l : Limits) (s : Source) (input : List ℕ) (end : RunEnd) (ending : Ending) (old new : Option (List ℕ)) → Ran s l input end old new → ending ≡ ending_of l end
+ran_does : (l : Limits) (s : Source) (input : List ℕ) (end : RunEnd) (ending : Ending) (old new : Option (List ℕ)) → Ran s l input end old new → ending ≡ ending_of l end
     → (meaning : Meaning) → BoundMeans Run l s input meaning → (ending ≡ meaning.ending) × Writes old new meaning.output
 ran_does l s input end ending old new ran says meaning is =
     let means = run_of l s input meaning is in
@@ -45,14 +47,28 @@ ran_does l s input end ending old new ran says meaning is =
     (says ∙ ap (ending_of l) same.0, (means.output, refl, subst (λ xs. Appends old new xs) same.1 ran.writes))
 
 -- what failed wrote a part of it
-pub failed_begins : (l : Limits) (s : Source) (input : List ℕ) (old new : Option (List ℕ)) → BeginsRun s l input old new → (meaning : Meaning) → BoundMeans Run l s input meaning → Begins old new meaning.output
+failed_begins : (l : Limits) (s : Source) (input : List ℕ) (old new : Option (List ℕ)) → BeginsRun s l input old new → (meaning : Meaning) → BoundMeans Run l s input meaning → Begins old new meaning.output
 failed_begins l s input old new part meaning is =
     let means = run_of l s input meaning is in
     subst (λ (m : Meaning). Begins old new m.output) (sym means.same) (inr (means.output, refl, part means.end means.output means.ends))
 
+-- the code has ended, so the program has
+program_ran : (l : Limits) (s : Source) (input : List ℕ) (ending : Ending) (old new : Option (List ℕ)) (ran : RanCode l s input ending old new) → Ran s l input ran.end old new
+program_ran l s input ending old new ran = has_ended s ran.code ran.shows l input ran.end old new ran.ran
+
+-- so what was run has a meaning, and did what every meaning says
+pub run_known : {E : Type 0} (l : Limits) (s : Source) (input : List ℕ) (old new : Option (List ℕ)) (r : Result Ending E) → IfOk r (λ ending. RanCode l s input ending old new) → OnOk r ((meaning : Meaning) × BoundMeans Run l s input meaning)
+run_known l s input old new (Ok ending) ran = ran_means l s input ran.end old new (program_ran l s input ending old new ran)
+run_known l s input old new (Err e) ran = tt
+
+pub run_does : {E : Type 0} (l : Limits) (s : Source) (input : List ℕ) (old new : Option (List ℕ)) (r : Result Ending E) → IfOk r (λ ending. RanCode l s input ending old new) → OnErr r (BeginsRun s l input old new)
+    → (meaning : Meaning) → BoundMeans Run l s input meaning → Does meaning old new r
+run_does l s input old new (Ok ending) ran begins meaning is = ran_does l s input ran.end ending old new (program_ran l s input ending old new ran) ran.same meaning is
+run_does l s input old new (Err e) ran begins meaning is = failed_begins l s input old new begins meaning is
+
 -- what is known of a run that failed, by its cause
-pub broken_by : (faults now : ℕ) (l : Limits) (s : Source) (input : List ℕ) (old new : Option (List ℕ)) (e f : NotRun) → e ≡ f → Broken faults now s l input old new (Err e) → Broken faults now s l input old new (Err f)
-broken_by faults now l s input old new e f is broken = subst (λ x. Broken faults now s l input old new (Err x)) is broken
+pub broken_by : (faults now : ℕ) (l : Limits) (s : Source) (input : List ℕ) (old new : Option (List ℕ)) (e f : NotRun) → e ≡ f → Broken {A = ProgramRun} faults now s l input old new (Err e) → Broken {A = ProgramRun} faults now s l input old new (Err f)
+broken_by faults now l s input old new e f is broken = subst (λ x. Broken {A = ProgramRun} faults now s l input old new (Err x)) is broken
 
 -- ---- what is checked and not run
 

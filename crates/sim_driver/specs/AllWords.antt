@@ -1,6 +1,8 @@
 -- What the words of the command line ask for, and what is answered: `exec` with the code in a file, and every other command.
 use Rattle.std.specs.Prelude.{◌≡◌, ℕ, List, Option, Some, None, MatchOption}
 use Rattle.command_line.specs.Executed.{CodeRequest, code_request_of}
+use Rattle.command_line.specs.Words.{request_of}
+use Rattle.command_line.specs.declared.words.Command.{Command}
 use Rattle.sim_base.specs.declared.limits.Limits.{Limits}
 use Rattle.sim_driver.specs.Answer.{Answer, IsAnswer}
 use Rattle.sim_driver.specs.CodeAnswer.{IsCodeAnswer, IsCodeCutOff}
@@ -42,6 +44,10 @@ AskCodeRunWith words l = MatchOption (code_request_of words) ⊥ (λ request. re
 -- the words ask for a run of the source or of the code in a file
 abbrev pub AskRun : List (List ℕ) → Type 0
 AskRun words = MatchOption (code_request_of words) (AsksRun words) (λ request. Unit {0})
+
+-- the words ask for what this command makes of the source in a file
+abbrev pub AskTo : Command → List (List ℕ) → Type 0
+AskTo command words = MatchOption (code_request_of words) (MatchOption (request_of words) ⊥ (λ request. request.command ≡ command)) (λ request. ⊥)
 
 -- the words ask for nothing that is run
 abbrev pub RunNothing : List (List ℕ) → Type 0

@@ -1,5 +1,5 @@
 -- What `exec` answers, by the bytes of the code file and of the input.
-use Rattle.std.specs.Prelude.{◌≡◌, ◌⊎◌, ℕ, List, [], Option}
+use Rattle.std.specs.Prelude.{◌≡◌, ◌⊎◌, ℕ, List, [], Option, true}
 use Rattle.sim_base.specs.declared.limits.Limits.{Limits}
 use Rattle.sim_code.specs.Code.{CodeOf}
 use Rattle.code_file.specs.declared.rule.CodeRule.{CodeRule}
@@ -8,8 +8,9 @@ use Rattle.code_file.specs.Spelling.{Spells}
 use Rattle.code_run.specs.CodeEnds.{BeforeARead, CodeEnds}
 use Rattle.code_run.specs.declared.running.CodeEnd.{CodeEnd}
 use Rattle.code_run.specs.declared.running.CodeEnd.TheVariants as end
-use Rattle.sim_driver.specs.Answer.{Answer}
-use Rattle.sim_driver.specs.Output.{Exactly}
+use Rattle.sim_driver.specs.Answer.{Answer, Gives}
+use Rattle.sim_driver.specs.Output.{Begins, Exactly}
+use Rattle.sim_driver.specs.Status.{is_answer}
 use Rattle.sim_driver.specs.declared.status.Status.{Status}
 use Rattle.sim_driver.specs.declared.status.Status.TheVariants.{Normal, RunFault, StorageExhausted, TickLimit, BadCode, CodeRefused}
 
@@ -43,6 +44,19 @@ pub record IsRefusedCode (file : List ℕ) (answer : Answer) : Type 0 where
 
 abbrev pub IsCodeAnswer : Limits → (file input : List ℕ) → Answer → Type 0
 IsCodeAnswer l file input answer = IsRefusedCode file answer ⊎ IsCodeRun l file input answer
+
+-- there is an answer, and no other
+pub record HasOneAnswer (l : Limits) (file input : List ℕ) : Type 0 where
+  pub answer : Answer
+  pub means : IsCodeAnswer l file input answer
+  pub only : (other : Answer) → IsCodeAnswer l file input other → other ≡ answer
+
+-- There is an answer, and no other. A status that is no fault of the outside and not want of memory is its status, with its whole output. Whatever the
+-- status is, what was written begins that output.
+pub record IsAnswered (l : Limits) (file input : List ℕ) (status : Status) (old new : Option (List ℕ)) : Type 0 where
+  pub one : HasOneAnswer l file input
+  pub gives : is_answer status ≡ true → Gives one.answer status old new
+  pub begins : Begins old new one.answer.output
 
 -- The file is a code file, and what was written is all that the run of its code had written before a step that takes something of the input, by the
 -- counts of faults of the input before and after.

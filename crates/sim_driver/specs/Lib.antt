@@ -1,6 +1,7 @@
 pub mod AllWords
 pub mod Answer
 pub mod CodeAnswer
+pub mod CompiledAnswer
 pub mod Compiling
 pub mod Output
 pub mod OutputAfter

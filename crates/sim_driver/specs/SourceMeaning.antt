@@ -3,7 +3,10 @@ use Rattle.std.specs.Prelude.{◌≡◌, ℕ, List, [], Option, Result, Ok, Err}
 use Rattle.sim_base.specs.declared.limits.Limits.{Limits}
 use Rattle.sim_run.specs.declared.running.RunEnd.{RunEnd}
 use Rattle.sim_run.specs.declared.running.RunEnd.TheVariants as end
-use Rattle.sim_run.specs.RunEnds.{BeforeARead, RunEnds}
+use Rattle.sim_code.specs.Code.{CodeOf}
+use Rattle.codegen.specs.Compiled.{Compiled as StandsFor}
+use Rattle.sim_relate.specs.SameRuns.{SameRuns}
+use Rattle.sim_run.specs.RunEnds.{BeforeARead, CodeRan, RunEnds}
 use Rattle.sim_scope.specs.Source.{Source}
 use Rattle.sim_driver.specs.Compiling.{BoundCompiles, Coded, Compiled, Listed, Printed, Rejected, Runnable, SourceCompiles, Sound}
 use Rattle.sim_driver.specs.Output.{Begins, Exactly, Output, SomeCodeFile, SomeListing, Writes}
@@ -30,6 +33,15 @@ pub record RunMeans (l : Limits) (s : Source) (input : List ℕ) (meaning : Mean
   pub output : List ℕ
   pub ends : RunEnds s l input end output
   pub same : meaning ≡ record { ending = ending_of l end; output = Exactly output }
+
+-- Code that stands for the program, and shows what that shows, was run to its end by the machine's table, and its whole output was written.
+pub record RanCode (l : Limits) (s : Source) (input : List ℕ) (ending : Ending) (old new : Option (List ℕ)) : Type 0 where
+  pub code : CodeOf
+  pub stands : StandsFor s code
+  pub shows : SameRuns s code
+  pub end : RunEnd
+  pub ran : CodeRan code l input end old new
+  pub same : ending ≡ ending_of l end
 
 -- The meaning of what a command makes of a source. One that is checked runs nothing. Of one that is printed, or whose cross references are asked
 -- for, the text is written, and of a program that is compiled or listed what is said of its code.

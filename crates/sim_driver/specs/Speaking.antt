@@ -3,8 +3,8 @@ use Rattle.std.specs.Prelude.{◌≡◌, ◌≢◌, ◌⊎◌, ℕ, List, Option
 use Rattle.std.specs.Io.KnownBytes.{Appends}
 use Rattle.sim_ports.specs.Bytes.{AddsPrefix}
 use Rattle.sim_ports.specs.Faults.{Rose}
-use Rattle.sim_driver.specs.Status.{line_text}
-use Rattle.sim_driver.specs.AllWords.{AreNoCommand}
+use Rattle.sim_driver.specs.Status.{is_of_code, line_text}
+use Rattle.sim_driver.specs.AllWords.{AreNoCommand, AskForNoCode}
 use Rattle.sim_driver.specs.declared.status.Status.{Status}
 use Rattle.sim_driver.specs.declared.status.Status.TheVariants.{Normal, Usage, FileFault, InputFault, WriteFault, Memory}
 
@@ -38,6 +38,7 @@ Says told result old new before now = IsWhole told result old new before now ⊎
 -- a status comes only by its cause: the words, or a rise of a count of faults
 pub record HasItsCause (words : List (List ℕ)) (told : Status) (files input output : Type 0) : Type 0 where
   pub usage : told ≡ Usage → AreNoCommand words
+  pub code : AskForNoCode words → is_of_code told ≡ false
   pub file : told ≡ FileFault → files
   pub read : told ≡ InputFault → input
   pub write : told ≡ WriteFault → output

@@ -73,3 +73,9 @@ abbrev pub is_told : Status → Bool
 is_told WriteFault = false
 is_told Memory = false
 is_told _ = true
+
+-- a status of code that the machine has no rule for, or of a file that is no code file
+abbrev pub is_of_code : Status → Bool
+is_of_code (BadCode at) = true
+is_of_code (CodeRefused rule place) = true
+is_of_code _ = false

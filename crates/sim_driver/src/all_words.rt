@@ -1,6 +1,7 @@
 // Does what the words ask for: `exec` with the code in a file, and every other command.
-ghost use Rattle.std.specs.Prelude.{◌≡◌, ◌≤◌, ◌+◌, ◌⊎◌, None, Some, true, IfSome, IsSome, List, ℕ};
+ghost use Rattle.std.specs.Prelude.{◌≡◌, ◌≤◌, ◌<◌, ◌+◌, ◌⊎◌, None, Some, true, false, IfSome, IsSome, List, ℕ};
 ghost use Rattle.std.specs.Io.KnownBytes.{Keeps};
+ghost use Rattle.std.specs.List.{AllByRecursion};
 ghost use Rattle.code_file.specs.Faults.{Breaks};
 ghost use Rattle.code_file.specs.Spelling.{Spells};
 ghost use Rattle.code_file.specs.declared.rule.CodeRule.{CodeRule as AnyCodeRule};
@@ -18,11 +19,12 @@ ghost use Rattle.sim_run.specs.RunEnds.{TakesNothing};
 ghost use Rattle.sim_scope.specs.Source.{Source as AnySource};
 ghost use Rattle.sim_driver.specs.AllWords.{AreNoCommand, AskCodeRunWith, AskForNoCode, AskRun, AskSourceRunWith, IsAnswerTo, RunNothing, RunWasCutOff, TellsNamed, limit_of_file, named_file};
 ghost use Rattle.sim_driver.specs.Answer.{Answer, Gives, RunsGenerated};
+ghost use Rattle.sim_driver.specs.CodeAnswer.{IsAnswered};
 ghost use Rattle.sim_driver.specs.Compiling.{Rejected, Runnable, SourceCompiles};
 ghost use Rattle.sim_driver.specs.Output.{Begins};
 ghost use Rattle.sim_driver.specs.OutputAfter.{WrittenAtTheEnd};
 ghost use Rattle.sim_driver.specs.Reading.{TakesAtMost};
-ghost use Rattle.sim_driver.specs.Status.{is_answer};
+ghost use Rattle.sim_driver.specs.Status.{is_answer, is_of_code};
 
 use crate::command::run_command;
 use crate::executing::exec_file;
@@ -41,6 +43,7 @@ pub fn do_words<F: Files, I: Source, O: Sink>(
 ) -> Status
     requires { F.selected files.old ≡ None }
     ensures usage { result ≡ Status.Usage → AreNoCommand (texts words.now) }
+    ensures only_code { AskForNoCode (texts words.now) → is_of_code result ≡ false }
     ensures file_fault { result ≡ Status.FileFault → Rose (F.faults files.old) (F.faults files.new) × Keeps (O.written out.old) (O.written out.new) × IsSome (F.selected files.new) }
     ensures input_fault { result ≡ Status.InputFault → Rose (I.faults input.old) (I.faults input.new) }
     ensures write_fault { result ≡ Status.WriteFault → Rose (O.faults out.old) (O.faults out.new) }
@@ -52,6 +55,8 @@ pub fn do_words<F: Files, I: Source, O: Sink>(
         × (F.content files.new ≡ F.content files.old) × (F.left files.new ≡ F.left files.old) × (F.faults files.new ≡ F.faults files.old) }
     ensures answered { (source given : List ℕ) → TellsNamed (F.content files.old) (texts words.now) source → I.left input.old ≡ Some given → is_answer result ≡ true
         → (answer : Answer) × IsAnswerTo (texts words.now) source given answer }
+    ensures code_answered { (l : AnyLimits) (file given : List ℕ) → AskCodeRunWith (texts words.now) l → TellsNamed (F.content files.old) (texts words.now) file
+        → AllByRecursion (λ b. b < 256) file → I.left input.old ≡ Some given → IsAnswered l file given result (O.written out.old) (O.written out.new) }
     ensures answer { (source given : List ℕ) (answer : Answer) → TellsNamed (F.content files.old) (texts words.now) source → I.left input.old ≡ Some given
         → IsAnswerTo (texts words.now) source given answer → is_answer result ≡ true → Gives answer result (O.written out.old) (O.written out.new) }
     ensures prefix { (source given : List ℕ) (answer : Answer) → TellsNamed (F.content files.old) (texts words.now) source → I.left input.old ≡ Some given

@@ -1,5 +1,5 @@
 // Does what the words ask for, but for the line on the diagnostic output.
-ghost use Rattle.std.specs.Prelude.{◌≡◌, ◌≤◌, ◌<◌, ◌+◌, ◌^◌, ◌-◌, ◌⊎◌, Err, Ok, length, None, Some, true, IfSome, IsSome, OnOk, List, ℕ};
+ghost use Rattle.std.specs.Prelude.{◌≡◌, ◌≤◌, ◌<◌, ◌+◌, ◌^◌, ◌-◌, ◌⊎◌, Err, Ok, length, None, Some, true, false, IfOk, IfSome, IsSome, OnErr, OnOk, List, ℕ};
 ghost use Rattle.std.specs.Io.KnownBytes.{Keeps};
 ghost use Rattle.command_line.specs.Generated.{generated_of};
 ghost use Rattle.command_line.specs.Words.{texts};
@@ -8,15 +8,15 @@ ghost use Rattle.sim_base.specs.declared.numbering.Line.{Line as AnyLine};
 ghost use Rattle.sim_base.specs.declared.rule.Rule.{Rule as AnyRule};
 ghost use Rattle.sim_ports.specs.Faults.{Rose, StopsAt};
 ghost use Rattle.sim_ports.specs.Named.{IsOpen};
-ghost use Rattle.sim_run.specs.RunEnds.{BeforeARead, IsRunnable, TakesNothing};
+ghost use Rattle.sim_run.specs.RunEnds.{BeforeARead, Begins as BeginsRun, IsRunnable, TakesNothing};
 ghost use Rattle.sim_scope.specs.Source.{Source as AnySource, source_of};
 ghost use Rattle.sim_driver.specs.Answer.{Answer, Gives, IsAnswer, IsSourceAnswer, RunsGenerated};
 ghost use Rattle.sim_driver.specs.Compiling.{Rejected, Runnable, SourceCompiles};
 ghost use Rattle.sim_driver.specs.Output.{Begins};
 ghost use Rattle.sim_driver.specs.OutputAfter.{InputAfter, OutputAfter, WritesAtTheEnd, WrittenAtTheEnd};
 ghost use Rattle.sim_driver.specs.Reading.{TakesAtMost};
-ghost use Rattle.sim_driver.specs.SourceMeaning.{BoundMeans, Does, IsCutOff, Meaning, SourceMeans, ending_of as ending_of_run};
-ghost use Rattle.sim_driver.specs.Status.{is_answer};
+ghost use Rattle.sim_driver.specs.SourceMeaning.{BoundMeans, Does, IsCutOff, Meaning, RanCode, SourceMeans, ending_of as ending_of_run};
+ghost use Rattle.sim_driver.specs.Status.{is_answer, is_of_code};
 ghost use Rattle.sim_driver.specs.Words.{AsksRun, AsksRunWith, IsNoCommand, RunsNothing, TellsFile, WasCutOff, file_of};
 
 use crate::coding::{code_file_of, listing_of, write_made};
@@ -46,6 +46,7 @@ pub fn run_command<F: Files, I: Source, O: Sink>(
 ) -> Status
     requires { F.selected files.old ≡ None }
     ensures usage { result ≡ Status.Usage → IsNoCommand (texts words.now) }
+    ensures no_code { is_of_code result ≡ false }
     ensures file_fault { result ≡ Status.FileFault → Rose (F.faults files.old) (F.faults files.new) × Keeps (O.written out.old) (O.written out.new) × IsSome (F.selected files.new) }
     ensures input_fault { result ≡ Status.InputFault → Rose (I.faults input.old) (I.faults input.new) }
     ensures write_fault { result ≡ Status.WriteFault → Rose (O.faults out.old) (O.faults out.new) }
@@ -94,6 +95,7 @@ pub fn run_command<F: Files, I: Source, O: Sink>(
 fn run_generated<O: Sink>(alloc: Global, processes: u32, out: &mut O) -> Status
     requires { processes ≤ 20000 }
     ensures no_usage { result ≡ Status.Usage → ⊥ }
+    ensures no_code { is_of_code result ≡ false }
     ensures no_file_fault { result ≡ Status.FileFault → ⊥ }
     ensures no_input_fault { result ≡ Status.InputFault → ⊥ }
     ensures write_fault { result ≡ Status.WriteFault → Rose (O.faults out.old) (O.faults out.new) }
@@ -126,6 +128,7 @@ fn answer_request<F: Files, I: Source, O: Sink>(
 ) -> Status
     requires { F.selected files.old ≡ None }
     ensures no_usage { result ≡ Status.Usage → ⊥ }
+    ensures no_code { is_of_code result ≡ false }
     ensures file_fault { result ≡ Status.FileFault → Rose (F.faults files.old) (F.faults files.new) × Keeps (O.written out.old) (O.written out.new) × IsSome (F.selected files.new) }
     ensures input_fault { result ≡ Status.InputFault → Rose (I.faults input.old) (I.faults input.new) }
     ensures write_fault { result ≡ Status.WriteFault → Rose (O.faults out.old) (O.faults out.new) }
@@ -170,6 +173,7 @@ fn answer_source<I: Source, O: Sink>(
 ) -> Status
     requires { length source.now < 2 ^ 32 - 1 }
     ensures no_usage { result ≡ Status.Usage → ⊥ }
+    ensures no_code { is_of_code result ≡ false }
     ensures no_file_fault { result ≡ Status.FileFault → ⊥ }
     ensures input_fault { result ≡ Status.InputFault → Rose (I.faults input.old) (I.faults input.new) }
     ensures write_fault { result ≡ Status.WriteFault → Rose (O.faults out.old) (O.faults out.new) }
@@ -280,7 +284,7 @@ fn do_bound<I: Source, O: Sink>(
     }
 }
 
-// Runs a program.
+// Runs a program: it is compiled, and the machine runs its code.
 fn run<I: Source, O: Sink>(
     alloc: Global,
     limits: &Limits,
@@ -289,15 +293,15 @@ fn run<I: Source, O: Sink>(
     out: &mut O,
 ) -> Result<Ending, RunFailure>
     requires { IsRunnable (source_of bound.now) }
-    ensures known { (given : List ℕ) → I.left input.old ≡ Some given → OnOk result ((meaning : Meaning) × BoundMeans Command.Run limits.now (source_of bound.now) given meaning) }
-    ensures does { (given : List ℕ) (meaning : Meaning) → I.left input.old ≡ Some given → BoundMeans Command.Run limits.now (source_of bound.now) given meaning → Does meaning (O.written out.old) (O.written out.new) result }
+    ensures ran { (given : List ℕ) → I.left input.old ≡ Some given → IfOk result (λ ending. RanCode limits.now (source_of bound.now) given ending (O.written out.old) (O.written out.new)) }
+    ensures begins { (given : List ℕ) → I.left input.old ≡ Some given → OnErr result (BeginsRun (source_of bound.now) limits.now given (O.written out.old) (O.written out.new)) }
     ensures cut { (given : List ℕ) → I.left input.old ≡ Some given → result ≡ Err RunFailure.Input → BeforeARead (I.faults input.old) (I.faults input.new) (source_of bound.now) limits.now given (O.written out.old) (O.written out.new) }
     ensures takes { (given : List ℕ) → I.left input.old ≡ Some given → TakesNothing (source_of bound.now) limits.now given → input.new ≡ input.old }
     ensures output { OutputAfter O.written O.faults out.old out.new result }
     ensures input { InputAfter (I.faults input.old) (I.faults input.new) result }
 {
     match compile_and_run(alloc, bound, limits, input, out) {
-        Ok(end) => Ok(ending_of(limits, end)),
+        Ok(ran) => Ok(ending_of(limits, ran.end)),
         Err(NotRun::Memory) => Err(RunFailure::Memory),
         Err(NotRun::Input) => Err(RunFailure::Input),
         Err(NotRun::Output) => Err(RunFailure::Output),

@@ -7,6 +7,7 @@ mod command;
 mod compiling;
 mod executing;
 mod failure;
+pub mod laws;
 mod no_input;
 mod printing;
 mod reading;

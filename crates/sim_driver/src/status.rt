@@ -1,6 +1,6 @@
 // How a command ends, and the line that it writes to the diagnostic output.
-ghost use Rattle.std.specs.Prelude.{◌≡◌, Some};
-ghost use Rattle.sim_driver.specs.Status.{status_number, status_of, status_text};
+ghost use Rattle.std.specs.Prelude.{◌≡◌, Some, false};
+ghost use Rattle.sim_driver.specs.Status.{is_of_code, status_number, status_of, status_text};
 
 use code_file::CodeRule;
 use sim_base::{Line, Rule, RunError};
@@ -84,7 +84,8 @@ pub enum Ending {
 impl Ending {
     /// The status of this ending.
     pub fn status(&self) -> Status
-        ensures { result ≡ status_of self.now }
+        ensures same { result ≡ status_of self.now }
+        ensures no_code { is_of_code result ≡ false }
     {
         match *self {
             Ending::Normal => Status::Normal,

@@ -1,17 +1,20 @@
 // The top call.
-ghost use Rattle.std.specs.Prelude.{◌≡◌, ◌+◌, ◌⊎◌, List, ℕ, None, Some, true, IfSome, IsSome};
+ghost use Rattle.std.specs.Prelude.{◌≡◌, ◌<◌, ◌+◌, ◌⊎◌, List, ℕ, None, Some, true, false, IfSome, IsSome};
 ghost use Rattle.std.specs.Io.KnownBytes.{Appends, Keeps};
+ghost use Rattle.std.specs.List.{AllByRecursion};
 ghost use Rattle.sim_ports.specs.Faults.{Rose, Steady, StopsAt};
 ghost use Rattle.sim_ports.specs.Named.{IsOpen};
 ghost use Rattle.sim_driver.specs.Answer.{Answer, Gives, RunsGenerated};
 ghost use Rattle.sim_run.specs.RunEnds.{TakesNothing};
 ghost use Rattle.sim_scope.specs.Source.{Source as AnySource};
+ghost use Rattle.sim_driver.specs.CodeAnswer.{IsAnswered};
+ghost use Rattle.sim_driver.specs.CompiledAnswer.{WroteExecutable, WroteListing};
 ghost use Rattle.sim_driver.specs.Compiling.{Rejected, Runnable, SourceCompiles};
 ghost use Rattle.sim_driver.specs.Output.{Begins};
 ghost use Rattle.sim_driver.specs.Reading.{TakesAtMost};
 ghost use Rattle.sim_driver.specs.Speaking.{HasItsCause, Says};
-ghost use Rattle.sim_driver.specs.Status.{is_answer, is_told, line_text};
-ghost use Rattle.sim_driver.specs.AllWords.{AreNoCommand, AskCodeRunWith, AskForNoCode, AskRun, AskSourceRunWith, IsAnswerTo, RunNothing, RunWasCutOff, TellsNamed, limit_of_file, named_file};
+ghost use Rattle.sim_driver.specs.Status.{is_answer, is_of_code, is_told, line_text};
+ghost use Rattle.sim_driver.specs.AllWords.{AreNoCommand, AskCodeRunWith, AskForNoCode, AskRun, AskSourceRunWith, AskTo, IsAnswerTo, RunNothing, RunWasCutOff, TellsNamed, limit_of_file, named_file};
 ghost use Rattle.code_file.specs.Faults.{Breaks};
 ghost use Rattle.code_file.specs.Spelling.{Spells};
 ghost use Rattle.code_file.specs.declared.rule.CodeRule.{CodeRule as AnyCodeRule};
@@ -22,10 +25,11 @@ ghost use Rattle.command_line.specs.Words.{texts};
 ghost use Rattle.sim_base.specs.declared.limits.Limits.{Limits as AnyLimits};
 ghost use Rattle.sim_base.specs.declared.numbering.Line.{Line as AnyLine};
 ghost use Rattle.sim_base.specs.declared.rule.Rule.{Rule as AnyRule};
-ghost use Rattle.command_line.specs.declared.words.Command.TheVariants.{Run};
+ghost use Rattle.command_line.specs.declared.words.Command.TheVariants.{Compile, Listing, Run};
 ghost use Rattle.sim_driver.specs.declared.status.Status.{Status as AnyStatus};
 
 use crate::all_words::do_words;
+use crate::laws::what_is_written_runs_as_its_source;
 use crate::speaking::write_status_line;
 use crate::status::Status;
 use sim_ports::{Files, Sink, Source};
@@ -56,6 +60,7 @@ pub fn simula<F: Files, I: Source, O: Sink, D: Sink>(
 
     // The cause of each status that the answer doesn't give.
     ensures usage { result ≡ Status.Usage → AreNoCommand (texts words.now) }
+    ensures only_code { AskForNoCode (texts words.now) → is_of_code result ≡ false }
     ensures file_fault { result ≡ Status.FileFault → Rose (F.faults files.old) (F.faults files.new) × Keeps (O.written out.old) (O.written out.new) × IsSome (F.selected files.new) }
     ensures input_fault { result ≡ Status.InputFault → Rose (I.faults input.old) (I.faults input.new) }
     ensures write_fault { result ≡ Status.WriteFault → Rose (O.faults out.old) (O.faults out.new) ⊎ Rose (D.faults diag.old) (D.faults diag.new) }
@@ -79,6 +84,18 @@ pub fn simula<F: Files, I: Source, O: Sink, D: Sink>(
         → IsAnswerTo (texts words.now) source given answer → is_answer result ≡ true → Gives answer result (O.written out.old) (O.written out.new) }
     ensures prefix { (source given : List ℕ) (answer : Answer) → TellsNamed (F.content files.old) (texts words.now) source → I.left input.old ≡ Some given
         → IsAnswerTo (texts words.now) source given answer → Begins (O.written out.old) (O.written out.new) answer.output }
+
+    // For a run of code there is one answer, whatever the code file and the input are: each code comes to an end, so that want of memory and a fault of the
+    // outside alone keep it from being told.
+    ensures code_answered { (l : AnyLimits) (file given : List ℕ) → AskCodeRunWith (texts words.now) l → TellsNamed (F.content files.old) (texts words.now) file
+        → AllByRecursion (λ b. b < 256) file → I.left input.old ≡ Some given → IsAnswered l file given result (O.written out.old) (O.written out.new) }
+
+    // At a normal end `compile` wrote the spelling of code, and `list` the listing of code, that runs as the source is run, under the same limits and with
+    // the same input; so `exec` answers of what `compile` wrote as `run` answers of the source.
+    ensures compiled { (source given : List ℕ) → AskTo Compile (texts words.now) → TellsNamed (F.content files.old) (texts words.now) source
+        → I.left input.old ≡ Some given → result ≡ Status.Normal → WroteExecutable source (O.written out.old) (O.written out.new) }
+    ensures listed { (source given : List ℕ) → AskTo Listing (texts words.now) → TellsNamed (F.content files.old) (texts words.now) source
+        → I.left input.old ≡ Some given → result ≡ Status.Normal → WroteListing source (O.written out.old) (O.written out.new) }
 
     // The line of the status, whole where its output did not fail. A status that is neither an output fault nor want of
     // memory has its whole line, and no write of it failed.
@@ -117,6 +134,7 @@ pub fn simula<F: Files, I: Source, O: Sink, D: Sink>(
     ensures code_takes { (l : AnyLimits) (file given : List ℕ) (code : CodeOf) → AskCodeRunWith (texts words.now) l → TellsNamed (F.content files.old) (texts words.now) file
         → I.left input.old ≡ Some given → Spells file code → CodeTakesNothing code l given → input.new ≡ input.old }
 {
+    what_is_written_runs_as_its_source();
     let status = do_words(alloc, words, files, input, out);
     write_status_line(alloc, status, diag)
 }

@@ -1,7 +1,5 @@
 mod Weights
-mod Transfers
-mod Lifts
-mod Scheduling
 mod Closing
 mod Operators
 mod Main
+pub mod WorkedEnds

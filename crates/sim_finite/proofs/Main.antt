@@ -11,7 +11,7 @@ use Rattle.sim_meaning.specs.Pending.{Activation, Configuration, Do, EndBlock, E
 use Rattle.sim_meaning.specs.Levels.{is_simulation_text, levels}
 use Rattle.sim_meaning.specs.Texts.{BlockText, PrefixedText, ProcedureText, Text, text}
 use Rattle.sim_finite.specs.Coming.{ComesToAnEnd}
-use Rattle.sim_finite.proofs.Lifts.{Goes, entering_goes, having_goes, none, popping_goes, stops, when_goes}
+use Rattle.code_finite.proofs.Lifts.{Goes, entering_goes, having_goes, none, popping_goes, stops, when_goes}
 use Rattle.sim_finite.proofs.Operators.{begun_ticks, evaluated_falls, leaving_falls, object_ended_falls, op_falls}
 use Rattle.sim_finite.proofs.Weights.{Lower, chain_weight, item_weight, kept_weight, lighter, ticked, weight, work_weight}
 

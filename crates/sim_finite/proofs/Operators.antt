@@ -35,24 +35,24 @@ use Rattle.sim_meaning.specs.Connections.{arm_tried, arms_tried, connected, obje
 use Rattle.sim_meaning.specs.Levels.{class_at, end_line, has_procedure, in_process, is_in, is_process_text, is_simulation_text, levels, linkage_of_text, stands_in, text_at}
 use Rattle.sim_meaning.specs.Objects.{cells_of_levels, filled_in, origins, generated, inner_done, is_member, object_entered, prefix_done, prefixed_entered, putting_reference, with_inner, arrays_given, decided, no_line, process_begun, process_done, words_of_object}
 use Rattle.sim_meaning.specs.Entries.{arrays_among, arrays_by_value, arrays_declared, arrays_of, bounds_of, filled_behind, first_array, further_arrays, segments_of, first_cells, formals_of, words_of_cells}
-use Rattle.sim_meaning.specs.Meaning.{admitted, called, do_op, is_called_so, evaluated, is_place, leaving, procedure_entered, sub_block_entered, value_called, value_given, evaluating, formal_in_hand, is_by_name, passing, parameter_begun}
+use Rattle.sim_meaning.specs.Meaning.{admitted, called, do_op, is_called_so, evaluated, is_place, leaving, procedure_entered, sub_block_entered, value_called, value_given, formal_in_hand, is_by_name, parameter_begun}
 use Rattle.sim_code.specs.Thunks.{locating}
 use Rattle.sim_code.specs.Formals.{each as each_pair}
 use Rattle.sim_meaning.specs.Checks.{agrees, all_fit, all_passed, copied_for, fits, passed}
 use Rattle.sim_meaning.specs.Attributes.{parameter_qualification}
-use Rattle.sim_meaning.specs.Pending.{ActivateOp, Activation, Actual, ActualOf, Address, AgainOp, ArrayOp, AttributeOf, AttributeOp, BackOp, BlockOp, BranchOp, CallOf, CallOp, CallValueOp, Cell, CheckOp, ChooseOp, CloseOp, Configuration, ConnectOp, Connection, CopyOf, CopyOp, DeclareOp, Do, DropOp, Either, ElementOf, ElementOp, ElementsOp, EndEvaluation, EndLevel, EndPrefixed, EndProcessOp, EnterOp, Eval, Exec, Execs, FetchOp, FitsOf, FitsOp, ForPlace, ForValue, Further, GiveOp, Given, Held, IfOp, ImageOf, InnerOp, Instances, Item, JoinOp, Joined, KeepOp, KeptOf, Key, Level, LevelOp, Link, MemberOf, MemberOp, NamedOf, NamedOp, NewOf, NewOp, NoTerm, NotNoneOf, NotNoneOp, ObjectOp, Of, One, OneOp, Op, PastOp, PlaceOf, PrefixedOp, ProcedureValue, ProcessOf, ProcessOp, QuaOf, QuaOp, QualifiedElementOf, QualifiedElementOp, QualifiedPlaceOf, RaiseOp, ReferOp, RemoteCallOf, SelfOp, SetOf, SetOp, ShareOp, SimulationOf, SimulationOp, StandardOf, StandardOp, StepOp, StepTestOp, StoreOp, SwapOp, Target, Term, Terms, TestOp, ToAddress, ToCell, ToNamed, ToPlace, ToReference, ToReferenceAt, ToText, ToTextAt, ToTextOf, TransferOf, TransferOp, Two, TwoOp, NoMeaning, Use, Val, ValueAt, VirtualOp, WhenOp, WhileElementOp, actual_in, array_in, cell, cell_made, cell_set, instance_in, made_in, owner, place_in, plain, procedure_in, put_in, variable_in, OriginOf, OriginOp, Origin, ProcedureOf, ProcedureOp, RemoteProcedureOf, MatchOf, CheckedOf, ParameterOp, ForParameter}
+use Rattle.sim_meaning.specs.Pending.{ActivateOp, Activation, Actual, ActualOf, Address, AgainOp, ArrayOp, AttributeOf, AttributeOp, BackOp, BlockOp, BranchOp, CallOf, CallOp, CallValueOp, Cell, CheckOp, ChooseOp, CloseOp, Configuration, ConnectOp, Connection, CopyOf, CopyOp, DeclareOp, Do, DropOp, Either, ElementOf, ElementOp, ElementsOp, EndLevel, EndPrefixed, EndProcessOp, EnterOp, Eval, Exec, Execs, FetchOp, FitsOf, FitsOp, ForPlace, ForValue, Further, GiveOp, Given, Held, IfOp, ImageOf, InnerOp, Instances, Item, JoinOp, Joined, KeepOp, KeptOf, Key, Level, LevelOp, Link, MemberOf, MemberOp, NamedOf, NamedOp, NewOf, NewOp, NoTerm, NotNoneOf, NotNoneOp, ObjectOp, Of, One, OneOp, Op, PastOp, PlaceOf, PrefixedOp, ProcedureValue, ProcessOf, ProcessOp, QuaOf, QuaOp, QualifiedElementOf, QualifiedElementOp, QualifiedPlaceOf, RaiseOp, ReferOp, RemoteCallOf, SelfOp, SetOf, SetOp, ShareOp, SimulationOf, SimulationOp, StandardOf, StandardOp, StepOp, StepTestOp, StoreOp, SwapOp, Target, Term, Terms, TestOp, ToAddress, ToCell, ToNamed, ToPlace, ToReference, ToReferenceAt, ToText, ToTextAt, ToTextOf, TransferOf, TransferOp, Two, TwoOp, NoMeaning, Use, Val, ValueAt, VirtualOp, WhenOp, WhileElementOp, actual_in, array_in, cell, cell_made, cell_set, instance_in, made_in, owner, place_in, plain, procedure_in, put_in, variable_in, OriginOf, OriginOp, Origin, ProcedureOf, ProcedureOp, RemoteProcedureOf, MatchOf, CheckedOf, ParameterOp, ForParameter}
 use Rattle.sim_meaning.specs.Pending as pending
 use Rattle.sim_meaning.specs.Statements as statement
 use Rattle.sim_meaning.specs.Statements.{assigned, begin_of, compound, elements, entered_at, exec, execs, first_branch, inner_begun, levels_of_instance, looping, prefix_begun, raised, reading, activated, simulation_home}
-use Rattle.sim_meaning.specs.Steps.{count, each, eval, go, put_back, putting, stored, value_at, count_of, parameters}
+use Rattle.sim_meaning.specs.Steps.{count, each, eval, put_back, putting, stored, value_at, count_of, parameters}
 use Rattle.sim_meaning.specs.Texts.{BlockText, ProcedureText, declared_at, kind_named}
 use Rattle.sim_meaning.specs.Virtuals.{match_at}
 use Rattle.sim_meaning.specs.Texts as texts
 use Rattle.sim_finite.proofs.Closing.{close_small, close_passed_small}
-use Rattle.sim_finite.proofs.Lifts.{Goes, assigning_goes, choosing_goes, computing_goes, copying_goes, counting_goes, entering_goes, finding_goes, having_goes, having_knows, integers_goes, joining_goes, keeping_goes, linkage_goes, making_goes, many_goes, matching_goes, none, object_goes, one_goes, performing_goes, plain_goes, popping_goes, qualifying_goes, reference_goes, step_goes, stops, ticking_goes, truth_goes, two_goes, when_goes, copied_goes, suiting_goes}
-use Rattle.sim_finite.proofs.Scheduling.{activation_goes, process_goes, simulation_goes}
-use Rattle.sim_finite.proofs.Transfers.{NotMore, NotMoreIn, transfer_small, given_small}
-use Rattle.sim_finite.proofs.Weights.{Lower, arms_weight, bounds_weight, chain_weight, declarations_weight, elements_weight, expression_weight, kept_weight, levels_weight, lighter, names_weight, op_weight, segments_weight, standings_weight, statements_weight, target_weight, term_weight, terms_weight, ticked, work_weight, expressions_weight}
+use Rattle.code_finite.proofs.Lifts.{Goes, assigning_goes, choosing_goes, computing_goes, copying_goes, counting_goes, entering_goes, finding_goes, having_goes, having_knows, integers_goes, joining_goes, keeping_goes, linkage_goes, making_goes, many_goes, matching_goes, none, object_goes, one_goes, performing_goes, plain_goes, popping_goes, qualifying_goes, reference_goes, step_goes, stops, ticking_goes, truth_goes, two_goes, when_goes, copied_goes, suiting_goes}
+use Rattle.code_finite.proofs.Scheduling.{activation_goes, process_goes, simulation_goes}
+use Rattle.code_finite.proofs.Transfers.{NotMore, NotMoreIn, transfer_small, given_small}
+use Rattle.sim_finite.proofs.Weights.{Lower, activation_weight, arms_weight, bounds_weight, chain_weight, declarations_weight, elements_weight, expression_weight, kept_weight, levels_weight, lighter, names_weight, op_weight, segments_weight, standings_weight, statements_weight, target_weight, term_weight, terms_weight, ticked, work_weight, expressions_weight}
 
 -- ---- worlds with the same ticks
 
@@ -435,7 +435,7 @@ module _ (s : Source) (l : Limits) (o : World) (m : Instances) (i : ℕ) (w : Li
   below_falls p same [] standings less = tt
   below_falls p same (a ∷ below) standings less = lighter same (omega (arith, less))
 
-  moved_falls : (p : World) → p.ticks ≡ o.ticks → (line : ℕ) (r : Result (Components Activation) RunError) → NotMore (work_weight w + chain_weight rest + kept_weight m) r → Falls 1 (computing line r p (λ c. going_below p c.operating (record m { standings = c.standings })))
+  moved_falls : (p : World) → p.ticks ≡ o.ticks → (line : ℕ) (r : Result (Components Activation) RunError) → NotMore activation_weight (work_weight w + chain_weight rest + kept_weight m) r → Falls 1 (computing line r p (λ c. going_below p c.operating (record m { standings = c.standings })))
   unfolding computing
   moved_falls p same line (Ok c) less = below_falls p same c.operating c.standings less
   moved_falls p same line (Err e) less = stops (From 1) _ p
@@ -445,7 +445,7 @@ module _ (s : Source) (l : Limits) (o : World) (m : Instances) (i : ℕ) (w : Li
   transfer_falls vals t line p = by_value p
     where
       by_component : (y : Option (Option ℕ)) → Falls 1 (having y o (λ y. having (transferred owner t (system_head m) (record { operating = record { instance = i; work = w; values = vals } ∷ rest; standings = m.standings }) y) o (λ r. computing line r o (λ c. going_below o c.operating (record m { standings = c.standings })))))
-      by_component y = having_goes (From 1) y o _ (λ y. having_knows (From 1) (transferred owner t (system_head m) _ y) o _ (λ r is. moved_falls o refl line r (subst (NotMoreIn (work_weight w + chain_weight rest + kept_weight m)) is (transfer_small t (system_head m) _ y))))
+      by_component y = having_goes (From 1) y o _ (λ y. having_knows (From 1) (transferred owner t (system_head m) _ y) o _ (λ r is. moved_falls o refl line r (subst (NotMoreIn activation_weight (work_weight w + chain_weight rest + kept_weight m)) is (transfer_small owner activation_weight t (system_head m) _ y))))
 
       by_value : (p : Plain) → Falls 1 (transferring owner t line o (record { instance = i; work = w; values = vals } ∷ rest) m p)
       by_value (MainOf b) = stops (From 1) _ o
@@ -460,7 +460,7 @@ module _ (s : Source) (l : Limits) (o : World) (m : Instances) (i : ℕ) (w : Li
   next_falls : (vals : List Val) (line : ℕ) (p : World) → p.ticks ≡ o.ticks → (x : Simulation) (next : Next) → Falls 1 (going_to owner line p (record { instance = i; work = w; values = vals } ∷ rest) m x next)
   next_falls vals line p same x next.Stay = lighter same (omega arith)
   next_falls vals line p same x (next.Resume n) =
-      having_goes (From 1) (component_of x n.0) p _ (λ y. moved_falls p same line _ (given_small (system_head m) (record { operating = record { instance = i; work = w; values = vals } ∷ rest; standings = m.standings }) x.block y))
+      having_goes (From 1) (component_of x n.0) p _ (λ y. moved_falls p same line _ (given_small owner activation_weight (system_head m) (record { operating = record { instance = i; work = w; values = vals } ∷ rest; standings = m.standings }) x.block y))
 
   decided_falls : (line : ℕ) (p : World) (x : ℕ × Simulation) (r : Result (List Notice) RunError) (vals : List Val) → p.ticks ≡ o.ticks → Falls 1 (decided m i w rest line p x r vals)
   unfolding deciding
@@ -498,7 +498,7 @@ module _ (s : Source) (l : Limits) (o : World) (m : Instances) (i : ℕ) (w : Li
   op_falls FetchOp = popping_goes (From 1) vals o _ (λ v vals. having_goes (From 1) (place_in v) o _ (λ p. having_goes (From 1) (value_at o m p) o _ (λ v. lighter refl (omega arith))))
   op_falls (CopyOp line) = popping_goes (From 1) vals o _ (λ v vals. having_goes (From 1) (array_in v) o _ (λ a. copying_goes (From 1) l line i a o _ (λ n p same. lighter same (omega arith))))
   op_falls (CallOp k n line) = call_falls k n line
-  op_falls (StandardOp name line) = performing_goes (From 1) put_back kept_weight (back_goes (From 1)) _ l line name vals o m _ (λ p n value vals same still. lighter same (omega (arith, still)))
+  op_falls (StandardOp name line) = performing_goes (From 1) put_back (λ m n. kept_weight n ≡ kept_weight m) (λ m. refl) (back_goes (From 1)) _ l line name vals o m _ (λ p n value vals same still. lighter same (omega (arith, still)))
   op_falls (NewOp k n line) = generation_falls k n line
   op_falls (AttributeOp k key class line) = object_goes (From 1) plain line vals o _ (λ j vals. when_goes (From 1) (is_in s m k j) o _ (lighter refl (omega arith)))
   op_falls (ObjectOp k line) = object_goes (From 1) plain line vals o _ (λ j vals. when_goes (From 1) (has_procedure s m k j) o _ (lighter refl (omega arith)))

@@ -1,12 +1,13 @@
 -- How much is pending: no more steps can come between two ticks.
-use Rattle.std.proofs.Common.{◌≡◌, ◌≤◌, ◌<◌, ℕ, ◌+◌, List, [], ◌∷◌, Some}
+use Rattle.std.proofs.Common.{◌≡◌, ◌≤◌, ◌<◌, ℕ, ◌+◌, List, [], ◌∷◌}
 use Rattle.sim_base.specs.declared.limits.Limits.{Limits}
-use Rattle.sim_chains.specs.Components.{DetachedObject, NoObject, Standing}
+use Rattle.sim_chains.specs.Components.{Standing}
 use Rattle.sim_tree.specs.declared.expr.Identifier.{Identifier}
 use Rattle.sim_tree.specs.Syntax.{Also, Arms, Arrayed, Arrays, BoundPair, Declarations, DeclareClass, DeclareProcedure, Element, Expression, Expressions, NoArm, NoDeclaration, NoMore, NoStatement, Statements, Then, Variables, When, With}
 use Rattle.sim_tree.specs.Syntax as syntax
 use Rattle.sim_code.specs.Outcome.{World}
 use Rattle.sim_meaning.specs.Pending.{ActivateOp, Activation, ActualOf, AgainOp, ArrayOp, AttributeOf, AttributeOp, BackOp, BlockOp, BranchOp, CallOf, CallOp, CallValueOp, Cell, CheckOp, ChooseOp, CloseOp, Configuration, ConnectOp, CopyOf, CopyOp, DeclareOp, Do, DropOp, Either, ElementOf, ElementOp, ElementsOp, EndBlock, EndEvaluation, EndLevel, EndObject, EndPrefixed, EndProcedure, EndProcessOp, EndProgram, EnterOp, Eval, Exec, Execs, FetchOp, FitsOf, FitsOp, Further, GiveOp, Given, IfOp, ImageOf, InnerOp, Instances, Item, JoinOp, Joined, KeepOp, KeptOf, Level, LevelOp, MemberOf, MemberOp, NamedOf, NamedOp, NewOf, NewOp, NoTerm, NotNoneOf, NotNoneOp, ObjectOp, One, OneOp, Op, PastOp, PlaceOf, PrefixedOp, ProcessOf, ProcessOp, QuaOf, QuaOp, QualifiedElementOf, QualifiedElementOp, QualifiedPlaceOf, RaiseOp, ReferOp, RemoteCallOf, SelfOp, SetOf, SetOp, ShareOp, SimulationOf, SimulationOp, StandardOf, StandardOp, StepOp, StepTestOp, StoreOp, SwapOp, Target, Term, Terms, TestOp, ToAddress, ToCell, ToNamed, ToPlace, ToReference, ToReferenceAt, ToText, ToTextAt, ToTextOf, TransferOf, TransferOp, Two, TwoOp, NoMeaning, ValueAt, VirtualOp, WhenOp, WhileElementOp, OriginOf, OriginOp, ProcedureOf, ProcedureOp, RemoteProcedureOf, MatchOf, CheckedOf, ParameterOp}
+use Rattle.code_finite.proofs.Transfers as each
 
 -- as many steps as an expression takes at most, once it is closed
 abbrev mutual
@@ -206,19 +207,14 @@ abbrev pub work_weight : List Item → ℕ
 work_weight [] = 0
 work_weight (x ∷ w) = item_weight x + work_weight w
 
-abbrev pub chain_weight : List Activation → ℕ
-chain_weight [] = 0
-chain_weight (a ∷ rest) = work_weight a.work + chain_weight rest
+abbrev pub activation_weight : Activation → ℕ
+activation_weight a = work_weight a.work
 
--- the chain that an instance keeps
-abbrev pub standing_weight : Standing Activation → ℕ
-standing_weight (NoObject (Some main)) = chain_weight main
-standing_weight (DetachedObject chain) = chain_weight chain
-standing_weight _ = 0
+abbrev pub chain_weight : List Activation → ℕ
+chain_weight chain = each.chain_weight activation_weight chain
 
 abbrev pub standings_weight : List (Standing Activation) → ℕ
-standings_weight [] = 0
-standings_weight (x ∷ xs) = standing_weight x + standings_weight xs
+standings_weight standings = each.standings_weight activation_weight standings
 
 abbrev pub kept_weight : Instances → ℕ
 kept_weight m = standings_weight m.standings

@@ -66,7 +66,7 @@ dropping false w = w
 
 -- ---- assignments
 
--- The left sides are found from left to right: what each is, and its address or its text, if it has one. None where a form is not built.
+-- The left sides are found from left to right: what each is, and its address or its text, if it has one. None where one is no place.
 pub record Lefts : Type 0 where
   pub work : List Item
   pub targets : List Target

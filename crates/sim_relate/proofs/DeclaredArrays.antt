@@ -69,8 +69,8 @@ module _ (s : Source) (code : CodeOf) (agrees : Agrees s) (m : Instances) (fs : 
   makes_at : (w : List Item) (kind : TypeKind) (n : ℕ) (xs : List Identifier) (p q : ℕ) (ks : List Kind) → ks ≡ anys (2 * n) [] → MakesAt s code (site_at t b u) kind n xs p q → Work w q [] → Work (arrays_of s inst kind n xs w) p ks
   makes_at w kind n [] p q ks e a k = absurd a
   makes_at w kind n (x ∷ xs) p q ks e a k =
-      pends s code m fs Below inst t b u low (first_array s inst (declared_at s x.token.0) xs w) (ArrayOp kind n (line_at s x.token.0)) p a.0 ks (Any ∷ []) (record { is = a.3; left = []; fits = a.2; «in» = e; out = refl })
-      (first_at w (declared_at s x.token.0) xs a.0 a.1 q a.4 a.5 k)
+      pends s code m fs Below inst t b u low (first_array s inst (declared_at s x.token.0) xs w) (ArrayOp kind n (line_at s x.token.0)) p a.0 ks (Any ∷ []) (record { is = a.4; some = a.2; left = []; fits = a.3; «in» = e; out = refl })
+      (first_at w (declared_at s x.token.0) xs a.0 a.1 q a.5 a.6 k)
 
   bounds_at : (w : List Item) (xs : List BoundPair) (End : ℕ → ℕ → Type 0) (p q : ℕ) (ks : List Kind) → BoundsAt s code (site_at t b u) (length ks) xs End p q → ((y : ℕ) → End y q → Work w y (bounded xs ks)) → Work (bounds_of s m inst xs w) p ks
   bounds_at w [] End p q ks a f = f p a

@@ -431,6 +431,10 @@ module _ (s : Source) (code : CodeOf) (compiled : Compiled s code) (l : Limits) 
   unfolding machine.index
   call_row n r go h = alike_found Configuration Machine Related ℕ (number (pos n)) n o r go refl h
 
+  some_row : (n : ℕ) (r : Run Configuration) (q : Run Machine) → 0 < n → Alike Related r q → Alike Related r (when (nat_lt 0 n) o q)
+  unfolding when
+  some_row n r q some h = let less : nat_lt 0 n ≡ true = grind (arith, some) in chosen (λ z. Alike Related r z) (nat_lt 0 n) q (no_rule o) less h
+
   pub same_hand : (v : Val) (x : Value) → HandAt s code m Any v x → plain v ≡ machine.plain x
   same_hand _ _ plain_at = refl
   same_hand _ _ link_at = refl
@@ -471,5 +475,6 @@ module _ (s : Source) (code : CodeOf) (compiled : Compiled s code) (l : Limits) 
       at_row s code l o fs top below _ (i.Array (element_number kind) (pos n)) line q a.is
       (alike_found Configuration Machine Related TypeKind (rows.element_kind (element_number kind)) kind o _ _ (element_kind_is kind)
       (call_row n _ _
+      (some_row n _ _ a.some
       (hand_integers Configuration Machine Related Val Value (HandAt s code m) plain machine.plain same_hand (2 * n) a.left [] vals stack o _ _ (kinds_as s code a.«in» here.values) (λ bounds vals2 stack2 h.
-      alike_making Configuration Machine Related l line inst kind (pairs bounds) o _ _ (λ array p. array_pushed a.left vals2 stack2 p array h a.fits a.out (a.is).on)))))
+      alike_making Configuration Machine Related l line inst kind (pairs bounds) o _ _ (λ array p. array_pushed a.left vals2 stack2 p array h a.fits a.out (a.is).on))))))

@@ -61,6 +61,9 @@ outer = record { text = 0; room = 6; temps = 2; used = 5; size = 6; thunk = None
 abbrev inner : Site
 inner = record { text = 1; room = 6; temps = 2; used = 5; size = 2; thunk = None }
 
+lt_0_1 : 0 < 1
+lt_0_1 = omega arith
+
 lt_0_2 : 0 < 2
 lt_0_2 = omega arith
 
@@ -125,7 +128,7 @@ program_stands = record { heads = record { is_kind = refl; level = refl; cells =
 
 block_stands : Has 1 (text sub_block 1)
 unfolding is_process_itself own_match by_name is_placed digits element_place making_array copying_array keeping_array finding_element giving_back handed_over stopping no_rule ticking taking entering having when computing choosing popping pop_many pop_plain pop_truth pop_integers pop_operands pop_text answering applying_one applying_two testing_step performing at_level kept_on pushing index level_of_machine cell_at jumping block_at own_block leaving with_result putting is_text home_of first_cells leaving_of_meaning constants_of text_constants putting_of_steps text is_class_free declared_at constant_of calculate compare compare_as_texts connect same_objects same_texts two_of one_of step_test take_integer take_character take_text take_nothing row_of standard_effect default_mode mode_allowed marked type_named result_named mode_named first_of_procedure first_of_class variable_marks array_marks parameter_marks moded_marks specified_marks headed_marks procedure_marks class_marks virtual_name_marks program_marks inner_marks declaring of_segment of_mode_part of_specification of_specifier of_virtual of_heading declared_by declarations_of run_of_runs lookup shown_of_scopes encloser searched block_at_of_scopes declaration_from binding entry_of formals_of formal_of result_of source_of denoted type_at line_at level_of block_of block_around standard_name text_attribute sysin_attribute sysout_attribute signature is_real_function is_random_drawing is_file_or_layout is_environment_name undeclared program_events of_statement of_branch of_arm of_block of_whole of_class_body of_declaration block_number slot_of accessible protects is_kind some_around_of some_around base brought_by level_shows shown_of is_detach ends_search outward virtual_of represented standard_at qualified_marks qualified_result connection_at own_attribute transfer_at levels_of levels is_in is_of has_procedure belongs class_at qualification stream_of is_variable is_attribute own_result result_meant standard_texts text_constant found_at shows_detach if_found found_in is_passed_over class_formals_of class_formals class_formal some_level_of has_level holds_class has_classes has_standard is_simulation_block is_for_prefixing simulation_level_of class_block is_in_chain on_one_chain shared_level_of shared_class names_hidden protector_of protector hides opens is_open fine wrong no_target targets assigned_to call_assigned target sign_agrees with_left lefts compared assigned precedes found is_connected prefix_of frame_text hidden_in block_in_front class_number
-block_stands = record { heads = record { is_kind = refl; level = refl; cells = refl; class_free = refl; gives = refl; formals = refl; temps = []; types = refl; counted = refl; roomy = le_0_6 }; body = record { there = lt_35_62; stop = 61; body = (43, (43, (39, (36, 37, (refl, record { load = push sub_block_apart inner 0 (i.Load (pos 1) (pos 0)) 0 35 lt_0_6 refl; inside = further refl itself; within = lt_0_2 }), push sub_block_apart inner 1 (i.Int (pos 3)) 0 36 lt_1_6 refl, (38, 39, lt_0_6, record { at = refl; on = refl }, (lt_0_2, refl, ins sub_block_apart (i.Store (pos 2) (pos 0)) 0 38 refl), refl)), (43, (40, 41, push sub_block_apart inner 0 (i.Int (pos 1)) 0 39 lt_0_6 refl, (refl, record { load = push sub_block_apart inner 1 (i.Load (pos 1) (pos 1)) 0 40 lt_1_6 refl; inside = further refl itself; within = lt_1_2 }), (42, 43, lt_0_6, record { at = refl; on = refl }, (lt_1_2, refl, ins sub_block_apart (i.Store (pos 2) (pos 1)) 0 42 refl), refl)), refl)), refl), (54, (44, ins sub_block_apart (i.Tick) 0 43 refl, (47, record { x = 45; y = 46; array = record { load = push sub_block_apart inner 0 (i.Load (pos 2) (pos 0)) 0 44 lt_0_6 refl; inside = itself; within = lt_0_2 }; subscripts = (46, push sub_block_apart inner 1 (i.Int (pos 3)) 0 45 lt_1_6 refl, refl); found = record { at = refl; on = refl } }, (53, (51, 52, (refl, (50, record { x = 48; y = 49; array = record { load = push sub_block_apart inner 1 (i.Load (pos 2) (pos 1)) 0 47 lt_1_6 refl; inside = itself; within = lt_1_2 }; subscripts = (49, push sub_block_apart inner 2 (i.Int (pos 2)) 0 48 lt_2_6 refl, refl); found = record { at = refl; on = refl } }, ins sub_block_apart (i.Fetch) 0 50 refl)), push sub_block_apart inner 2 (i.Int (pos 5)) 0 51 lt_2_6 refl, record { at = refl; on = refl }), ins sub_block_apart (i.Put) 0 53 refl))), (61, (55, 61, ins sub_block_apart (i.Tick) 0 54 refl, (refl, (60, (59, (refl, (58, record { x = 56; y = 57; array = record { load = push sub_block_apart inner 0 (i.Load (pos 2) (pos 0)) 0 55 lt_0_6 refl; inside = itself; within = lt_0_2 }; subscripts = (57, push sub_block_apart inner 1 (i.Int (pos 3)) 0 56 lt_1_6 refl, refl); found = record { at = refl; on = refl } }, ins sub_block_apart (i.Fetch) 0 58 refl)), (60, push sub_block_apart inner 1 (i.Int (pos 3)) 0 59 lt_1_6 refl, refl)), record { as_many = refl; number = 40; numbered = refl; is = record { at = refl; on = refl }; fits = λ e. absurd (cc) })), refl), refl))); last = 62; ends = ins sub_block_apart (i.Leave) 0 61 refl } }
+block_stands = record { heads = record { is_kind = refl; level = refl; cells = refl; class_free = refl; gives = refl; formals = refl; temps = []; types = refl; counted = refl; roomy = le_0_6 }; body = record { there = lt_35_62; stop = 61; body = (43, (43, (39, (36, 37, (refl, record { load = push sub_block_apart inner 0 (i.Load (pos 1) (pos 0)) 0 35 lt_0_6 refl; inside = further refl itself; within = lt_0_2 }), push sub_block_apart inner 1 (i.Int (pos 3)) 0 36 lt_1_6 refl, (38, 39, lt_0_1, lt_0_6, record { at = refl; on = refl }, (lt_0_2, refl, ins sub_block_apart (i.Store (pos 2) (pos 0)) 0 38 refl), refl)), (43, (40, 41, push sub_block_apart inner 0 (i.Int (pos 1)) 0 39 lt_0_6 refl, (refl, record { load = push sub_block_apart inner 1 (i.Load (pos 1) (pos 1)) 0 40 lt_1_6 refl; inside = further refl itself; within = lt_1_2 }), (42, 43, lt_0_1, lt_0_6, record { at = refl; on = refl }, (lt_1_2, refl, ins sub_block_apart (i.Store (pos 2) (pos 1)) 0 42 refl), refl)), refl)), refl), (54, (44, ins sub_block_apart (i.Tick) 0 43 refl, (47, record { x = 45; y = 46; array = record { load = push sub_block_apart inner 0 (i.Load (pos 2) (pos 0)) 0 44 lt_0_6 refl; inside = itself; within = lt_0_2 }; subscripts = (46, push sub_block_apart inner 1 (i.Int (pos 3)) 0 45 lt_1_6 refl, refl); found = record { at = refl; on = refl } }, (53, (51, 52, (refl, (50, record { x = 48; y = 49; array = record { load = push sub_block_apart inner 1 (i.Load (pos 2) (pos 1)) 0 47 lt_1_6 refl; inside = itself; within = lt_1_2 }; subscripts = (49, push sub_block_apart inner 2 (i.Int (pos 2)) 0 48 lt_2_6 refl, refl); found = record { at = refl; on = refl } }, ins sub_block_apart (i.Fetch) 0 50 refl)), push sub_block_apart inner 2 (i.Int (pos 5)) 0 51 lt_2_6 refl, record { at = refl; on = refl }), ins sub_block_apart (i.Put) 0 53 refl))), (61, (55, 61, ins sub_block_apart (i.Tick) 0 54 refl, (refl, (60, (59, (refl, (58, record { x = 56; y = 57; array = record { load = push sub_block_apart inner 0 (i.Load (pos 2) (pos 0)) 0 55 lt_0_6 refl; inside = itself; within = lt_0_2 }; subscripts = (57, push sub_block_apart inner 1 (i.Int (pos 3)) 0 56 lt_1_6 refl, refl); found = record { at = refl; on = refl } }, ins sub_block_apart (i.Fetch) 0 58 refl)), (60, push sub_block_apart inner 1 (i.Int (pos 3)) 0 59 lt_1_6 refl, refl)), record { as_many = refl; number = 40; numbered = refl; is = record { at = refl; on = refl }; fits = λ e. absurd (cc) })), refl), refl))); last = 62; ends = ins sub_block_apart (i.Leave) 0 61 refl } }
 
 no_more : (k : ℕ) → Has (suc (suc k)) (text sub_block (suc (suc k)))
 unfolding is_process_itself own_match by_name is_placed digits element_place making_array copying_array keeping_array finding_element giving_back handed_over stopping no_rule ticking taking entering having when computing choosing popping pop_many pop_plain pop_truth pop_integers pop_operands pop_text answering applying_one applying_two testing_step performing at_level kept_on pushing index level_of_machine cell_at jumping block_at own_block leaving with_result putting is_text home_of first_cells leaving_of_meaning constants_of text_constants putting_of_steps text is_class_free declared_at constant_of calculate compare compare_as_texts connect same_objects same_texts two_of one_of step_test take_integer take_character take_text take_nothing row_of standard_effect default_mode mode_allowed marked type_named result_named mode_named first_of_procedure first_of_class variable_marks array_marks parameter_marks moded_marks specified_marks headed_marks procedure_marks class_marks virtual_name_marks program_marks inner_marks declaring of_segment of_mode_part of_specification of_specifier of_virtual of_heading declared_by declarations_of run_of_runs lookup shown_of_scopes encloser searched block_at_of_scopes declaration_from binding entry_of formals_of formal_of result_of source_of denoted type_at line_at level_of block_of block_around standard_name text_attribute sysin_attribute sysout_attribute signature is_real_function is_random_drawing is_file_or_layout is_environment_name undeclared program_events of_statement of_branch of_arm of_block of_whole of_class_body of_declaration block_number slot_of accessible protects is_kind some_around_of some_around base brought_by level_shows shown_of is_detach ends_search outward virtual_of represented standard_at qualified_marks qualified_result connection_at own_attribute transfer_at levels_of levels is_in is_of has_procedure belongs class_at qualification stream_of is_variable is_attribute own_result result_meant standard_texts text_constant found_at shows_detach if_found found_in is_passed_over class_formals_of class_formals class_formal some_level_of has_level holds_class has_classes has_standard is_simulation_block is_for_prefixing simulation_level_of class_block is_in_chain on_one_chain shared_level_of shared_class names_hidden protector_of protector hides opens is_open fine wrong no_target targets assigned_to call_assigned target sign_agrees with_left lefts compared assigned precedes found is_connected prefix_of frame_text hidden_in block_in_front class_number
@@ -211,9 +214,6 @@ no_class (suc zero) k e = cc
 no_class (suc (suc zero)) k e = cc
 no_class (suc (suc (suc zero))) k e = cc
 no_class (suc (suc (suc (suc n)))) k e = cc
-
-lt_0_1 : 0 < 1
-lt_0_1 = omega arith
 
 nested : (t u : ℕ) → encloser sub_block.tables t ≡ Some u → u < t
 nested zero u e = absurd (around_none u e)

@@ -126,7 +126,7 @@ with_kind g (Some k) ks = k ∷ ks
 abbrev pub leaving : Source → Term → List Kind → List Kind
 leaving s t ks = with_kind (gives s t) (place_kind s t) ks
 
--- of what is not built nothing is known
+-- of what has no meaning nothing is known
 abbrev pub LeavesIs : Source → Term → (before behind : List Kind) → Type 0
 LeavesIs s NoMeaning before behind = ⊤
 LeavesIs s t before behind = behind ≡ leaving s t before

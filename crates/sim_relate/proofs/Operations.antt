@@ -271,6 +271,7 @@ module _ (s : Source) (code : CodeOf) where
 
   pub record ArrayIs (site : Site) (kind : TypeKind) (dimensions line p q : ℕ) (before behind : List Kind) : Type 0 where
     pub is : At code (i.Array (element_number kind) (pos dimensions)) line p q
+    pub some : 0 < dimensions
     pub left : List Kind
     pub fits : length left < site.room
     pub «in» : before ≡ anys (2 * dimensions) left

@@ -1,5 +1,5 @@
 -- What the machine's run of compiled code says of the program.
-use Rattle.std.proofs.Common.{◌≡◌, ◌∙◌, ℕ, suc, List, Option, Some, None, Result, Ok, Err, IfOk, length, take, refl, sym, ap, subst}
+use Rattle.std.proofs.Common.{◌≡◌, ◌∙◌, ℕ, suc, List, Option, Some, None, Result, Err, length, take, refl, sym, ap, subst}
 use Rattle.std.proofs.Math.Seq.{take-append_seam}
 use Rattle.std.specs.Io.KnownBytes.{Appends}
 use Rattle.sim_base.specs.declared.limits.Limits.{Limits}
@@ -124,15 +124,9 @@ was_cut grows s code same faults now l input old new cut = (
   begins_end s code same l input grows old new cut.steps (adds_all old new (written (mrun code l input cut.steps)) (cut_written faults now code l input old new cut)),
 )
 
--- ---- by the result
-
-pub ran_of : {E : Type 0} (s : Source) (code : CodeOf) → SameRuns s code → (l : Limits) (input : List ℕ) (old new : Option (List ℕ)) (r : Result RunEnd E)
-    → IfOk r (λ e. CodeRan code l input e old new) → IfOk r (λ e. Ran s l input e old new)
-ran_of s code same l input old new (Ok e) h = has_ended s code same l input e old new h
-ran_of s code same l input old new (Err e) h = tt
-
-pub broken_of : OutputGrows → (s : Source) (code : CodeOf) → SameRuns s code → (faults now : ℕ) (l : Limits) (input : List ℕ) (old new : Option (List ℕ)) (r : Result RunEnd RunFailure) → CodeBroken faults now code l input old new r → Broken faults now s l input old new r
-broken_of grows s code same faults now l input old new (Ok e) h = tt
-broken_of grows s code same faults now l input old new (Err failure.Memory) h = was_broken grows s code same l input old new h
-broken_of grows s code same faults now l input old new (Err failure.Input) h = was_cut grows s code same faults now l input old new h
-broken_of grows s code same faults now l input old new (Err failure.Output) h = was_broken grows s code same l input old new h
+-- what is known of the code's run where it was broken off is so of the program's
+pub broken_of : {A : Type 0} → OutputGrows → (s : Source) (code : CodeOf) → SameRuns s code → (faults now : ℕ) (l : Limits) (input : List ℕ) (old new : Option (List ℕ)) (r : Result A RunFailure) (e : RunFailure) → r ≡ Err e → CodeBroken faults now code l input old new (Err e)
+    → Broken faults now s l input old new r
+broken_of grows s code same faults now l input old new r failure.Memory is h = rw is (was_broken grows s code same l input old new h)
+broken_of grows s code same faults now l input old new r failure.Input is h = rw is (was_cut grows s code same faults now l input old new h)
+broken_of grows s code same faults now l input old new r failure.Output is h = rw is (was_broken grows s code same l input old new h)

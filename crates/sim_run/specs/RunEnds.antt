@@ -59,7 +59,7 @@ pub record Ran (s : Source) (l : Limits) (input : List ℕ) (end : RunEnd) (old 
   pub ends : RunEnds s l input end output
   pub writes : Appends old new output
 
--- the same of code
+-- The same of code, by the machine's table.
 pub record CodeRan (code : CodeOf) (l : Limits) (input : List ℕ) (end : RunEnd) (old new : Option (List ℕ)) : Type 0 where
   pub steps : ℕ
   pub world : World
@@ -93,8 +93,8 @@ pub record BeforeARead (faults faults_now : ℕ) (s : Source) (l : Limits) (inpu
 
 -- What is known of a run that was broken off, with the counts of faults of the input before and after: where the input failed, all is written
 -- that the run had written before a step that takes something of it; else what was written begins its output.
-abbrev pub Broken : (faults faults_now : ℕ) → Source → Limits → (input : List ℕ) → (old new : Option (List ℕ)) → Result RunEnd RunFailure → Type 0
-Broken faults faults_now s l input old new (Ok end) = ⊤
+abbrev pub Broken : {A : Type 0} → (faults faults_now : ℕ) → Source → Limits → (input : List ℕ) → (old new : Option (List ℕ)) → Result A RunFailure → Type 0
+Broken faults faults_now s l input old new (Ok ran) = ⊤
 Broken faults faults_now s l input old new (Err failure.Input) = BeforeARead faults faults_now s l input old new × Begins s l input old new
 Broken faults faults_now s l input old new (Err _) = Begins s l input old new
 
@@ -105,11 +105,11 @@ CodeBroken faults faults_now code l input old new (Err failure.Input) = WasCut f
 CodeBroken faults faults_now code l input old new (Err _) = WasBroken code l (opening code l input) old new
 
 -- It failed by the output where a write failed, after which nothing was written. Else no write failed.
-abbrev pub OutputAfter : {S : Type 0} → (S → Option (List ℕ)) → (S → ℕ) → S → S → Result RunEnd RunFailure → Type 0
+abbrev pub OutputAfter : {S A : Type 0} → (S → Option (List ℕ)) → (S → ℕ) → S → S → Result A RunFailure → Type 0
 OutputAfter written faults old new (Err failure.Output) = StopsAt written faults old new
 OutputAfter written faults old new _ = faults new ≡ faults old
 
 -- It failed by the input where a read failed, and only there.
-abbrev pub InputAfter : (old new : ℕ) → Result RunEnd RunFailure → Type 0
+abbrev pub InputAfter : {A : Type 0} → (old new : ℕ) → Result A RunFailure → Type 0
 InputAfter old new (Err failure.Input) = (old ≤ new) × Rose old new
 InputAfter old new _ = new ≡ old

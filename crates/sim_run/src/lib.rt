@@ -3,4 +3,4 @@
 
 mod running;
 
-pub use running::{RunEnd, RunFailure, compile_and_run};
+pub use running::{ProgramRun, RunEnd, RunFailure, compile_and_run};

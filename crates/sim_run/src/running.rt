@@ -1,7 +1,8 @@
 //! A program compiled and run.
 ghost use Rattle.std.specs.Prelude.{◌≡◌, ℕ, List, IfOk, Some};
-ghost use Rattle.sim_code.specs.Running.{AllRun};
 ghost use Rattle.sim_scope.specs.Source.{source_of};
+ghost use Rattle.codegen.specs.Compiled.{Compiled};
+ghost use Rattle.sim_relate.specs.SameRuns.{SameRuns};
 ghost use Rattle.object_machine.specs.Taking.{TakesNothing as CodeTakesNothing};
 ghost use Rattle.sim_run.specs.RunEnds.{Broken, CodeBroken, CodeRan, HasEnd, InputAfter, IsRuled, IsRunnable, OutputAfter, Ran, TakesNothing};
 
@@ -45,6 +46,15 @@ pub enum RunEnd {
     },
 }
 
+/// A program that was run to its end.
+#[derive(Drop)]
+pub struct ProgramRun {
+    /// The code that ran.
+    pub code: Code,
+    /// How it ended.
+    pub end: RunEnd,
+}
+
 /// Why a program did not run to an end of its own.
 #[derive(Clone, Copy, Debug, PartialEq, Eq, Error)]
 pub enum RunFailure {
@@ -59,17 +69,24 @@ pub enum RunFailure {
     Output,
 }
 
-/// Compiles a program that can be run and runs its code. The answer says how it ended by its meaning, for the bytes that the input has
-/// left.
+/// Compiles a program that can be run and runs its code on the machine. The answer has the code that ran, and how it ended for the bytes
+/// that the input has left.
 pub fn compile_and_run<I: Source, O: Sink>(
     alloc: Global,
     bound: &Bound,
     limits: &Limits,
     input: &mut I,
     out: &mut O,
-) -> Result<RunEnd, RunFailure>
+) -> Result<ProgramRun, RunFailure>
     requires { IsRunnable (source_of bound.now) }
-    ensures ran { (bytes : List ℕ) → I.left input.old ≡ Some bytes → IfOk result (λ end. Ran (source_of bound.now) limits.now bytes end (O.written out.old) (O.written out.new)) }
+
+    // The code stands for the program, and shows what that shows, under whatever limits and with whatever input.
+    ensures stands { IfOk result (λ ran. Compiled (source_of bound.now) ran.code) }
+    ensures shows { IfOk result (λ ran. SameRuns (source_of bound.now) ran.code) }
+
+    // The end and the output are those of the code's run by the machine's table, and of the program's by its meaning.
+    ensures code_ran { (bytes : List ℕ) → I.left input.old ≡ Some bytes → IfOk result (λ ran. CodeRan ran.code limits.now bytes ran.end (O.written out.old) (O.written out.new)) }
+    ensures ran { (bytes : List ℕ) → I.left input.old ≡ Some bytes → IfOk result (λ ran. Ran (source_of bound.now) limits.now bytes ran.end (O.written out.old) (O.written out.new)) }
     ensures ends { (bytes : List ℕ) → HasEnd (source_of bound.now) limits.now bytes }
     ensures broken { (bytes : List ℕ) → I.left input.old ≡ Some bytes → Broken (I.faults input.old) (I.faults input.new) (source_of bound.now) limits.now bytes (O.written out.old) (O.written out.new) result }
     ensures output { OutputAfter O.written O.faults out.old out.new result }
@@ -83,12 +100,15 @@ pub fn compile_and_run<I: Source, O: Sink>(
     every_run_ends();
     output_grows();
     match compile(alloc, bound) {
-        Ok(code) => run_code(alloc, &code, limits, input, out),
+        Ok(code) => {
+            let end = run_code(alloc, &code, limits, input, out)?;
+            Ok(ProgramRun { code, end })
+        }
         Err(_) => Err(RunFailure::Memory),
     }
 }
 
-// Runs code, each instruction of which the machine does.
+// Runs code that never comes to where the table has no rule.
 fn run_code<I: Source, O: Sink>(
     alloc: Global,
     code: &Code,
@@ -96,8 +116,7 @@ fn run_code<I: Source, O: Sink>(
     input: &mut I,
     out: &mut O,
 ) -> Result<RunEnd, RunFailure>
-    requires all { AllRun code.now.instrs }
-    requires ruled { IsRuled code.now limits.now }
+    requires { IsRuled code.now limits.now }
     ensures ran { (bytes : List ℕ) → I.left input.old ≡ Some bytes → IfOk result (λ end. CodeRan code.now limits.now bytes end (O.written out.old) (O.written out.new)) }
     ensures broken { (bytes : List ℕ) → I.left input.old ≡ Some bytes → CodeBroken (I.faults input.old) (I.faults input.new) code.now limits.now bytes (O.written out.old) (O.written out.new) result }
     ensures output { OutputAfter O.written O.faults out.old out.new result }

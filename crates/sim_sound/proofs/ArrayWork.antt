@@ -42,7 +42,7 @@ named_are s h (x ∷ xs) more a f d among = by_option (λ z. named_are s h xs mo
 
 segments_are : (s : Source) (h : Holds) (from : Rattle.sim_sound.specs.Held.Place) (as' : List Arrayed) (more : List DeclNo) → SegmentsAre s from h as' → ((d : DeclNo) → Among d more → EntryIsArray s d) → (d : DeclNo) → Among d (arrays_in_segments s as' more) → EntryIsArray s d
 segments_are s h from [] more a f d among = f d among
-segments_are s h from (p ∷ others) more a f d among = named_are s h p.names (arrays_in_segments s others more) a.2 (λ c z. segments_are s h from others more a.3 f c z) d among
+segments_are s h from (p ∷ others) more a f d among = named_are s h p.names (arrays_in_segments s others more) a.3 (λ c z. segments_are s h from others more a.4 f c z) d among
 
 pub arrays_are : (s : Source) (from : Rattle.sim_sound.specs.Held.Place) (ds : Declarations) → ArraysTyped s from ds → (d : DeclNo) → Among d (arrays_of_block s ds) → EntryIsArray s d
 arrays_are s from NoDeclaration a d among = elim among [ ]
@@ -159,8 +159,8 @@ module _ (s : Source) (ok : Typed s) (o : AllArrays) (m : Instances) (j t k : �
   segments_work kd h of (p ∷ others) mine more w a apart all z =
       let tail = arrays_in_segments s others more in
       bounds_work p.bounds (arrays_named s p.names tail) (arrays_of s j kd (length p.bounds) p.names (segments_of s m j kd others w)) [] a.0
-      (arrays_work kd h of (length p.bounds) p.names (arrays_in_segments s others mine) tail (segments_of s m j kd others w) a.1 a.2 apart all
-      (segments_work kd h of others mine more w a.3 (named_apart p.names tail apart) (named_all p.names (arrays_in_segments s others mine) all) z))
+      (arrays_work kd h of (length p.bounds) p.names (arrays_in_segments s others mine) tail (segments_of s m j kd others w) a.2 a.3 apart all
+      (segments_work kd h of others mine more w a.4 (named_apart p.names tail apart) (named_all p.names (arrays_in_segments s others mine) all) z))
 
   segments_apart : (as' : List Arrayed) (more : List DeclNo) → Distinct (arrays_in_segments s as' more) → Distinct more
   segments_apart [] more a = a

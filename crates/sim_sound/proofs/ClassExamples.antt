@@ -114,7 +114,7 @@ c_class = record {
   not_by_name = λ d k a e. none_named access_through_none d k (numbers_of access_through_none 2) (tt, (tt, tt)) a e;
   no_procedure = λ d r a e. no_procedures access_through_none d r (numbers_of access_through_none 2) (tt, (tt, tt)) a e;
   constants = c_constants;
-  arrays = (Simply kind.Integer, refl, ((refl, refl, tt), tt, (record { declaration = number 2; at = refl; element = sim_type.Integer; dimensions = 1; is = refl; holds = refl }, tt), tt), tt);
+  arrays = (Simply kind.Integer, refl, ((refl, refl, tt), tt, tt, (record { declaration = number 2; at = refl; element = sim_type.Integer; dimensions = 1; is = refl; holds = refl }, tt), tt), tt);
   distinct = ((λ a. none_among (number 2) a), tt);
   made = c_arrays;
   own = c_own;

@@ -195,8 +195,9 @@ sub_inner = record {
     (
       ((refl, from_around refl (record { found = 0; around = itself; instance = refl; level = refl })), refl, tt),
       tt,
+      tt,
       (record { declaration = number 2; at = refl; element = sim_type.Integer; dimensions = 1; is = refl; holds = refl }, tt),
-      ((refl, (refl, from_around refl (record { found = 0; around = itself; instance = refl; level = refl })), tt), tt, (record { declaration = number 3; at = refl; element = sim_type.Integer; dimensions = 1; is = refl; holds = refl }, tt), tt),
+      ((refl, (refl, from_around refl (record { found = 0; around = itself; instance = refl; level = refl })), tt), tt, tt, (record { declaration = number 3; at = refl; element = sim_type.Integer; dimensions = 1; is = refl; holds = refl }, tt), tt),
     ),
     tt,
   );
@@ -692,7 +693,7 @@ v_outer : TextHolds value_array 0 (text value_array 0)
 unfolding digits element_place making_array copying_array keeping_array finding_element giving_back handed_over stopping no_rule ticking taking entering having when computing choosing popping pop_many pop_plain pop_truth pop_integers pop_operands pop_text answering applying_one applying_two testing_step performing putting_back assigning making_text joining at_level kept_on pushing index level_of_machine cell_at jumping block_at own_block leaving with_result putting put_back is_text home_of first_cells leaving_of_meaning constants_of putting_of_steps back_of_steps text_constants text_constant is_variable stream_of own_result own_match is_inside text is_class_free declared_at constant_of calculate compare compare_as_texts connect same_objects same_texts two_of one_of step_test take_integer take_character take_text take_nothing row_of standard_effect default_mode mode_allowed marked type_named result_named mode_named first_of_procedure first_of_class variable_marks array_marks parameter_marks moded_marks specified_marks headed_marks procedure_marks class_marks virtual_name_marks program_marks inner_marks declaring of_segment of_mode_part of_specification of_specifier of_virtual of_heading declared_by declarations_of run_of_runs lookup shown_of_scopes encloser searched block_at_of_scopes declaration_from binding entry_of formals_of formal_of result_of source_of denoted type_at line_at level_of block_of block_around standard_name text_attribute sysin_attribute sysout_attribute signature is_real_function is_random_drawing is_file_or_layout is_environment_name undeclared program_events of_statement of_branch of_arm of_block of_whole of_class_body of_declaration accessible protects is_kind some_around_of some_around base brought_by level_shows shown_of is_detach ends_search outward virtual_of represented standard_at qualified_marks qualified_result has_level some_level_of found_at connection_at transfer_at is_attribute result_meant own_attribute
 v_outer = record {
   no_formals = (tt, (tt, tt));
-  arrays = (Simply kind.Integer, refl, ((refl, refl, tt), tt, (record { declaration = number 2; at = refl; element = sim_type.Integer; dimensions = 1; is = refl; holds = refl }, tt), tt), tt);
+  arrays = (Simply kind.Integer, refl, ((refl, refl, tt), tt, tt, (record { declaration = number 2; at = refl; element = sim_type.Integer; dimensions = 1; is = refl; holds = refl }, tt), tt), tt);
   distinct = ((λ a. none_among (number 2) a), tt);
   made = v_made;
   own = λ d a. later a;

@@ -16,6 +16,7 @@ use Rattle.sim_scope.specs.Standard.{parameter_of, result_of}
 use Rattle.sim_scope.specs.Tables.{Tables}
 use Rattle.sim_tree.specs.declared.expr.Identifier.{Identifier}
 use Rattle.sim_tree.specs.declared.stmt.TypeName.{TypeName}
+use Rattle.sim_tree.specs.Filled.{SomeBounds}
 use Rattle.sim_tree.specs.Syntax.{Arrayed, Arrays, BoundPair, Declarations, DeclareClass, DeclareProcedure, Expressions, Heading, NoDeclaration, NoStatement, Statement, Statements, Variables, With}
 use Rattle.sim_values.specs.declared.kind.Kind.TheVariants as kind
 use Rattle.sim_values.specs.declared.standard.Owner.{Owner}
@@ -64,7 +65,7 @@ SomeName (x ∷ xs) = Unit {0}
 
 abbrev pub SegmentsAre : Source → Place → Holds → List Arrayed → Type 0
 SegmentsAre s from h [] = Unit {0}
-SegmentsAre s from h (a ∷ more) = BoundsAre s from a.bounds × SomeName a.names × ArraysAre s h a.names × SegmentsAre s from h more
+SegmentsAre s from h (a ∷ more) = BoundsAre s from a.bounds × SomeBounds a.bounds × SomeName a.names × ArraysAre s h a.names × SegmentsAre s from h more
 
 abbrev pub ArraysTyped : Source → Place → Declarations → Type 0
 ArraysTyped s from NoDeclaration = Unit {0}

@@ -10,6 +10,7 @@ use Rattle.sim_tree.specs.declared.program.Program.{Program as ProgramTree}
 use Rattle.sim_tree.specs.declared.stmt.ArraySegment.{ArraySegment}
 use Rattle.sim_tree.specs.declared.stmt.Assigned.{Assigned}
 use Rattle.sim_tree.specs.declared.stmt.Block.{Block}
+use Rattle.sim_tree.specs.declared.stmt.Bounds.{Bounds}
 use Rattle.sim_tree.specs.declared.stmt.Decl.{Decl}
 use Rattle.sim_tree.specs.declared.stmt.Decl.TheOpen.{Stmt-F, Decl-F}
 use Rattle.sim_tree.specs.declared.stmt.ForElement.{ForElement}
@@ -18,7 +19,7 @@ use Rattle.sim_tree.specs.declared.stmt.Stmt.{Stmt}
 use Rattle.sim_tree.specs.declared.stmt.TypeName.{TypeName}
 use Rattle.sim_tree.specs.declared.stmt.VirtualSpecification.{VirtualSpecification}
 use Rattle.sim_tree.specs.declared.stmt.When.{When}
-use Rattle.sim_tree.specs.Filled.{Filled, FilledArms, FilledBlock, FilledDeclaration, FilledDeclarations, FilledSegments, FilledStatement, FilledStatements, SomeElement, SomeIdentifier, SomeSide}
+use Rattle.sim_tree.specs.Filled.{Filled, FilledArms, FilledBlock, FilledDeclaration, FilledDeclarations, FilledSegments, FilledStatement, FilledStatements, SomeBounds, SomeElement, SomeIdentifier, SomeSide}
 use Rattle.sim_tree.specs.Grammar as g
 use Rattle.sim_tree.specs.Nesting.{has_token}
 use Rattle.sim_tree.specs.Reading.{Forest, done, node, place, bare_leaf}
@@ -98,13 +99,17 @@ ids_filled : (xs : List Identifier) → has_token g.Identifiers (d.ids xs) ≡ t
 ids_filled [] token = absurd (false≢true token)
 ids_filled (x ∷ xs) token = tt
 
+bounds_filled : (names : Forest) (bs : List Bounds) → has_token g.ArraySegment (node g.Identifiers names (d.dimensions bs)) ≡ true → SomeBounds (map t.bound_pair_syntax bs)
+bounds_filled names [] token = absurd (false≢true token)
+bounds_filled names (b ∷ bs) token = tt
+
 next_filled : (xs : List ArraySegment) → Full (row g.NextArraySegment (map d.next_segment xs) done) → FilledSegments (map t.segment_syntax xs)
 next_filled [] full = tt
-next_filled (x ∷ xs) full = (ids_filled x.names.items full.1.1.0, next_filled xs full.2)
+next_filled (x ∷ xs) full = (ids_filled x.names.items full.1.1.0, bounds_filled (d.ids x.names.items) x.bounds.items full.1.0, next_filled xs full.2)
 
 segments_filled : (xs : List ArraySegment) → Full (d.segments_derivation xs) → FilledSegments (map t.segment_syntax xs)
 segments_filled [] full = tt
-segments_filled (x ∷ xs) full = (ids_filled x.names.items full.1.0, next_filled xs full.2)
+segments_filled (x ∷ xs) full = (ids_filled x.names.items full.1.0, bounds_filled (d.ids x.names.items) x.bounds.items full.0, next_filled xs full.2)
 
 -- Each node.
 abbrev StmtPair : Type 0

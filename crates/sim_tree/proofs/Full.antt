@@ -29,6 +29,8 @@ fitting g.AfterFirstOperand s = true
 fitting g.Statement s = solid true s
 fitting g.ForList (Kept any ∷ s) = solid false s
 fitting g.ForList s = false
+fitting g.ArraySegment (Of Once names ∷ Mark opening ∷ s) = solid false s
+fitting g.ArraySegment s = false
 fitting _ s = solid false s
 
 rows_fit : (n : Part) → each_row (rows n) (fitting n) ≡ true
@@ -73,6 +75,20 @@ module _ {most : ℕ} {ws : List Token} where
   part_token g.ForList e (reads-here r) = absurd (false≢true e)
   part_token g.ForList e (reads-part b sh r q) = absurd (false≢true e)
   part_token g.ForList e (reads-skip b may r) = absurd (false≢true e)
+  part_token g.ArraySegment {s = Of Once names ∷ Mark opening ∷ s} e (reads-part b sh r (reads-mark h q)) = token e q
+  part_token g.ArraySegment {s = Of Once names ∷ Mark opening ∷ s} e (reads-skip b may r) = absurd (false≢true may)
+  part_token g.ArraySegment {s = Of Once names ∷ Kept any ∷ s} e r = absurd (false≢true e)
+  part_token g.ArraySegment {s = Of Once names ∷ Any a ∷ s} e r = absurd (false≢true e)
+  part_token g.ArraySegment {s = Of Once names ∷ Here ∷ s} e r = absurd (false≢true e)
+  part_token g.ArraySegment {s = Of Once names ∷ Of t n ∷ s} e r = absurd (false≢true e)
+  part_token g.ArraySegment {s = Of Once names ∷ []} e r = absurd (false≢true e)
+  part_token g.ArraySegment {s = Of Maybe names ∷ s} e r = absurd (false≢true e)
+  part_token g.ArraySegment {s = Of Many names ∷ s} e r = absurd (false≢true e)
+  part_token g.ArraySegment {s = []} e r = absurd (false≢true e)
+  part_token g.ArraySegment {s = Kept any ∷ s} e r = absurd (false≢true e)
+  part_token g.ArraySegment {s = Mark a ∷ s} e r = absurd (false≢true e)
+  part_token g.ArraySegment {s = Any a ∷ s} e r = absurd (false≢true e)
+  part_token g.ArraySegment {s = Here ∷ s} e r = absurd (false≢true e)
   part_token _ e r = token e r
 
 right_fits : (n : Part) (ws : List Token) (i : ℕ) (right : List Symbol) → right_side n (kind_at ws i) ≡ Some right → fitting n right ≡ true

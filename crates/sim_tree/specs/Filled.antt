@@ -1,8 +1,8 @@
 -- Programs whose lists are not empty where the grammar has at least one: each assignment has a right side, each `for` list
--- an element, each segment of arrays a name.
+-- an element, each segment of arrays a name and a pair of bounds.
 use Rattle.std.specs.Prelude.{List, [], ◌∷◌}
 use Rattle.sim_tree.specs.declared.expr.Identifier.{Identifier}
-use Rattle.sim_tree.specs.Syntax.{Also, Arms, Arrayed, Arrays, Begin, Block, Declaration, Declarations, DeclareClass, DeclareProcedure, Element, NoArm, NoDeclaration, NoStatement, Program, RightSide, Statement, Statements, When, With}
+use Rattle.sim_tree.specs.Syntax.{Also, Arms, Arrayed, Arrays, Begin, Block, BoundPair, Declaration, Declarations, DeclareClass, DeclareProcedure, Element, NoArm, NoDeclaration, NoStatement, Program, RightSide, Statement, Statements, When, With}
 use Rattle.sim_tree.specs.Syntax as syntax
 
 abbrev pub SomeSide : List RightSide → Type 0
@@ -17,9 +17,13 @@ abbrev pub SomeIdentifier : List Identifier → Type 0
 SomeIdentifier [] = ⊥
 SomeIdentifier (x ∷ xs) = Unit {0}
 
+abbrev pub SomeBounds : List BoundPair → Type 0
+SomeBounds [] = ⊥
+SomeBounds (b ∷ bs) = Unit {0}
+
 abbrev pub FilledSegments : List Arrayed → Type 0
 FilledSegments [] = Unit {0}
-FilledSegments (a ∷ more) = SomeIdentifier a.names × FilledSegments more
+FilledSegments (a ∷ more) = SomeIdentifier a.names × SomeBounds a.bounds × FilledSegments more
 
 -- of activations nothing is said
 abbrev mutual

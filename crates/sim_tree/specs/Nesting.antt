@@ -14,7 +14,8 @@ use Rattle.sim_tree.specs.Tree.{is_bare, deepest}
 abbrev pub capped : ℕ → ℕ
 capped n = min n 4294967295
 
--- A part has a token, unless the grammar has it without one. A statement has at least its place, and a `for` list an element behind its sign.
+-- A part has a token, unless the grammar has it without one. A statement has at least its place, a `for` list an element behind its sign,
+-- and a segment of arrays bounds behind its identifiers.
 abbrev pub has_token : Part → Forest → Bool
 has_token g.AfterDeclaration f = true
 has_token g.Heading f = true
@@ -23,6 +24,8 @@ has_token g.Statement done = false
 has_token g.Statement f = true
 has_token g.ForList (leaf i kind value f) = not (is_bare f)
 has_token g.ForList f = false
+has_token g.ArraySegment (node names inside f) = not (is_bare f)
+has_token g.ArraySegment f = false
 has_token _ f = not (is_bare f)
 
 -- no part of a derivation lacks its token

@@ -1,6 +1,8 @@
 use Rattle.std.proofs.Common.{refl}
 use Rattle.frame_arena.proofs.Rooms.{rooms_kept}
 use Rattle.frame_arena.proofs.Standings.{component_leads, has_kept, kept_elsewhere, stands_anew, stands_there}
+use Rattle.std.specs.Prelude.{None}
+use Rattle.frame_arena.proofs.Freed.{free_changed}
 use Rattle.frame_arena.proofs.frames.stand.Goals as goal
 
 pub returns-clause-holds : goal.returns-clause-holds
@@ -20,3 +22,6 @@ returns-clause-chains c at number d other h = kept_elsewhere c.args.frames.now c
 
 pub returns-clause-stands : goal.returns-clause-stands
 returns-clause-stands c = stands_there c.args.frames.now c.args.place c.requires.there c.args.component
+
+pub returns-clause-lists : goal.returns-clause-lists
+returns-clause-lists c heads lists h = free_changed c.args.frames.now heads lists c.args.place _ c.requires.there None h c.requires.live c.requires.live refl

@@ -98,6 +98,6 @@ returns-clause-row c code l line now eb ei et before o m s =
     let ez : to_z w64 (of_z w64 c.thunk_for-operand.result) ≡ c.thunk_for-operand.result = search rules in
     let z = to_z w64 (of_z w64 c.thunk_for-operand.result) in
     let for = ap (λ z. thunk_for f.shape z c.args.procedure) (sym ev) ∙ ap (λ z. thunk_for f.shape (to_z w64 (of_z w64 c.args.value)) z) (sym ep) ∙ sym c.thunk_for-operand.ensures ∙ sym ez in
-    along l line p _ before now _ _ _ _ _
+    along l line _ _ before now _ _ _ _ _
     (found ∙ other_chosen (is_by_name f.mode) _ _ (sym c.is_by_name.ensures ∙ c.if-is_by_name.false) ∙ ap (running_thunk code o m a under) for)
     (c.run_thunk.ensures.row code l line now ei et before o m s)

@@ -98,6 +98,6 @@ returns-clause-row c code l line now ei et before o m s =
     let n = c.in-Some.number in
     let named = index_is c.args.operand n o R (c.in-Some.ensures ∙ ap number en) in
     let short : c.in-Ok.thunk ≡ n = search rules in
-    along l line p _ before now _ _ _ _ _
+    along l line _ _ before now _ _ _ _ _
     (named ∙ when_holds (runs_inside r.thunk n) o (Roomy n) (sym c.runs_inside.ensures ∙ c.if-not-runs_inside.false) ∙ when_holds (is_roomy a) o (Begin n) (roomy r stack (search rules) (search rules)) ∙ ap Begin (sym short))
     (c.begin_thunk.ensures.row code l line before now o m ei et s s.top.home)

@@ -1,4 +1,4 @@
-use Rattle.std.proofs.Common.{rules, ◌≡◌, ℕ, [], ◌∷◌, ◌*◌, ◌≤◌, ◌++◌, List, length, ◌∙◌, ap, sym, subst, of_z, to_z, w64}
+use Rattle.std.proofs.Common.{arith, rules, ◌≡◌, ℕ, [], ◌∷◌, ◌*◌, ◌≤◌, ◌++◌, List, length, ◌∙◌, ap, sym, subst, of_z, to_z, w64}
 use Rattle.std.specs.Prelude.{ℤ, Ok}
 use Rattle.sim_values.specs.Words.{array_words}
 use Rattle.sim_code.specs.Arrays.{added, making_array, pairs}
@@ -12,7 +12,7 @@ use Rattle.object_machine.specs.declared.machine.Storage.{Storage}
 use Rattle.object_machine.specs.Standing.{Leaves, Obeys, activation_at, below_of}
 use Rattle.object_machine.proofs.ArrayRows.{exhausted, lead_push, making_fault, making_words, stands_arrays, stands_paid}
 use Rattle.object_machine.proofs.Going.{along, faults, none}
-use Rattle.object_machine.proofs.Having.{having_none, having_some}
+use Rattle.object_machine.proofs.Having.{counted, having_none, having_some, uncounted}
 use Rattle.object_machine.proofs.arrays.array.Goals as goal
 
 pub returns-in_default-clause-row : goal.returns-in_default-clause-row
@@ -39,6 +39,20 @@ returns-in_default-index-clause-row c line below now before o m s =
     let put : ℕ → List Value → ℕ → World → Run Machine = λ n st array w. pushing (length stack) st (ArrayValue array) w (λ st. on w m (activation_at r stack) st (below_of below)) in
     along l line p below before now _ _ _ _ _ (having_some (element_kind c.args.kind) c.in-Some.kind o _ (c.in-Some.ensures ∙ ap element_kind ek) ∙ having_none (number c.args.count) o _ (c.in_default-index.ensures ∙ ap number en)) (none l line p below before now _ r _ stack o m s)
 
+pub returns-then-count-eq0-clause-row : goal.returns-then-count-eq0-clause-row
+unfolding Obeys index
+returns-then-count-eq0-clause-row c line below now before o m s =
+    let l = c.args.limits.now in
+    let p = c.args.storage.now in
+    let r = c.args.regs.now in
+    let stack = c.args.stack.now in
+    let ek : to_z w64 (of_z w64 c.args.kind) ≡ c.args.kind = search rules in
+    let en : to_z w64 (of_z w64 c.args.count) ≡ c.args.count = search rules in
+    let kind = c.in-Some.kind in
+    let count = c.in-Some-index.count in
+    let begun = having_some (element_kind c.args.kind) kind o _ (c.in-Some.ensures ∙ ap element_kind ek) ∙ having_some (number c.args.count) count o _ (c.in-Some-index.ensures ∙ ap number en) in
+    along l line p below before now _ _ _ _ _ (begun ∙ uncounted count o _ (omega (arith, c.if-count-eq0.true))) (none l line p below before now _ r _ stack o m s)
+
 pub returns-in_default-pop_integers-clause-row : goal.returns-in_default-pop_integers-clause-row
 unfolding Obeys index
 returns-in_default-pop_integers-clause-row c line below now before o m s =
@@ -52,7 +66,7 @@ returns-in_default-pop_integers-clause-row c line below now before o m s =
     let kind = c.in-Some.kind in
     let count = c.in-Some-index.count in
     let go : List ℤ → List Value → Run Machine = λ bounds st. making_array l line r.home.stamp kind (pairs bounds) o (put count st) in
-    let begun = having_some (element_kind c.args.kind) kind o _ (c.in-Some.ensures ∙ ap element_kind ek) ∙ having_some (number c.args.count) count o _ (c.in-Some-index.ensures ∙ ap number en) in
+    let begun = having_some (element_kind c.args.kind) kind o _ (c.in-Some.ensures ∙ ap element_kind ek) ∙ having_some (number c.args.count) count o _ (c.in-Some-index.ensures ∙ ap number en) ∙ counted count o _ (omega (arith, c.if-count-eq0.false)) in
     along l line p below before now _ _ _ _ _ (begun ∙ c.in_default-pop_integers.ensures.row o go) (none l line p below before now _ r _ stack o m s)
 
 pub returns-in_default-bounds_of-clause-row : goal.returns-in_default-bounds_of-clause-row
@@ -76,7 +90,7 @@ returns-in-Err-clause-row c line below now before o m s =
     let kind = c.in-Some.kind in
     let count = c.in-Some-index.count in
     let go : List ℤ → List Value → Run Machine = λ bounds st. making_array l line r.home.stamp kind (pairs bounds) o (put count st) in
-    let begun = having_some (element_kind c.args.kind) kind o _ (c.in-Some.ensures ∙ ap element_kind ek) ∙ having_some (number c.args.count) count o _ (c.in-Some-index.ensures ∙ ap number en) in
+    let begun = having_some (element_kind c.args.kind) kind o _ (c.in-Some.ensures ∙ ap element_kind ek) ∙ having_some (number c.args.count) count o _ (c.in-Some-index.ensures ∙ ap number en) ∙ counted count o _ (omega (arith, c.if-count-eq0.false)) in
     let first = c.in-Some-pop_integers.first in
     let rest = values_of first stack in
     let popped = begun ∙ c.in-Some-pop_integers.ensures.row o go in
@@ -100,7 +114,7 @@ returns-in_default-take_words-clause-row c line below now before o m s =
     let kind = c.in-Some.kind in
     let count = c.in-Some-index.count in
     let go : List ℤ → List Value → Run Machine = λ bounds st. making_array l line r.home.stamp kind (pairs bounds) o (put count st) in
-    let begun = having_some (element_kind c.args.kind) kind o _ (c.in-Some.ensures ∙ ap element_kind ek) ∙ having_some (number c.args.count) count o _ (c.in-Some-index.ensures ∙ ap number en) in
+    let begun = having_some (element_kind c.args.kind) kind o _ (c.in-Some.ensures ∙ ap element_kind ek) ∙ having_some (number c.args.count) count o _ (c.in-Some-index.ensures ∙ ap number en) ∙ counted count o _ (omega (arith, c.if-count-eq0.false)) in
     let first = c.in-Some-pop_integers.first in
     let rest = values_of first stack in
     let popped = begun ∙ c.in-Some-pop_integers.ensures.row o go in
@@ -128,7 +142,7 @@ returns-clause-row c line below now before o m s =
     let kind = c.in-Some.kind in
     let count = c.in-Some-index.count in
     let go : List ℤ → List Value → Run Machine = λ bounds st. making_array l line r.home.stamp kind (pairs bounds) o (put count st) in
-    let begun = having_some (element_kind c.args.kind) kind o _ (c.in-Some.ensures ∙ ap element_kind ek) ∙ having_some (number c.args.count) count o _ (c.in-Some-index.ensures ∙ ap number en) in
+    let begun = having_some (element_kind c.args.kind) kind o _ (c.in-Some.ensures ∙ ap element_kind ek) ∙ having_some (number c.args.count) count o _ (c.in-Some-index.ensures ∙ ap number en) ∙ counted count o _ (omega (arith, c.if-count-eq0.false)) in
     let first = c.in-Some-pop_integers.first in
     let rest = values_of first stack in
     let popped = begun ∙ c.in-Some-pop_integers.ensures.row o go in

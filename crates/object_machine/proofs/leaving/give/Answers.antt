@@ -25,7 +25,7 @@ pub returns-clause-row : goal.returns-clause-row
 returns-clause-row c l b before now o m cells s =
     let p = c.args.storage.now in
     let j : ℕ = c.args.home.stamp in
-    let p2 : Storage = record { frames = with_items p.frames c.give_back.new.frames; cells = p.cells; spares = with_items p.spares c.keep_stack.new.spares; parks = p.parks; heads = with_items p.heads c.give_back.new.heads; entered = p.entered; arrays = c.give_back_owned-storage.new.self; texts = p.texts; image = p.image; members = p.members; simulations = p.simulations; ticks = p.ticks; words = c.give_back_owned-storage.result; wanted = p.wanted } in
+    let p2 : Storage = record { frames = with_items p.frames c.give_back.new.frames; cells = p.cells; spares = with_items p.spares c.keep_stack.new.spares; idle = p.idle; parks = p.parks; heads = with_items p.heads c.give_back.new.heads; entered = p.entered; arrays = c.give_back_owned-storage.new.self; texts = p.texts; image = p.image; members = p.members; simulations = p.simulations; ticks = p.ticks; words = c.give_back_owned-storage.result; wanted = p.wanted } in
     let items : p2.frames.items ≡ c.give_back.new.frames = with_items_is p.frames c.give_back.new.frames (search (rules, places)) in
     let h0 : Holds c.deref.result.now p.cells.items m = subst (λ f. Holds f p.cells.items m) (sym c.deref.ensures.value) s.frames in
     let same = c.is_given_at_end.ensures p.cells.items m h0 ∙ ap (λ f. is_given_at_end m (frame_at f c.args.home.frame).number) c.deref.ensures.value ∙ ap (λ n. is_given_at_end m n) c.requires.there.2 in

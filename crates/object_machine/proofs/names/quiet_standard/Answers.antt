@@ -11,22 +11,13 @@ use Rattle.object_machine.specs.Operands.{IsNoTextIn}
 use Rattle.object_machine.specs.Settled.{Settles}
 use Rattle.object_machine.specs.Standing.{Leaves, Obeys}
 use Rattle.object_machine.proofs.Going.{along, none}
-use Rattle.object_machine.proofs.NameRows.{done_apart, few_row, for_name, not_ports, plain_name_row, scan_name_row, unseen_row}
+use Rattle.object_machine.proofs.NameRows.{done_apart, few_row, for_name, not_ports, scan_name_row, unseen_row}
 use Rattle.object_machine.proofs.names.quiet_standard.Goals as goal
 
 pub returns-in-Plain-clause-row : goal.returns-in-Plain-clause-row
-unfolding Obeys
 returns-in-Plain-clause-row c code line below now =
     let e : to_z w64 (of_z w64 c.args.operand) ≡ c.args.operand = search rules in
-    let l = c.args.limits.now in
-    let p = c.args.storage.now in
-    let done = c.perform_plain-performed in
-    let settled = c.settle_performed in
-    for_name _ code l line c.args.operand c.in-Some.name (c.in-Some.ensures ∙ ap standard_of e) (done_apart c.in-Some.name (c.in-Plain.ensures.runs (not_ports manner.Plain tt))) _ _ _ _ _ _ below now
-    (λ before o m s.
-    plain_name_row l line p settled.new.storage below before now c.args.regs.now settled.new.regs c.args.stack.now done.new.stack o m c.in-Some.name s c.requires.fits
-    done.ensures.long (done.ensures.leads p.frames.items m s.top.slots) (done.ensures.leads_arrays p.arrays.regions o.arrays s.top.arrays_lead)
-    (c.in-Plain.ensures.plain refl) done.result settled.result _ done.ensures.unmoved (done.ensures.row l.storage _) settled.ensures.settled)
+    for_name _ code c.args.limits.now line c.args.operand c.in-Some.name (c.in-Some.ensures ∙ ap standard_of e) (done_apart c.in-Some.name (c.in-Plain.ensures.runs (not_ports manner.Plain tt))) _ _ _ _ _ _ below now (c.plain_standard.ensures.row c.args.limits.now line below now)
 
 pub returns-then-depth-count-clause-row : goal.returns-then-depth-count-clause-row
 unfolding Obeys

@@ -6,6 +6,7 @@ use Rattle.object_machine.specs.Standing.{Leaves, Obeys, activation_at, below_of
 use Rattle.object_machine.proofs.Going.{along, chosen, none}
 use Rattle.object_machine.proofs.Having.{having_none, having_some}
 use Rattle.object_machine.proofs.NameRows.{apart_row, flow_ends, input_ends, name_still, performed_row, read_row, unready_row}
+use Rattle.object_machine.proofs.Rowless.{without_row}
 use Rattle.object_machine.proofs.ScheduledNames.{process_chosen}
 use Rattle.object_machine.proofs.SetSteps.{quiet_flow, quiet_input}
 use Rattle.object_machine.proofs.Taking.{name_takes}
@@ -30,6 +31,22 @@ returns-in_default-clause-row g c b eb =
 pub returns-in_default-manner_of-clause-row : goal.returns-in_default-manner_of-clause-row
 unfolding Obeys Leaves
 returns-in_default-manner_of-clause-row g c b eb = (b, eb, (still_same flow.Memory (g.O.Sink.written c.args.out.now), λ code line below before o m s. tt))
+
+pub returns-then-not-has_row-clause-row : goal.returns-then-not-has_row-clause-row
+unfolding Obeys
+returns-then-not-has_row-clause-row g c b eb =
+    let w = g.O.Sink.written c.args.out.now in
+    let e : to_z w64 (of_z w64 c.args.operand) ≡ c.args.operand = search rules in (
+      b,
+      eb,
+      (
+        still_same flow.NoRule w,
+        λ code line below before o m s.
+            along c.args.limits.now line c.args.storage.now below before (outside w b) _ _ _ _ _
+            (having_some (standard_of c.args.operand) c.in-Some.name o _ (c.in-Some.ensures ∙ ap standard_of e) ∙ without_row code c.args.limits.now o m (activation_at c.args.regs.now c.args.stack.now) (below_of below) line c.in-Some.name (sym c.if-not-has_row.ensures))
+            (none c.args.limits.now line c.args.storage.now below before (outside w b) _ c.args.regs.now _ c.args.stack.now o m s),
+      ),
+    )
 
 pub returns-in_default-ready-clause-row : goal.returns-in_default-ready-clause-row
 unfolding Obeys

@@ -42,7 +42,7 @@ returns-clause-row c l before now o m s up =
     let each : length c.reserve.new.parks.items ≡ length c.enter.new.frames = c.in_ok-place.ensures.each s.parks.each ∙ ap (λ f. length f) (sym c.deref_mut-4.ensures.value) ∙ rooms_count c.deref_mut-4.result.now c.enter.new.frames c.enter.ensures.stacks in
     let here : Has c.enter.new.frames c.in-Ok-try_from.region p.entered = subst (λ k. Has c.enter.new.frames k p.entered) (let q : c.in_ok-place.place ≡ c.in-Ok-try_from.region = search rules in q) c.enter.ensures.here in
     let room : c.in_ok-stack.stack.items ≡ replicate c.block.inside.room empty_slot = c.in_ok-stack.ensures in
-    let p2 : Storage = record { frames = with_items c.reserve.new.frames c.enter.new.frames; cells = with_items c.reserve.new.cells c.fill_first.new.cells; spares = with_items c.reserve.new.spares c.take_stack.new.spares; parks = c.reserve.new.parks; heads = with_items p.heads c.reserve.new.heads; entered = p.entered + 1; arrays = p.arrays; texts = p.texts; image = p.image; members = p.members; simulations = p.simulations; ticks = p.ticks; words = p.words; wanted = p.wanted } in
+    let p2 : Storage = record { frames = with_items c.reserve.new.frames c.enter.new.frames; cells = with_items c.reserve.new.cells c.fill_first.new.cells; spares = with_items c.reserve.new.spares c.take_stack.new.spares; idle = p.idle; parks = c.reserve.new.parks; heads = with_items p.heads c.reserve.new.heads; entered = p.entered + 1; arrays = p.arrays; texts = p.texts; image = p.image; members = p.members; simulations = p.simulations; ticks = p.ticks; words = p.words; wanted = p.wanted } in
     let t : working.Activation = record { registers = record { thunk = None; home = record { frame = c.in-Ok-try_from.region; stamp = p.entered }; pc = c.args.beginning.start; depth = 0; stage = c.args.beginning.stage }; stack = c.in_ok-stack.stack } in
     for_block l p p2 c.args.number b c.args.block.now c.args.beginning c.args.parent t before now o m c.block.view_is
     (opens_from l p p2 c.args.number b c.args.beginning c.args.parent t before now o m s c.enter.new.frames c.fill_first.new.cells

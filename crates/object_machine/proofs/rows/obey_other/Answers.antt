@@ -43,11 +43,6 @@ returns-in-ProcVal-clause-row c code line below now eb ec =
     let eblock : to_z w64 (of_z w64 c.in-ProcVal.block) ≡ c.in-ProcVal.block = search rules in
     for_instr _ code c.args.limits.now line _ _ _ _ _ _ below now c.args.instr _ (c.in-ProcVal.is ∙ ap i.ProcVal (sym eblock)) (c.procedure_value.ensures.row code c.args.limits.now line c.args.storage.now below now eb)
 
-pub returns-in-Virt-clause-row : goal.returns-in-Virt-clause-row
-returns-in-Virt-clause-row c code line below now eb ec =
-    let enumber : to_z w64 (of_z w64 c.in-Virt.number) ≡ c.in-Virt.number = search rules in
-    for_instr _ code c.args.limits.now line _ _ _ _ _ _ below now c.args.instr _ (c.in-Virt.is ∙ ap i.Virt (sym enumber)) (c.find_match.ensures.row code c.args.limits.now line c.args.storage.now below now eb ec (sym c.deref-in-Virt.ensures.value))
-
 pub returns-in-NotNone-clause-row : goal.returns-in-NotNone-clause-row
 returns-in-NotNone-clause-row c code line below now eb ec =
     for_instr _ code c.args.limits.now line _ _ _ _ _ _ below now c.args.instr _ (c.in-NotNone.is) (c.not_none.ensures.row c.args.limits.now line c.args.storage.now below now)

@@ -1,7 +1,6 @@
 use Rattle.std.proofs.Common.{None, rules, ◌≡◌, List, [], sym, subst, refl, ap, ◌∙◌}
 use Rattle.sim_code.specs.Outcome.{Going, first_world}
 use Rattle.sim_code.specs.Rows.{opening}
-use Rattle.sim_code.specs.Running.{AllRun}
 use Rattle.sim_code.specs.declared.stage.Stage.TheVariants as stage
 use Rattle.frame_arena.specs.Frames.{empty_memory}
 use Rattle.object_machine.specs.declared.machine.Registers.{Registers}
@@ -44,9 +43,6 @@ returns-in-Stopped-clause-ran g c input told =
       stops = stops_first code l input _ r [] b0 w c.in-Stopped.stop.flow c.in-Stopped.stop.line.0 c.in-Stopped.stop.at b.0 (b.1 r []) (append_nothing b0);
       reads = λ is. absurd (c.in-Stopped.ensures.read is);
     })
-
-pub steps-stop-requires-clause-runs : goal.steps-stop-requires-clause-runs
-steps-stop-requires-clause-runs g c = subst (λ v. AllRun v) (ap (λ k. k.instrs) (sym c.code.view_is) ∙ sym c.deref-in-Started-2.ensures.value) c.requires.runs
 
 pub steps-stop-requires-clause-placed : goal.steps-stop-requires-clause-placed
 steps-stop-requires-clause-placed g c = subst (λ v. IsPlaced v c.in-Ok-place.placed) (ap (λ k. k.instrs) (sym c.code.view_is) ∙ sym c.deref-in-Started-2.ensures.value) c.in-Ok-place.ensures

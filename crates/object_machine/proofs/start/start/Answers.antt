@@ -29,9 +29,9 @@ returns-clause-row c before input =
     } in
     let none : c.new-3.result.items ≡ [] = search rules in
     let none2 : c.new-4.result.items ≡ [] = search rules in
-    let none3 : c.new-6.result.items ≡ [] = search rules in
-    let none4 : c.new-9.result.items ≡ [] = search rules in
-    let none5 : c.new-10.result.items ≡ [] = search rules in
+    let none3 : c.new-7.result.items ≡ [] = search rules in
+    let none4 : c.new-10.result.items ≡ [] = search rules in
+    let none5 : c.new-11.result.items ≡ [] = search rules in
     record {
       world = record {
         ticks = refl;
@@ -45,14 +45,14 @@ returns-clause-row c before input =
       budget = omega arith;
       frames = holds_empty c.new-3.result.items c.new-4.result.items none none2;
       entered = refl;
-      arrays = c.new-7.ensures.holds;
-      cells = leads_empty c.new-7.result.regions [] c.new-4.result.items none2;
-      elements = elements_empty c.new-3.result.items empty_memory c.new-7.result c.new-7.ensures.none;
+      arrays = c.new-8.ensures.holds;
+      cells = leads_empty c.new-8.result.regions [] c.new-4.result.items none2;
+      elements = elements_empty c.new-3.result.items empty_memory c.new-8.result c.new-8.ensures.none;
       members = record {
-        is = record { instances = sym (ap stamps none4); sets = sym c.new-8.ensures.sets };
+        is = record { instances = sym (ap stamps none4); sets = sym c.new-9.ensures.sets };
         rises = subst Rises (sym (ap stamps none4)) (λ x y a b less i j. absurd (cc));
         lead = subst (λ w. AllReach c.new-3.result.items empty_memory w) (sym none4) (λ x f there. absurd (cc));
       };
-      simulations = simulating_none c.new-3.result.items empty_memory c.new-10.result.items none5;
-      parks = parks_empty c.new-3.result.items c.new-6.result.items empty_memory c.new-7.result.regions [] none none3;
+      simulations = simulating_none c.new-3.result.items empty_memory c.new-11.result.items none5;
+      parks = parks_empty c.new-3.result.items c.new-7.result.items empty_memory c.new-8.result.regions [] none none3;
     }

@@ -406,6 +406,28 @@ returns-in-Param-clause-row g c s e = (
   ),
 )
 
+pub returns-in-Virt-clause-ends : goal.returns-in-Virt-clause-ends
+returns-in-Virt-clause-ends g c = flow_still g.O.Sink.written g.O.Sink.faults c.args.out.now _ c.without_ports-in-Virt.ensures.other
+
+pub returns-in-Virt-clause-read : goal.returns-in-Virt-clause-read
+returns-in-Virt-clause-read g c = input_still (g.I.Source.faults c.args.input.now) _ c.without_ports-in-Virt.ensures.read
+
+pub returns-in-Virt-clause-row : goal.returns-in-Virt-clause-row
+returns-in-Virt-clause-row g c s e = (
+  s,
+  e,
+  (
+    still_same c.without_ports-in-Virt.result (g.O.Sink.written c.args.out.now),
+    λ code line e1 e2 e3 e4 e5 e6.
+        let l = c.args.limits.now in
+        let enumber : to_z w64 (of_z w64 c.in-Virt.number) ≡ c.in-Virt.number = search rules in
+        c.without_ports-in-Virt.ensures.row _ _ _ _ _ _ _ _ _ _ _ _ _
+        (for_instr_in _ code l line _ _ _ _ _ _ _ _ _ _ c.args.instr (i.Virt (to_z w64 (of_z w64 c.in-Virt.number))) (c.in-Virt.is ∙ ap i.Virt (sym enumber))
+        (obeys_stacks c.find_match-flow.result l line _ _ _ _ _ _ c.args.top.now.stack.items _ _ _ _ _ _ c.deref_mut-in-Virt.ensures.value (with_items_is c.args.top.now.stack c.find_match-flow.new.stack (search (rules, places)))
+        (c.find_match-flow.ensures.row code l line c.args.storage.now c.args.below.now.items (outside (g.O.Sink.written c.args.out.now) s) e1 e4 (sym c.deref-in-Virt.ensures.value)))),
+  ),
+)
+
 pub returns-in-CallV-clause-ends : goal.returns-in-CallV-clause-ends
 returns-in-CallV-clause-ends g c = flow_still g.O.Sink.written g.O.Sink.faults c.args.out.now _ c.without_ports-in-CallV.ensures.other
 

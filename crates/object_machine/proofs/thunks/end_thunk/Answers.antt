@@ -1,4 +1,4 @@
-use Rattle.std.proofs.Common.{◌≡◌, [], arith, sym, subst, ap, ◌∙◌}
+use Rattle.std.proofs.Common.{◌≡◌, [], ◌∷◌, ◌++◌, arith, sym, subst, ap, ◌∙◌}
 use Rattle.std.specs.Prelude.{None, Some}
 use Rattle.sim_code.specs.Events.{popping}
 use Rattle.frame_arena.specs.Slots.{empty_slot, value_of}
@@ -10,11 +10,13 @@ use Rattle.object_machine.proofs.Departures.{last_fits, popped_none, rest_fit}
 use Rattle.object_machine.proofs.Going.{along, no_rule_in}
 use Rattle.object_machine.proofs.Moving.{slot_within}
 use Rattle.object_machine.proofs.ObjectEnds.{no_rule_popped}
-use Rattle.object_machine.proofs.ThunkRows.{EndsWith, ends_onto, no_thunk_ends, thunk_ends, waiting_stands}
+use Rattle.object_machine.proofs.ThunkRows.{EndsWith, ends_onto, no_thunk_ends, stands_idle, thunk_ends, waiting_stands}
 use Rattle.object_machine.proofs.thunks.end_thunk.Goals as goal
 
 pub give-requires : goal.give-requires
-give-requires c = record { fits = last_fits c.args.below.now.items c.pop-2.new.self.items c.in-Some-pop-2.next c.in-Some-pop-2.ensures.items c.requires.others; images = c.requires.images }
+give-requires c =
+    let is = c.in-Some-pop-2.ensures.items ∙ ap (λ u. c.pop-2.new.self.items ++ u ∷ []) (sym c.replace-ended.ensures.after) in
+    record { fits = last_fits c.args.below.now.items c.pop-2.new.self.items c.replace-ended.new.dest is c.requires.others; images = c.requires.images }
 
 pub returns-clause-others : goal.returns-clause-others
 returns-clause-others c = rest_fit c.args.below.now.items c.pop-2.new.self.items c.in-Some-pop-2.next c.in-Some-pop-2.ensures.items c.requires.others
@@ -75,10 +77,10 @@ returns-clause-row c code line now eb ei ec before o m s =
     let at = c.in-Some-pop.at in
     let given = slot_at stack at in
     let popped = subst (λ xs. popping (values_of t.registers.depth xs) o E ≡ with_top (Some at) xs o E) c.deref.ensures.value (c.in-Some-pop.ensures.row o E) in
-    let next = c.in-Some-pop-2.next in
+    let next = c.replace-ended.new.dest in
     let rest = c.pop-2.new.self.items in
-    let is = c.in-Some-pop-2.ensures.items in
+    let is = c.in-Some-pop-2.ensures.items ∙ ap (λ u. rest ++ u ∷ []) (sym c.replace-ended.ensures.after) in
     let slot : c.index-given.result.now ≡ given = c.index-given.ensures ∙ slot_within stack at c.index-given.result.now empty_slot (let e = c.in-Some-pop.ensures.shallower in let f = c.requires.fits in omega (arith, e, f)) in
     along l line c.give.new.storage rest before now c.give.result c.give.new.waiting.registers c.give.new.waiting.stack.items _ _
     (ends ∙ popped ∙ ap (λ x. E (value_of x) []) (sym slot) ∙ ends_onto l line p t.registers stack below rest next before now o m is code (value_of c.index-given.result.now))
-    (c.give.ensures.row code line rest before now o m eb ei ec (waiting_stands l line p t.registers stack below rest next before now o m is s) (subst (λ x. LeadsFrom p o m x) (sym slot) (s.top.slots at, s.top.arrays_lead at)))
+    (c.give.ensures.row code line rest before now o m eb ei ec (waiting_stands l line (record p { idle = c.keep_idle.new.idle }) t.registers stack below rest next before now o m is (stands_idle l p c.keep_idle.new.idle t.registers stack below before now o m s)) (subst (λ x. LeadsFrom p o m x) (sym slot) (s.top.slots at, s.top.arrays_lead at)))

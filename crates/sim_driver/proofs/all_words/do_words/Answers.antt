@@ -6,6 +6,7 @@ use Rattle.command_line.proofs.Disjoint.{no_generated}
 use Rattle.sim_base.specs.declared.limits.Limits.{Limits}
 use Rattle.code_run.specs.CodeEnds.{TakesNothing}
 use Rattle.sim_driver.specs.AllWords.{limit_by}
+use Rattle.sim_driver.specs.CodeAnswer.{IsAnswered}
 use Rattle.sim_driver.specs.Reading.{TakesAtMost}
 use Rattle.sim_driver.proofs.AllWordsOf.{answers_code, answers_other, asks_code, asks_other, asks_source, chosen_code, chosen_other, code_answer, code_cut, code_limits, named_so, names_other, no_code, no_source, not_both, other_answer, other_cut, same_file, tells_code, tells_other}
 use Rattle.sim_driver.proofs.all_words.do_words.Goals as goal
@@ -32,6 +33,16 @@ returns-in-Some-clause-answered g c source given tells told is =
     let request : CodeRequest = run_asked c.in-Some.field-0 in
     let found = c.exec_file.ensures.answered source given (tells_code words request c.in-Some.ensures (g.F.Files.content c.args.files.now) source tells) told is in
     (found.0, answers_code words request c.in-Some.ensures source given found.0 found.1)
+
+pub returns-in-Some-clause-only_code : goal.returns-in-Some-clause-only_code
+returns-in-Some-clause-only_code g c idle = absurd (not_both (texts c.args.words.now) (run_asked c.in-Some.field-0) c.in-Some.ensures idle)
+
+pub returns-in-Some-clause-code_answered : goal.returns-in-Some-clause-code_answered
+returns-in-Some-clause-code_answered g c l file given asks tells small told =
+    let words = texts c.args.words.now in
+    let request : CodeRequest = run_asked c.in-Some.field-0 in
+    subst (λ (k : Limits). IsAnswered k file given c.exec_file.result (g.O.Sink.written c.args.out.now) (g.O.Sink.written c.exec_file.new.out)) (code_limits words request c.in-Some.ensures l asks)
+    (c.exec_file.ensures.one_answer file given (tells_code words request c.in-Some.ensures (g.F.Files.content c.args.files.now) file tells) small told)
 
 pub returns-in-Some-clause-answer : goal.returns-in-Some-clause-answer
 returns-in-Some-clause-answer g c source given answer tells told means is =
@@ -102,6 +113,12 @@ returns-in-None-clause-answered g c source given tells told is =
     let words = texts c.args.words.now in
     let found = c.run_command.ensures.answered source given (tells_other words c.in-None.ensures (g.F.Files.content c.args.files.now) source tells) told is in
     (found.0, answers_other words c.in-None.ensures source given found.0 found.1)
+
+pub returns-in-None-clause-only_code : goal.returns-in-None-clause-only_code
+returns-in-None-clause-only_code g c idle = c.run_command.ensures.no_code
+
+pub returns-in-None-clause-code_answered : goal.returns-in-None-clause-code_answered
+returns-in-None-clause-code_answered g c l file given asks = absurd (no_code (texts c.args.words.now) c.in-None.ensures l asks)
 
 pub returns-in-None-clause-answer : goal.returns-in-None-clause-answer
 returns-in-None-clause-answer g c source given answer tells told means is =

@@ -7,7 +7,7 @@ returns-in-Ok-clause-answered g c input told is = answered c.args.command c.args
 
 pub returns-in-Ok-clause-answer : goal.returns-in-Ok-clause-answer
 returns-in-Ok-clause-answer g c input answer told means is =
-    given c.args.command c.args.limits.now c.args.source.now input c.in-Ok.ending c.status.result _ _ answer c.status.ensures (λ meaning. c.in-Ok.ensures.does input meaning told) means
+    given c.args.command c.args.limits.now c.args.source.now input c.in-Ok.ending c.status.result _ _ answer c.status.ensures.same (λ meaning. c.in-Ok.ensures.does input meaning told) means
 
 pub returns-in-Ok-clause-prefix : goal.returns-in-Ok-clause-prefix
 returns-in-Ok-clause-prefix g c input answer told means = begun_whole c.args.command c.args.limits.now c.args.source.now input c.in-Ok.ending _ _ answer (λ meaning. c.in-Ok.ensures.does input meaning told) means
@@ -22,4 +22,4 @@ pub returns-in-Err-Memory-clause-prefix : goal.returns-in-Err-Memory-clause-pref
 returns-in-Err-Memory-clause-prefix g c input answer told means = begun c.args.command c.args.limits.now c.args.source.now input _ _ answer (λ meaning. c.in-Err-Memory.ensures.does input meaning told) means
 
 pub returns-in-Ok-clause-at_the_end : goal.returns-in-Ok-clause-at_the_end
-returns-in-Ok-clause-at_the_end g c idle = ended c.args.out.now _ c.in-Ok.ending c.status.result c.status.ensures (c.in-Ok.ensures.at_the_end idle)
+returns-in-Ok-clause-at_the_end g c idle = ended c.args.out.now _ c.in-Ok.ending c.status.result c.status.ensures.same (c.in-Ok.ensures.at_the_end idle)

@@ -2,7 +2,7 @@ use Rattle.sim_scope.specs.Source.{source_of}
 use Rattle.sim_xref.specs.Text.{references_text}
 use Rattle.sim_driver.specs.Output.{Exactly, SomeCodeFile, SomeListing}
 use Rattle.sim_driver.proofs.Known.{holds_on_ok}
-use Rattle.sim_driver.proofs.Meant.{checked_does, checked_means, coded_does, coded_means, listed_does, listed_means, only_checked, references_does, references_means}
+use Rattle.sim_driver.proofs.Meant.{checked_does, checked_means, coded_does, coded_means, listed_does, listed_means, only_checked, references_does, references_means, run_does, run_known}
 use Rattle.sim_driver.proofs.command.do_bound.Goals as goal
 
 pub returns-in-Check-clause-known : goal.returns-in-Check-clause-known
@@ -11,8 +11,12 @@ returns-in-Check-clause-known g c given told = checked_means c.args.command c.ar
 pub returns-in-Check-clause-does : goal.returns-in-Check-clause-does
 returns-in-Check-clause-does g c given meaning told is = checked_does c.args.command c.args.limits.now (source_of c.args.bound.now) given _ meaning (only_checked c.args.command c.in-Check.is) is
 
+pub returns-in-Run-clause-known : goal.returns-in-Run-clause-known
+returns-in-Run-clause-known g c given told = rw c.in-Run.is (run_known c.args.limits.now (source_of c.args.bound.now) given _ _ c.run.result (c.run.ensures.ran given told))
+
 pub returns-in-Run-clause-does : goal.returns-in-Run-clause-does
-returns-in-Run-clause-does g c given meaning told is = c.run.ensures.does given meaning told (rw c.in-Run.is at is)
+returns-in-Run-clause-does g c given meaning told is =
+    run_does c.args.limits.now (source_of c.args.bound.now) given _ _ c.run.result (c.run.ensures.ran given told) (c.run.ensures.begins given told) meaning (rw c.in-Run.is at is)
 
 pub returns-in-Compile-clause-known : goal.returns-in-Compile-clause-known
 returns-in-Compile-clause-known g c given told = rw c.in-Compile.is (holds_on_ok c.write_made.result (coded_means c.args.limits.now (source_of c.args.bound.now) given))

@@ -24,4 +24,4 @@ pub returns-in-WriteFault-clause-broken : goal.returns-in-WriteFault-clause-brok
 returns-in-WriteFault-clause-broken g c bytes told = broken_by_output (g.I.Source.faults c.args.input.now) (g.I.Source.faults c.run.new.input) c.args.code.now c.args.limits.now bytes _ _ (c.in-WriteFault.ensures.ran bytes told)
 
 pub returns-in-BadCode-clause-broken : goal.returns-in-BadCode-clause-broken
-returns-in-BadCode-clause-broken g c bytes told = absurd (not_lost (g.I.Source.faults c.args.input.now) (g.I.Source.faults c.run.new.input) c.args.code.now c.args.limits.now bytes _ _ _ c.requires.ruled (c.in-BadCode.ensures.ran bytes told))
+returns-in-BadCode-clause-broken g c bytes told = absurd (not_lost (g.I.Source.faults c.args.input.now) (g.I.Source.faults c.run.new.input) c.args.code.now c.args.limits.now bytes _ _ _ c.requires (c.in-BadCode.ensures.ran bytes told))

@@ -1,0 +1,13 @@
+pub mod Chains
+pub mod Exist
+pub mod Walks
+pub mod Access
+pub mod Denoted
+pub mod Classes
+pub mod Chained
+pub mod ClassMarks
+pub mod ClassBlocks
+pub mod Completed
+pub mod Repeated
+pub mod Ordered
+pub mod Worked

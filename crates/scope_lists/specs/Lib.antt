@@ -1,0 +1,5 @@
+pub mod Lists
+pub mod Accessible
+pub mod Denoted
+pub mod Classes
+pub mod Example

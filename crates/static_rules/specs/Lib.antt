@@ -1,0 +1,10 @@
+pub mod Answer
+pub mod FirstRound
+pub mod Index
+pub mod Judgements
+pub mod LastRound
+pub mod LeftSides
+pub mod Rules
+pub mod SecondRound
+pub mod Types
+pub mod Words
