@@ -173,7 +173,7 @@ pub fn exchange(
         return Flow::On;
     }
     let alloc = *kept.allocator();
-    let mut above = Vec::new(alloc);
+    let mut above = new_chain(alloc);
     if !cut_above(instance, top, below, &mut above) {
         return Flow::Memory;
     }

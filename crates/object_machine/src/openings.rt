@@ -192,7 +192,7 @@ fn passes(kind: BlockKind, class_free: bool) -> bool
 }
 
 /// A new frame of a block, with its first values, which is not yet on the chain. It answers want of memory also where there would be
-/// 2^32 regions or 2^63 frames.
+/// 2^32 - 1 regions or 2^63 frames.
 #[inline(always)]
 pub fn open(
     alloc: Global,

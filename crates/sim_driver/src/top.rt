@@ -91,7 +91,8 @@ pub fn simula<F: Files, I: Source, O: Sink, D: Sink>(
         → AllByRecursion (λ b. b < 256) file → I.left input.old ≡ Some given → IsAnswered l file given result (O.written out.old) (O.written out.new) }
 
     // At a normal end `compile` wrote the spelling of code, and `list` the listing of code, that runs as the source is run, under the same limits and with
-    // the same input; so `exec` answers of what `compile` wrote as `run` answers of the source.
+    // the same input; so `exec` answers of what `compile` wrote as `run` answers of the source, where that is no longer than a code file
+    // may be.
     ensures compiled { (source given : List ℕ) → AskTo Compile (texts words.now) → TellsNamed (F.content files.old) (texts words.now) source
         → I.left input.old ≡ Some given → result ≡ Status.Normal → WroteExecutable source (O.written out.old) (O.written out.new) }
     ensures listed { (source given : List ℕ) → AskTo Listing (texts words.now) → TellsNamed (F.content files.old) (texts words.now) source

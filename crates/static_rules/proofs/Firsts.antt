@@ -26,7 +26,9 @@ use Rattle.sim_scope.specs.declared.types.FormalKind.{FormalKind}
 use Rattle.sim_scope.specs.declared.types.Mode.{Mode}
 use Rattle.sim_scope.specs.declared.types.SimType.{SimType}
 use Rattle.sim_scope.specs.declared.types.WrittenMode.{WrittenMode}
-use Rattle.static_rules.specs.FirstRound.{ClassInItsOwnChain, DeclaredTwice, InnerOutOfPlace, IsDeclared, IsDouble, IsNew, IsOpen, Met, ModeNotAllowed, PrefixIsNoClass, SpecificationDisagrees, TooManyCells, TooManyDeclarations, TooManyLevels, as_class, as_itself, as_parameter, as_procedure, by_name_in_class, class_of_sets, declared_twice, double, elsewhere, first_one, has_name, in_a_cycle, is_its_match, match, matches, no_class, no_parameter, no_specification, not_so, of_no_parameter, one_more, procedure_of_class, second_one, too_deep, too_large, twice, unspecified_there, with_prefixes}
+use Rattle.static_rules.specs.FirstRound.{ClassInItsOwnChain, PrefixIsNoClass, TooManyCells, class_of_sets, in_a_cycle, no_class, too_large, with_prefixes}
+use Rattle.static_rules.proofs.Converting.{disagrees_built, disagrees_read, inner_built, inner_read, levels_built, levels_read, many_built, many_read, modes_built, modes_read, twice_built, twice_read}
+use Rattle.static_rules.proofs.Meeting.{DeclaredTwice, InnerOutOfPlace, IsDeclared, IsDouble, IsNew, IsOpen, Met, ModeNotAllowed, SpecificationDisagrees, TooManyDeclarations, TooManyLevels, as_class, as_itself, as_parameter, as_procedure, by_name_in_class, declared_twice, double, elsewhere, first_one, has_name, is_its_match, match, matches, no_parameter, no_specification, not_so, of_no_parameter, one_more, procedure_of_class, second_one, too_deep, twice, unspecified_there}
 use Rattle.static_rules.specs.Rules.{Breaks, First, l1, l2, l3, s1, s2, s3, s4, s5, s6}
 use Rattle.static_rules.proofs.Lists.{among_either, among_left, among_one, among_right, equal, from_row_test, from_test, is_equal, is_less, less, numbers_have, some_number, to_row_test, to_test, within}
 use Rattle.static_rules.proofs.Marks.{only_inner}
@@ -58,10 +60,10 @@ module _ (p : Program) (m : Mark) (b : BuildingOf) (x : Identifier) (e : Entry) 
   counting_from : (y : Fault) → IsNew b m x → Among (counting_breaks b x) y → Breaks p First y
   counting_from y new h =
       let d = from_test (nat_eq b.own most_declarations) x.token.0 r.TooManyDeclarations y h in
-      subst (Breaks p First) d.1 (l3 (one_more met new (equal b.own most_declarations d.0)))
+      subst (Breaks p First) d.1 (l3 (many_read p _ (one_more met new (equal b.own most_declarations d.0))))
 
   double_from : (row : BlockOf) (y : Fault) → IsOpen b row → has_name row x.name ≡ true → is_its_match b row x.name e ≡ false → fault x.token.0 r.DeclaredTwice ≡ y → Breaks p First y
-  double_from row y opened has fails same = subst (Breaks p First) same (s1 (declared_twice met (double is opened has fails)))
+  double_from row y opened has fails same = subst (Breaks p First) same (s1 (twice_read p _ (declared_twice met (double is opened has fails))))
 
   again_from : (row : BlockOf) (y : Fault) → IsOpen b row → has_name row x.name ≡ true → (o : Option DeclNo) → declared_in (Some row) x.name ≡ o → Among (again_breaks b x e o) y → Breaks p First y
   again_from row y opened has None at h = double_from row y opened has (ap (matches b e) at) (among_one h)
@@ -89,45 +91,45 @@ module _ (p : Program) (m : Mark) (b : BuildingOf) (x : Identifier) (e : Entry) 
 -- ---- headings
 
 mode_from : (p : Program) (b : BuildingOf) (x : Identifier) (m : Mode) (y : Fault) → Met p (Moded x m) b → (o : Option DeclNo) → found_in b.tables b.current x.name ≡ o → Among (mode_breaks b x.token m o) y → Breaks p First y
-mode_from p b x m y met None at h = subst (Breaks p First) (among_one h) (s5 (of_no_parameter met (ap (unspecified_at b.tables) at)))
+mode_from p b x m y met None at h = subst (Breaks p First) (among_one h) (s5 (modes_read p _ (of_no_parameter met (ap (unspecified_at b.tables) at))))
 mode_from p b x m y met (Some d) at h = go (unspecified_in (entry_of b.tables d)) refl h
   where
     go : (q : Option (Option WrittenMode)) → unspecified_in (entry_of b.tables d) ≡ q → Among (mode_breaks_of b x.token m q) y → Breaks p First y
-    go None same k = subst (Breaks p First) (among_one k) (s5 (of_no_parameter met (ap (unspecified_at b.tables) at ∙ same)))
-    go (Some (Some w)) same k = subst (Breaks p First) (among_one k) (s5 (twice met (ap (unspecified_at b.tables) at ∙ same)))
+    go None same k = subst (Breaks p First) (among_one k) (s5 (modes_read p _ (of_no_parameter met (ap (unspecified_at b.tables) at ∙ same))))
+    go (Some (Some w)) same k = subst (Breaks p First) (among_one k) (s5 (modes_read p _ (twice met (ap (unspecified_at b.tables) at ∙ same))))
     go (Some None) same k =
         let t = from_test (is_by_name m && in_class b) x.token.0 r.ModeNotAllowed y k in
-        subst (Breaks p First) t.1 (s5 (by_name_in_class met (ap (unspecified_at b.tables) at ∙ same) (and_first (is_by_name m) (in_class b) t.0) (and_second (is_by_name m) (in_class b) t.0)))
+        subst (Breaks p First) t.1 (s5 (modes_read p _ (by_name_in_class met (ap (unspecified_at b.tables) at ∙ same) (and_first (is_by_name m) (in_class b) t.0) (and_second (is_by_name m) (in_class b) t.0))))
 
 written_from : (p : Program) (b : BuildingOf) (x : Identifier) (k : FormalKind) (ty : Option SimType) (y : Fault) → Met p (Specified x k ty) b → (w : Option WrittenMode) → unspecified_there b x.name ≡ Some w → Among (written_breaks k ty w) y → Breaks p First y
 written_from p b x k ty y met None at h = elim h [ ]
 written_from p b x k ty y met (Some w) at h =
     let t = from_test (not (mode_allowed w.mode k ty)) w.token.0 r.ModeNotAllowed y h in
-    subst (Breaks p First) t.1 (s5 (not_so met at (not_true (mode_allowed w.mode k ty) t.0)))
+    subst (Breaks p First) t.1 (s5 (modes_read p _ (not_so met at (not_true (mode_allowed w.mode k ty) t.0))))
 
 specified_from : (p : Program) (b : BuildingOf) (x : Identifier) (k : FormalKind) (ty : Option SimType) (y : Fault) → Met p (Specified x k ty) b → (o : Option DeclNo) → found_in b.tables b.current x.name ≡ o → Among (specification_breaks b x.token k ty o) y → Breaks p First y
-specified_from p b x k ty y met None at h = subst (Breaks p First) (among_one h) (s4 (no_parameter met (ap (unspecified_at b.tables) at)))
+specified_from p b x k ty y met None at h = subst (Breaks p First) (among_one h) (s4 (disagrees_read p _ (no_parameter met (ap (unspecified_at b.tables) at))))
 specified_from p b x k ty y met (Some d) at h = go (unspecified_in (entry_of b.tables d)) refl h
   where
     go : (q : Option (Option WrittenMode)) → unspecified_in (entry_of b.tables d) ≡ q → Among (specification_breaks_of b x.token k ty d q) y → Breaks p First y
-    go None same j = subst (Breaks p First) (among_one j) (s4 (no_parameter met (ap (unspecified_at b.tables) at ∙ same)))
+    go None same j = subst (Breaks p First) (among_one j) (s4 (disagrees_read p _ (no_parameter met (ap (unspecified_at b.tables) at ∙ same))))
     go (Some w) same j =
         let there : unspecified_there b x.name ≡ Some w = ap (unspecified_at b.tables) at ∙ same in
         elim (among_either (written_breaks k ty w) (where_true (is_procedure k && in_class b) (token_in (slice_get b.tables.declarations d.0)) r.ModeNotAllowed) y j) [
           | inl l ↦ written_from p b x k ty y met w there l
           | inr l ↦ (let t = from_test (is_procedure k && in_class b) (token_in (slice_get b.tables.declarations d.0)) r.ModeNotAllowed y l in
-              subst (Breaks p First) t.1 (s5 (procedure_of_class met at there (and_first (is_procedure k) (in_class b) t.0) (and_second (is_procedure k) (in_class b) t.0))))
+              subst (Breaks p First) t.1 (s5 (modes_read p _ (procedure_of_class met at there (and_first (is_procedure k) (in_class b) t.0) (and_second (is_procedure k) (in_class b) t.0)))))
         ]
 
 headed_from : (p : Program) (b : BuildingOf) (x : Identifier) (y : Fault) → Met p (Headed x) b → (q : Option (Option WrittenMode)) → unspecified_there b x.name ≡ q → Among (heading_breaks x.token q) y → Breaks p First y
 headed_from p b x y met None at h = elim h [ ]
-headed_from p b x y met (Some w) at h = subst (Breaks p First) (among_one h) (s4 (no_specification met at))
+headed_from p b x y met (Some w) at h = subst (Breaks p First) (among_one h) (s4 (disagrees_read p _ (no_specification met at)))
 
 -- ---- `inner`
 
 inner_in_from : (p : Program) (b : BuildingOf) (token : ℕ) (row : BlockOf) (y : Fault) → Met p (Inner token) b → IsOpen b row → (o : Option ℕ) → row.inner ≡ o → Among (inner_breaks_in token o) y → Breaks p First y
 inner_in_from p b token row y met opened None at h = elim h [ ]
-inner_in_from p b token row y met opened (Some other) at h = subst (Breaks p First) (among_one h) (s6 (second_one met opened at))
+inner_in_from p b token row y met opened (Some other) at h = subst (Breaks p First) (among_one h) (s6 (inner_read p _ (second_one met opened at)))
 
 inner_row_from : (p : Program) (b : BuildingOf) (token block : ℕ) (y : Fault) → Met p (Inner token) b → b.current ≡ Some block → (o : Option BlockOf) → slice_get b.tables.blocks block ≡ o → Among (inner_breaks_of token o) y → Breaks p First y
 inner_row_from p b token block y met current None at h = elim h [ ]
@@ -143,7 +145,7 @@ mark_from : (p : Program) (m : Mark) (b : BuildingOf) (y : Fault) → Met p m b 
 unfolding breaks
 mark_from p (Opens k text first) b y met h =
     let level : ℕ = level_in k (block_around b.tables b.current) in
-    let t = from_test (nat_lt most_levels level) text r.TooManyLevels y h in subst (Breaks p First) t.1 (l1 (too_deep met (less most_levels level t.0)))
+    let t = from_test (nat_lt most_levels level) text r.TooManyLevels y h in subst (Breaks p First) t.1 (l1 (levels_read p _ (too_deep met (less most_levels level t.0))))
 mark_from p (Closes end) b y met h = elim h [ ]
 mark_from p (Declares x e) b y met h = declaration_from p (Declares x e) b x e met as_itself y b.current refl h
 mark_from p (DeclaresProcedure x result) b y met h = declaration_from p (DeclaresProcedure x result) b x (entry.Procedure result (length b.tables.blocks)) met as_procedure y b.current refl h
@@ -161,7 +163,7 @@ mark_from p (Inner token) b y met h = inner_from p b token y met b.current refl 
 mark_from p (BreaksMark token rule) b y met h =
     let same : rule ≡ r.InnerOutOfPlace = only_inner p met.before met.behind token rule met.all in
     let there : Met p (BreaksMark token r.InnerOutOfPlace) b = subst (λ z. Met p (BreaksMark token z) b) same met in
-    subst (Breaks p First) (ap (fault token) (sym same) ∙ among_one h) (s6 (elsewhere there))
+    subst (Breaks p First) (ap (fault token) (sym same) ∙ among_one h) (s6 (inner_read p _ (elsewhere there)))
 
 declarations_from : (p : Program) (y : Fault) → Among (broken_by p) y → Breaks p First y
 unfolding broken_by
@@ -370,12 +372,12 @@ counted_at : (p : Program) (token : ℕ) → TooManyDeclarations p token → Amo
 counted_at p _ (one_more {m = m} {front = b} {x = x} met new many) = met_breaks p m b (fault x.token.0 r.TooManyDeclarations) met (counted_to m b x new many)
 
 pub first_broken : (p : Program) (y : Fault) → Breaks p First y → Among (broken_by p) y ⊎ Among (prefix_faults (with_prefixes p)) y
-first_broken p _ (s1 {token = t} h) = inl (double_at p t h)
+first_broken p _ (s1 {token = t} h) = inl (double_at p t (twice_built p t h))
 first_broken p _ (s2 {token = t} h) = inr (prefix_to p t h)
 first_broken p _ (s3 {token = t} h) = inr (cycle_to p t h)
-first_broken p _ (s4 {token = t} h) = inl (disagrees_to p t h)
-first_broken p _ (s5 {token = t} h) = inl (modes_to p t h)
-first_broken p _ (s6 {token = t} h) = inl (inner_to p t h)
-first_broken p _ (l1 {token = t} h) = inl (levels_to p t h)
+first_broken p _ (s4 {token = t} h) = inl (disagrees_to p t (disagrees_built p t h))
+first_broken p _ (s5 {token = t} h) = inl (modes_to p t (modes_built p t h))
+first_broken p _ (s6 {token = t} h) = inl (inner_to p t (inner_built p t h))
+first_broken p _ (l1 {token = t} h) = inl (levels_to p t (levels_built p t h))
 first_broken p _ (l2 {token = t} h) = inr (cells_to p t h)
-first_broken p _ (l3 {token = t} h) = inl (counted_at p t h)
+first_broken p _ (l3 {token = t} h) = inl (counted_at p t (many_built p t h))

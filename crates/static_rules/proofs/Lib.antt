@@ -1,7 +1,12 @@
+mod AfterMark
 pub mod Answers
+mod BeforePlace
 mod Bodies
+mod Chains
+mod Converting
 mod Expressions
 mod Firsts
+mod InFront
 pub mod Index
 mod LastBroken
 mod LastFound
@@ -9,6 +14,7 @@ mod Lasts
 mod Leasts
 mod Lists
 mod Marks
+mod Meeting
 mod Misfits
 mod Parts
 mod Seconds

@@ -1,105 +1,63 @@
 -- The rules of the first round, each a clause of its own: what declarations break, prefixes, and the number of cells.
-use Rattle.std.specs.Prelude.{◌≡◌, ◌<◌, ℕ, Bool, true, false, List, ◌∷◌, ◌++◌, length, Option, Some, None, slice_get}
-use Rattle.std.specs.List.{list_any}
-use Rattle.std.specs.Str.{bytes_eq}
-use Rattle.sim_base.specs.declared.numbering.DeclNo.{DeclNo}
+use Rattle.std.specs.Prelude.{◌≡◌, ◌<◌, ℕ, true, false, List, ◌∷◌, Option, Some, None, slice_get}
 use Rattle.sim_base.specs.declared.rule.Rule.TheVariants as r
 use Rattle.sim_tree.specs.declared.expr.Identifier.{Identifier}
 use Rattle.sim_tree.specs.Syntax.{Program}
 use Rattle.prefix_bind.specs.Cells.{most_cells}
 use Rattle.prefix_bind.specs.Prefixes.{has_broken_chain, is_in_own_chain, is_known, is_prefixed_block, level_cells, prefixed}
 use Rattle.sim_scope.specs.Access.{is_kind}
-use Rattle.sim_scope.specs.Building.{Breaks, BuildingOf, Declares, DeclaresClass, DeclaresProcedure, Headed, Inner, Mark, Moded, Opens, Parameter, Specified, block_around, found_in, in_class, is_by_name, is_match, is_procedure, level_in, marked, mode_allowed, most_declarations, most_levels, token_in, unspecified_at}
-use Rattle.sim_scope.specs.Declare.{declared_by, declaring, empty}
+use Rattle.sim_scope.specs.Building.{Breaks, Headed, Inner, Mark, Moded, Opens, Specified, is_by_name, is_class, is_procedure, mode_allowed, most_declarations, most_levels}
+use Rattle.sim_scope.specs.Declare.{declared_by}
 use Rattle.sim_scope.specs.Levels.{is_standard_class, some_level}
-use Rattle.sim_scope.specs.Runs.{run}
-use Rattle.sim_scope.specs.Scopes.{declared_in, entry_of}
 use Rattle.sim_scope.specs.Tables.{BlockOf, Tables}
-use Rattle.sim_scope.specs.Walk.{program_events}
 use Rattle.sim_scope.specs.declared.types.BlockKind.{BlockKind}
 use Rattle.sim_scope.specs.declared.types.Entry.{Entry}
-use Rattle.sim_scope.specs.declared.types.Entry.TheVariants as entry
 use Rattle.sim_scope.specs.declared.types.FormalKind.{FormalKind}
 use Rattle.sim_scope.specs.declared.types.Mode.{Mode}
 use Rattle.sim_scope.specs.declared.types.SimType.{SimType}
 use Rattle.sim_scope.specs.declared.types.WrittenMode.{WrittenMode}
+use Rattle.static_rules.specs.Reading.{IsDeclared, Met, OpenBlock, Reading, Unspecified, double_in, inner_in, is_in_class, level_inside, new_in, standing, unspecified_in}
 
--- Something that is met in the text of a program, and the tables of the text in front of it.
-pub record Met (p : Program) (m : Mark) (front : BuildingOf) : Type 0 where
-  pub before : List Mark
-  pub behind : List Mark
-  pub all : program_events declaring p ≡ before ++ m ∷ behind
-  pub known : front ≡ run marked empty before
-
--- the innermost block that is open there, with what it has declared so far
-pub record IsOpen (front : BuildingOf) (row : BlockOf) : Type 0 where
-  pub block : ℕ
-  pub current : front.current ≡ Some block
-  pub is : slice_get front.tables.blocks block ≡ Some row
-
--- an identifier that is declared, and as what
-pub data IsDeclared (front : BuildingOf) : Mark → Identifier → Entry → Type 0 where
-  as_itself : {x : Identifier} {e : Entry} → IsDeclared front (Declares x e) x e
-  as_procedure : {x : Identifier} {result : Option SimType} → IsDeclared front (DeclaresProcedure x result) x (entry.Procedure result (length front.tables.blocks))
-  as_class : {x : Identifier} → IsDeclared front (DeclaresClass x) x (entry.Class (length front.tables.blocks))
-  as_parameter : {x : Identifier} → IsDeclared front (Parameter x) x (entry.Unspecified None)
-
--- whether a block has declared an identifier of this name
-abbrev pub has_name : BlockOf → List ℕ → Bool
-has_name row name = list_any (bytes_eq name) row.names
-
--- whether a declaration is a procedure that matches the virtual of its name in the same block, which has no match yet
-abbrev pub matches : BuildingOf → Entry → Option DeclNo → Bool
-matches front e None = false
-matches front e (Some d) = is_match e (entry_of front.tables d)
-
-abbrev pub is_its_match : BuildingOf → BlockOf → List ℕ → Entry → Bool
-is_its_match front row name e = matches front e (declared_in (Some row) name)
-
--- an identifier that its block has declared in front of it; a virtual and its match are no double
-pub data IsDouble (front : BuildingOf) (m : Mark) (x : Identifier) : Type 0 where
-  double : {e : Entry} {row : BlockOf} → IsDeclared front m x e → IsOpen front row → has_name row x.name ≡ true → is_its_match front row x.name e ≡ false → IsDouble front m x
-
--- one that it has not declared, or a match
-pub data IsNew (front : BuildingOf) (m : Mark) (x : Identifier) : Type 0 where
-  first_one : {e : Entry} {row : BlockOf} → IsDeclared front m x e → IsOpen front row → has_name row x.name ≡ false → IsNew front m x
-  match : {e : Entry} {row : BlockOf} → IsDeclared front m x e → IsOpen front row → has_name row x.name ≡ true → is_its_match front row x.name e ≡ true → IsNew front m x
-
--- S1, at the later identifier
+-- S1, at the later identifier of one block, class level or formal list
 pub data DeclaredTwice (p : Program) : (token : ℕ) → Type 0 where
-  declared_twice : {m : Mark} {front : BuildingOf} {x : Identifier} → Met p m front → IsDouble front m x → DeclaredTwice p x.token.0
+  declared_twice : {m : Mark} {front : Reading} {x : Identifier} {e : Entry} → Met p m front → IsDeclared m x e → double_in front.blocks x.name e ≡ true
+      → DeclaredTwice p x.token.0
 
 -- L3, at the identifier with as many in front of it as a program may declare
 pub data TooManyDeclarations (p : Program) : (token : ℕ) → Type 0 where
-  one_more : {m : Mark} {front : BuildingOf} {x : Identifier} → Met p m front → IsNew front m x → front.own ≡ most_declarations → TooManyDeclarations p x.token.0
+  one_more : {m : Mark} {front : Reading} {x : Identifier} {e : Entry} → Met p m front → IsDeclared m x e → new_in front.blocks x.name e ≡ true
+      → front.count ≡ most_declarations → TooManyDeclarations p x.token.0
 
 -- L1, at the first token of a block, a procedure or a class at a level past the last one
 pub data TooManyLevels (p : Program) : (token : ℕ) → Type 0 where
-  too_deep : {k : BlockKind} {text first : ℕ} {front : BuildingOf} → Met p (Opens k text first) front → most_levels < level_in k (block_around front.tables front.current) → TooManyLevels p text
-
--- A parameter of the heading that no specification has named yet, with the mode that is written for it.
-abbrev pub unspecified_there : BuildingOf → List ℕ → Option (Option WrittenMode)
-unspecified_there front name = unspecified_at front.tables (found_in front.tables front.current name)
+  too_deep : {k : BlockKind} {text first : ℕ} {front : Reading} → Met p (Opens k text first) front → most_levels < level_inside k front.blocks → TooManyLevels p text
 
 -- S4, at an identifier that is specified and is no parameter, or is specified before; and at a parameter without a specification
 pub data SpecificationDisagrees (p : Program) : (token : ℕ) → Type 0 where
-  no_parameter : {x : Identifier} {k : FormalKind} {ty : Option SimType} {front : BuildingOf} → Met p (Specified x k ty) front → unspecified_there front x.name ≡ None → SpecificationDisagrees p x.token.0
-  no_specification : {x : Identifier} {mode : Option WrittenMode} {front : BuildingOf} → Met p (Headed x) front → unspecified_there front x.name ≡ Some mode → SpecificationDisagrees p x.token.0
+  no_parameter : {x : Identifier} {k : FormalKind} {ty : Option SimType} {front : Reading} → Met p (Specified x k ty) front
+      → unspecified_in front.blocks x.name ≡ None → SpecificationDisagrees p x.token.0
+  no_specification : {x : Identifier} {mode : Option WrittenMode} {front : Reading} → Met p (Headed x) front
+      → unspecified_in front.blocks x.name ≡ Some mode → SpecificationDisagrees p x.token.0
 
 -- S5, at an identifier of the mode part that is no parameter, or that it names before, or by name in a class, or whose kind and type may not be
 -- passed so; and at the parameter of a class that is a procedure
 pub data ModeNotAllowed (p : Program) : (token : ℕ) → Type 0 where
-  of_no_parameter : {x : Identifier} {m : Mode} {front : BuildingOf} → Met p (Moded x m) front → unspecified_there front x.name ≡ None → ModeNotAllowed p x.token.0
-  twice : {x : Identifier} {m : Mode} {front : BuildingOf} {w : WrittenMode} → Met p (Moded x m) front → unspecified_there front x.name ≡ Some (Some w) → ModeNotAllowed p x.token.0
-  by_name_in_class : {x : Identifier} {m : Mode} {front : BuildingOf} → Met p (Moded x m) front → unspecified_there front x.name ≡ Some None → is_by_name m ≡ true → in_class front ≡ true → ModeNotAllowed p x.token.0
-  not_so : {x : Identifier} {k : FormalKind} {ty : Option SimType} {front : BuildingOf} {w : WrittenMode} → Met p (Specified x k ty) front → unspecified_there front x.name ≡ Some (Some w) → mode_allowed w.mode k ty ≡ false → ModeNotAllowed p w.token.0
-  procedure_of_class : {x : Identifier} {k : FormalKind} {ty : Option SimType} {front : BuildingOf} {d : DeclNo} {mode : Option WrittenMode} → Met p (Specified x k ty) front
-      → found_in front.tables front.current x.name ≡ Some d → unspecified_there front x.name ≡ Some mode → is_procedure k ≡ true → in_class front ≡ true → ModeNotAllowed p (token_in (slice_get front.tables.declarations d.0))
+  of_no_parameter : {x : Identifier} {m : Mode} {front : Reading} → Met p (Moded x m) front → unspecified_in front.blocks x.name ≡ None
+      → ModeNotAllowed p x.token.0
+  twice : {x : Identifier} {m : Mode} {front : Reading} {w : WrittenMode} → Met p (Moded x m) front
+      → unspecified_in front.blocks x.name ≡ Some (Some w) → ModeNotAllowed p x.token.0
+  by_name_in_class : {x : Identifier} {m : Mode} {front : Reading} → Met p (Moded x m) front → unspecified_in front.blocks x.name ≡ Some None
+      → is_by_name m ≡ true → is_in_class front.blocks ≡ true → ModeNotAllowed p x.token.0
+  not_so : {x : Identifier} {k : FormalKind} {ty : Option SimType} {front : Reading} {w : WrittenMode} → Met p (Specified x k ty) front
+      → unspecified_in front.blocks x.name ≡ Some (Some w) → mode_allowed w.mode k ty ≡ false → ModeNotAllowed p w.token.0
+  procedure_of_class : {x : Identifier} {k : FormalKind} {ty : Option SimType} {front : Reading} {o : OpenBlock} {os : List OpenBlock} {token : ℕ}
+      {mode : Option WrittenMode} → Met p (Specified x k ty) front → front.blocks ≡ o ∷ os → standing o x.name ≡ Unspecified token mode
+      → is_procedure k ≡ true → is_class o.kind ≡ true → ModeNotAllowed p token
 
 -- S6, at a second `inner` in the statement list of the body of a class, and at one elsewhere
 pub data InnerOutOfPlace (p : Program) : (token : ℕ) → Type 0 where
-  second_one : {token other : ℕ} {front : BuildingOf} {row : BlockOf} → Met p (Inner token) front → IsOpen front row → row.inner ≡ Some other → InnerOutOfPlace p token
-  elsewhere : {token : ℕ} {front : BuildingOf} → Met p (Breaks token r.InnerOutOfPlace) front → InnerOutOfPlace p token
+  second_one : {token : ℕ} {front : Reading} → Met p (Inner token) front → inner_in front.blocks ≡ true → InnerOutOfPlace p token
+  elsewhere : {token : ℕ} {front : Reading} → Met p (Breaks token r.InnerOutOfPlace) front → InnerOutOfPlace p token
 
 -- the tables with the class of each prefix
 abbrev pub with_prefixes : Program → Tables
@@ -108,14 +66,18 @@ with_prefixes p = prefixed (declared_by p).tables
 -- S2, at a prefix that is no class of the block around, nor one of the standard ones that is seen there; and at the prefix of a block which is
 -- `linkage` of `simset`, or has a class of `simset` among its levels
 pub data PrefixIsNoClass (p : Program) : (token : ℕ) → Type 0 where
-  no_class : (block : ℕ) {row : BlockOf} {x : Identifier} → slice_get (with_prefixes p).blocks block ≡ Some row → row.prefix ≡ Some x → is_known row ≡ false → PrefixIsNoClass p x.token.0
-  class_of_sets : (block : ℕ) {base : ℕ} {row : BlockOf} {x : Identifier} → slice_get (with_prefixes p).blocks block ≡ Some row → row.prefix ≡ Some x → is_prefixed_block row.kind ≡ true
-      → row.base ≡ Some base → some_level (with_prefixes p) (is_kind is_standard_class (with_prefixes p)) base ≡ true → PrefixIsNoClass p x.token.0
+  no_class : (block : ℕ) {row : BlockOf} {x : Identifier} → slice_get (with_prefixes p).blocks block ≡ Some row → row.prefix ≡ Some x
+      → is_known row ≡ false → PrefixIsNoClass p x.token.0
+  class_of_sets : (block : ℕ) {base : ℕ} {row : BlockOf} {x : Identifier} → slice_get (with_prefixes p).blocks block ≡ Some row
+      → row.prefix ≡ Some x → is_prefixed_block row.kind ≡ true → row.base ≡ Some base
+      → some_level (with_prefixes p) (is_kind is_standard_class (with_prefixes p)) base ≡ true → PrefixIsNoClass p x.token.0
 
 -- S3, at the identifier of a class that is one of the levels of its own prefix
 pub data ClassInItsOwnChain (p : Program) : (token : ℕ) → Type 0 where
-  in_a_cycle : (block : ℕ) {row : BlockOf} → slice_get (with_prefixes p).blocks block ≡ Some row → is_in_own_chain (with_prefixes p) block ≡ true → ClassInItsOwnChain p row.first
+  in_a_cycle : (block : ℕ) {row : BlockOf} → slice_get (with_prefixes p).blocks block ≡ Some row → is_in_own_chain (with_prefixes p) block ≡ true
+      → ClassInItsOwnChain p row.first
 
 -- L2, at the identifier of a class or procedure, or at `begin`, whose instances have too many cells, where no level breaks S2 or S3
 pub data TooManyCells (p : Program) : (token : ℕ) → Type 0 where
-  too_large : (block : ℕ) {row : BlockOf} → slice_get (with_prefixes p).blocks block ≡ Some row → most_cells < level_cells (with_prefixes p) block → has_broken_chain (with_prefixes p) block ≡ false → TooManyCells p row.first
+  too_large : (block : ℕ) {row : BlockOf} → slice_get (with_prefixes p).blocks block ≡ Some row
+      → most_cells < level_cells (with_prefixes p) block → has_broken_chain (with_prefixes p) block ≡ false → TooManyCells p row.first

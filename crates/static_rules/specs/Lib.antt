@@ -4,6 +4,7 @@ pub mod Index
 pub mod Judgements
 pub mod LastRound
 pub mod LeftSides
+pub mod Reading
 pub mod Rules
 pub mod SecondRound
 pub mod Types

@@ -29,22 +29,26 @@ pub data IsNoQualification (s : Tables) : Option Denotation → Type 0 where
   not_declared : IsNoQualification s None
   standard_name : {name : StandardName} → IsNoQualification s (Some (denotation.Standard name))
   no_class : {d : DeclNo} → class_block s d ≡ None → IsNoQualification s (Some (denotation.Declared d))
-  only_for_prefixing : {d : DeclNo} {block : ℕ} → class_block s d ≡ Some block → is_for_prefixing s block ≡ true → IsNoQualification s (Some (denotation.Declared d))
+  only_for_prefixing : {d : DeclNo} {block : ℕ} → class_block s d ≡ Some block → is_for_prefixing s block ≡ true
+      → IsNoQualification s (Some (denotation.Declared d))
 
 -- S7, at the identifier in `ref( )`
 pub data QualificationIsNoClass (p : Program) : (token : ℕ) → Type 0 where
-  of_references : (i : ℕ) {q : Qualification} → slice_get (whole_tables p).qualifications i ≡ Some q → IsNoQualification (whole_tables p) (binding (whole_tables p) q.class.token.0 q.class.name) → QualificationIsNoClass p q.class.token.0
+  of_references : (i : ℕ) {q : Qualification} → slice_get (whole_tables p).qualifications i ≡ Some q
+      → IsNoQualification (whole_tables p) (binding (whole_tables p) q.class.token.0 q.class.name) → QualificationIsNoClass p q.class.token.0
 
 -- What is no match of a virtual: what is no procedure, and a procedure whose result has another type, or is no reference to that class or a subclass.
 pub data IsNoMatch (s : Tables) (virtual : Option Entry) : Entry → Type 0 where
   no_procedure : {e : Entry} → is_procedure e ≡ false → IsNoMatch s virtual e
-  other_result : {result : Option SimType} {block : ℕ} → results_fit s (result_in virtual) result ≡ false → IsNoMatch s virtual (entry.Procedure result block)
+  other_result : {result : Option SimType} {block : ℕ} → results_fit s (result_in virtual) result ≡ false
+      → IsNoMatch s virtual (entry.Procedure result block)
 
 -- S8, at the identifier of a declaration that has the name of a virtual of its level or one outside. What `simset` and `simulation` declare is no
 -- such declaration.
 pub data MatchDoesNotFit (p : Program) : (token : ℕ) → Type 0 where
-  of_virtual : (i : ℕ) {row : Declaration} {virtual : DeclNo} → slice_get (whole_tables p).declarations i ≡ Some row → (row.listed || is_procedure row.entry) ≡ true
-      → virtual_for (whole_tables p) row ≡ Some virtual → IsNoMatch (whole_tables p) (entry_of (whole_tables p) virtual) row.entry → MatchDoesNotFit p row.token.0
+  of_virtual : (i : ℕ) {row : Declaration} {virtual : DeclNo} → slice_get (whole_tables p).declarations i ≡ Some row
+      → (row.listed || is_procedure row.entry) ≡ true → virtual_for (whole_tables p) row ≡ Some virtual
+      → IsNoMatch (whole_tables p) (entry_of (whole_tables p) virtual) row.entry → MatchDoesNotFit p row.token.0
 
 -- Why an attribute may not stand in a protection part: it is protected and its level does not declare it; it is hidden and no level, from that one
 -- outward, protects it; or a level outside hides it already.
@@ -56,4 +60,5 @@ pub data IsNotProtected (s : Tables) (q : Protection) : Type 0 where
 
 -- S9, at the identifier in the protection part
 pub data ProtectionOfNoAttribute (p : Program) : (token : ℕ) → Type 0 where
-  in_protection : (i : ℕ) {q : Protection} → slice_get (whole_tables p).protections i ≡ Some q → IsNotProtected (whole_tables p) q → ProtectionOfNoAttribute p q.attribute.token.0
+  in_protection : (i : ℕ) {q : Protection} → slice_get (whole_tables p).protections i ≡ Some q → IsNotProtected (whole_tables p) q
+      → ProtectionOfNoAttribute p q.attribute.token.0
