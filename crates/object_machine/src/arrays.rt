@@ -15,6 +15,7 @@ ghost use Rattle.frame_arena.specs.Slots.{count_of, value_of};
 ghost use Rattle.sim_code.specs.Outcome.{ArrayOf};
 ghost use Rattle.frame_arena.specs.Stacks.{integers_from, slot_at, values_of};
 ghost use Rattle.object_machine.specs.Arrayed.{value_there};
+ghost use Rattle.object_machine.specs.Placed.{Stays};
 ghost use Rattle.object_machine.specs.Standing.{Advances, HasImages, Leaves, Obeys, Outside, Stands, Untouched, activation_at, below_of};
 ghost use Rattle.sim_base.specs.declared.limits.Limits.{Limits as LimitsOf};
 ghost use Rattle.object_machine.specs.declared.machine.Storage.{Storage as StorageOf};
@@ -44,6 +45,7 @@ pub fn element_address(
     requires fits { regs.old.depth ≤ length stack.old }
     requires short { regs.old.pc + 1 < 2 ^ 64 }
     ensures fits { regs.new.depth ≤ length stack.new }
+    ensures stays { Stays regs.old regs.new }
     ensures next { Advances result regs.old regs.new }
     ensures row { (l : Limits) (line : ℕ) (p : Storage) (below : List Activation) (now : Outside) → p.arrays ≡ arrays.now →
         Obeys result l line (λ o m a b. index_of count o (λ n. finding_element plain array_in n line a.stack o (λ array k st. on o m a (Address (ElementPlace array k class) ∷ st) b))) p p regs.old regs.new stack.old stack.new below below now now }
@@ -91,6 +93,7 @@ pub fn fetch(
     requires fits { regs.old.depth ≤ length stack.old }
     requires short { regs.old.pc + 1 < 2 ^ 64 }
     ensures fits { regs.new.depth ≤ length stack.new }
+    ensures stays { Stays regs.old regs.new }
     ensures next { Advances result regs.old regs.new }
     ensures row { (l : Limits) (line : ℕ) (p : Storage) (below : List Activation) (now : Outside) → p.frames.items ≡ frames.now → p.cells.items ≡ cells.now → p.arrays ≡ arrays.now → p.image ≡ images.now →
         Obeys result l line (λ o m a b. popping a.stack o (λ v st. having (place_in v) o (λ place. having (value_at_place o m place) o (λ v. on o m a (v ∷ st) b)))) p p regs.old regs.new stack.old stack.new below below now now }
@@ -253,6 +256,7 @@ pub fn put_down(
 ) -> Flow
     requires short { regs.old.pc + 1 < 2 ^ 64 }
     ensures fits { (room : ℕ) → regs.old.depth ≤ room → at ≤ room → regs.new.depth ≤ room }
+    ensures stays { Stays regs.old regs.new }
     ensures valid { HasImages storage.old.texts storage.old.image → HasImages storage.new.texts storage.new.image }
     ensures frames { storage.new.frames ≡ storage.old.frames }
     ensures next { Advances result regs.old regs.new }
@@ -277,6 +281,7 @@ pub fn put(storage: &mut Storage, stack: &[Slot], regs: &mut Registers) -> Optio
     requires fits { regs.old.depth ≤ length stack.now }
     requires short { regs.old.pc + 1 < 2 ^ 64 }
     ensures fits { regs.new.depth ≤ length stack.now }
+    ensures stays { Stays regs.old regs.new }
     ensures valid { HasImages storage.old.texts storage.old.image → HasImages storage.new.texts storage.new.image }
     ensures frames { storage.new.frames ≡ storage.old.frames }
     ensures other { Untouched result storage.old storage.new regs.old regs.new stack.now stack.now }

@@ -14,6 +14,7 @@ ghost use Rattle.frame_arena.specs.Arrays.{AllLeadArrays, RegionOf, SlotLeadsArr
 ghost use Rattle.frame_arena.specs.Frames.{AllLead, SlotLeads};
 ghost use Rattle.sim_code.specs.Outcome.{ArrayOf};
 ghost use Rattle.object_machine.specs.Arrayed.{is_unqualified};
+ghost use Rattle.object_machine.specs.Placed.{Stays};
 ghost use Rattle.object_machine.specs.Standing.{Advances, Obeys, Outside, SameBut, Untouched};
 
 use crate::constants::index;
@@ -43,6 +44,7 @@ pub fn link(frames: &[Frame], stack: &mut [Slot], regs: &mut Registers, level: i
     requires fits { regs.old.depth ≤ length stack.old }
     requires short { regs.old.pc + 1 < 2 ^ 64 }
     ensures fits { regs.new.depth ≤ length stack.new }
+    ensures stays { Stays regs.old regs.new }
     ensures next { Advances result regs.old regs.new }
     ensures row { (l : Limits) (line : ℕ) (p : Storage) (below : List Activation) (now : Outside) → p.frames.items ≡ frames.now →
         Obeys result l line (λ o m a b. at_level_of m a level o (λ j. pushed o m a b (LinkTo j))) p p regs.old regs.new stack.old stack.new below below now now }
@@ -70,6 +72,23 @@ pub fn level_span(frames: &[Frame], own: Span, home: FrameRef, operand: i64) -> 
     frames::span_at_level(frames, own, home, level)
 }
 
+/// The span of the frame of a level, which is mostly that at work.
+#[inline(always)]
+pub fn near_span(frames: &[Frame], home: FrameRef, operand: i64) -> Option<Span>
+    ensures span { IfSome result (λ s. IsSpan frames.now s) }
+    ensures row { (cells : List Slot) (m : Frames) (a : ActivationOf) (o : World) (go : ℕ → Run Machine) → Holds frames.now cells m → Leads frames.now m home → a.home ≡ home.stamp →
+        at_level_of m a operand o go ≡ having (span_number result) o go }
+{
+    if let Some(_place) = frames::find(frames, home) {
+        let own = frames::span_at(frames, home.frame);
+        return level_span(frames, own, home, operand);
+    }
+    let Some(frame) = level_frame(frames, home, operand) else {
+        return None;
+    };
+    Some(frames::span_at(frames, frame.frame))
+}
+
 /// Pushes the value of a cell. `own` is the span of some frame.
 #[inline(always)]
 pub fn load(
@@ -85,6 +104,7 @@ pub fn load(
     requires fits { regs.old.depth ≤ length stack.old }
     requires short { regs.old.pc + 1 < 2 ^ 64 }
     ensures fits { regs.new.depth ≤ length stack.new }
+    ensures stays { Stays regs.old regs.new }
     ensures next { Advances result regs.old regs.new }
     ensures row { (l : Limits) (line : ℕ) (p : Storage) (below : List Activation) (now : Outside) → p.frames.items ≡ frames.now → p.cells.items ≡ cells.now →
         Obeys result l line (λ o m a b. cell_at m a level cell o (λ j c. having (cell_value_of m j c) o (λ v. pushed o m a b v))) p p regs.old regs.new stack.old stack.new below below now now }
@@ -130,6 +150,7 @@ pub fn store(
     requires fits { regs.old.depth ≤ length stack.now }
     requires short { regs.old.pc + 1 < 2 ^ 64 }
     ensures fits { regs.new.depth ≤ length stack.now }
+    ensures stays { Stays regs.old regs.new }
     ensures next { Advances result regs.old regs.new }
     ensures row { (l : Limits) (line : ℕ) (p p2 : Storage) (below : List Activation) (now : Outside) → SameBut p p2 → p.frames.items ≡ frames.now → p.cells.items ≡ cells.old → p2.cells.items ≡ cells.new →
         Obeys result l line (λ o m a b. popping a.stack o (λ v s. cell_at m a level cell o (λ j c. having (cell_set m j c v) o (λ m. on o m a s b)))) p p2 regs.old regs.new stack.now stack.now below below now now }
@@ -218,6 +239,7 @@ pub fn plain_address(
     requires fits { regs.old.depth ≤ length stack.old }
     requires short { regs.old.pc + 1 < 2 ^ 64 }
     ensures fits { regs.new.depth ≤ length stack.new }
+    ensures stays { Stays regs.old regs.new }
     ensures next { Advances result regs.old regs.new }
     ensures row { (l : Limits) (line : ℕ) (p : Storage) (below : List Activation) (now : Outside) → p.frames.items ≡ frames.now →
         Obeys result l line (λ o m a b. cell_at m a level cell o (λ j c. when (has_cell m j c) o (pushed o m a b (Address (CellPlace j c 0))))) p p regs.old regs.new stack.old stack.new below below now now }

@@ -4,6 +4,7 @@ ghost use Rattle.sim_code.specs.Code.{CodeOf};
 ghost use Rattle.sim_code.specs.Events.{choosing, having, pop_truth, ticking};
 ghost use Rattle.sim_code.specs.Machine.{Machine, at, is_tick as is_tick_in, jumping, on, plain};
 ghost use Rattle.sim_code.specs.Outcome.{Run, World};
+ghost use Rattle.object_machine.specs.Placed.{Stays};
 ghost use Rattle.object_machine.specs.Standing.{Advances, Obeys, Outside};
 
 use crate::constants::index;
@@ -17,6 +18,7 @@ use sim_code::{Instr, Lined};
 pub fn tick(limits: &Limits, storage: &mut Storage, regs: &mut Registers) -> Flow
     requires short { regs.old.pc + 1 < 2 ^ 64 }
     ensures depth { regs.new.depth ≡ regs.old.depth }
+    ensures stays { Stays regs.old regs.new }
     ensures texts { storage.new.texts ≡ storage.old.texts }
     ensures image { storage.new.image ≡ storage.old.image }
     ensures frames { storage.new.frames ≡ storage.old.frames }
@@ -67,6 +69,7 @@ fn is_tick(there: Lined) -> bool
 #[inline(always)]
 pub fn jump(instrs: &[Lined], regs: &mut Registers, operand: i64) -> Flow
     ensures depth { regs.new.depth ≡ regs.old.depth }
+    ensures stays { Stays regs.old regs.new }
     ensures next { Advances result regs.old regs.new }
     ensures row { (code : CodeOf) (l : Limits) (line : ℕ) (p : Storage) (stack : List Slot) (below : List Activation) (now : Outside) → code.instrs ≡ instrs.now →
         Obeys result l line (λ o m a b. jumping code a.pc operand o (λ q. at o m a q a.stack b)) p p regs.old regs.new stack stack below below now now }
@@ -84,6 +87,7 @@ pub fn jump_if_false(instrs: &[Lined], stack: &[Slot], regs: &mut Registers, ope
     requires fits { regs.old.depth ≤ length stack.now }
     requires short { regs.old.pc + 1 < 2 ^ 64 }
     ensures fits { regs.new.depth ≤ length stack.now }
+    ensures stays { Stays regs.old regs.new }
     ensures next { Advances result regs.old regs.new }
     ensures row { (code : CodeOf) (l : Limits) (line : ℕ) (p : Storage) (below : List Activation) (now : Outside) → code.instrs ≡ instrs.now →
         Obeys result l line (λ o m a b. pop_truth plain a.stack o (λ c stack. choosing c (on o m a stack b) (jumping code a.pc operand o (λ q. at o m a q stack b)))) p p regs.old regs.new stack.now stack.now below below now now }

@@ -18,6 +18,7 @@ ghost use Rattle.object_machine.specs.Named.{FlowEnds, InputEnds, Still};
 ghost use Rattle.object_machine.specs.Operands.{IsReady};
 ghost use Rattle.object_machine.specs.Running.{Onward};
 ghost use Rattle.object_machine.specs.Settled.{Follows, Settles, named};
+ghost use Rattle.object_machine.specs.Placed.{Stays};
 ghost use Rattle.object_machine.specs.Standing.{Advances, HasImages, Obeys, Outside, Untouched, outside, ports_in, ports_of};
 ghost use Rattle.object_machine.specs.Taking.{StepTakes};
 
@@ -259,6 +260,7 @@ fn whole_apart(
     requires short { regs.old.pc + 1 < 2 ^ 64 }
     requires images { HasImages storage.old.texts storage.old.image }
     ensures fits { regs.new.depth ≤ length stack.new }
+    ensures stays { Stays regs.old regs.new }
     ensures valid { HasImages storage.new.texts storage.new.image }
     ensures frames { storage.new.frames ≡ storage.old.frames }
     ensures next { Advances result regs.old regs.new }
@@ -292,6 +294,7 @@ pub fn plain_standard(
     requires fits { regs.old.depth ≤ length stack.old }
     requires short { regs.old.pc + 1 < 2 ^ 64 }
     ensures fits { regs.new.depth ≤ length stack.new }
+    ensures stays { Stays regs.old regs.new }
     ensures valid { HasImages storage.old.texts storage.old.image → HasImages storage.new.texts storage.new.image }
     ensures frames { storage.new.frames ≡ storage.old.frames }
     ensures next { Advances result regs.old regs.new }
@@ -316,6 +319,7 @@ pub fn quiet_standard(
     requires short { regs.old.pc + 1 < 2 ^ 64 }
     requires images { HasImages storage.old.texts storage.old.image }
     ensures fits { regs.new.depth ≤ length stack.new }
+    ensures stays { Stays regs.old regs.new }
     ensures valid { HasImages storage.new.texts storage.new.image }
     ensures frames { storage.new.frames ≡ storage.old.frames }
     ensures other { Untouched result storage.old storage.new regs.old regs.new stack.old stack.new }

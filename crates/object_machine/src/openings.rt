@@ -123,6 +123,10 @@ pub fn take_idle(
     let Some(mut stack) = idle.pop() else {
         return new_stack(alloc, room);
     };
+    if stack.len() == room {
+        stack.fill(EMPTY);
+        return Ok(stack);
+    }
     stack.clear();
     stack.resize(room, EMPTY)?;
     Ok(stack)

@@ -13,6 +13,7 @@ ghost use Rattle.frame_arena.specs.Operators.{IfDepth, is_on_texts, with_applied
 ghost use Rattle.frame_arena.specs.Slots.{value_of};
 ghost use Rattle.frame_arena.specs.Stacks.{with_values};
 ghost use Rattle.object_machine.specs.declared.machine.Storage.{Storage};
+ghost use Rattle.object_machine.specs.Placed.{Stays};
 ghost use Rattle.object_machine.specs.Standing.{Advances, Leaves, Obeys, Outside, Stands, activation_at, below_of};
 
 use crate::constants::{character, comparison, truth};
@@ -25,6 +26,7 @@ use sim_values::{Dyadic, Monadic};
 pub fn settle(regs: &mut Registers, depth: Option<usize>) -> Flow
     requires short { regs.old.pc + 1 < 2 ^ 64 }
     ensures fits { (room : ℕ) → regs.old.depth ≤ room → IfSome depth (λ n. n ≤ room) → regs.new.depth ≤ room }
+    ensures stays { Stays regs.old regs.new }
     ensures next { Advances result regs.old regs.new }
     ensures row { (l : Limits) (line : ℕ) (p : Storage) (below : List Activation) (before : Option (List ℕ)) (now : Outside) (o : World) (m : Frames) (stack stack2 : List Slot) →
         Stands l p regs.old stack below before now o m → length stack2 ≡ length stack → AllLead p.frames.items m stack2 → AllLeadArrays p.arrays.regions o.arrays stack2 →
@@ -43,6 +45,7 @@ pub fn settle(regs: &mut Registers, depth: Option<usize>) -> Flow
 pub fn settle_applied(regs: &mut Registers, applied: Applied) -> Flow
     requires short { regs.old.pc + 1 < 2 ^ 64 }
     ensures fits { (room : ℕ) → regs.old.depth ≤ room → IfDepth applied (λ n. n ≤ room) → regs.new.depth ≤ room }
+    ensures stays { Stays regs.old regs.new }
     ensures next { Advances result regs.old regs.new }
     ensures row { (l : Limits) (line : ℕ) (p : Storage) (below : List Activation) (before : Option (List ℕ)) (now : Outside) (o : World) (m : Frames) (stack stack2 : List Slot) →
         Stands l p regs.old stack below before now o m → length stack2 ≡ length stack → AllLead p.frames.items m stack2 → AllLeadArrays p.arrays.regions o.arrays stack2 →
@@ -65,6 +68,7 @@ pub fn push(stack: &mut [Slot], regs: &mut Registers, slot: Slot) -> Flow
     requires fits { regs.old.depth ≤ length stack.old }
     requires short { regs.old.pc + 1 < 2 ^ 64 }
     ensures fits { regs.new.depth ≤ length stack.new }
+    ensures stays { Stays regs.old regs.new }
     ensures next { Advances result regs.old regs.new }
     ensures row { (l : Limits) (line : ℕ) (p : Storage) (below : List Activation) (before : Option (List ℕ)) (now : Outside) (o : World) (m : Frames) →
         Stands l p regs.old stack.old below before now o m → SlotLeads p.frames.items m slot → SlotLeadsArray p.arrays.regions o.arrays slot →
@@ -80,6 +84,7 @@ pub fn push_integer(stack: &mut [Slot], regs: &mut Registers, value: i64) -> Flo
     requires fits { regs.old.depth ≤ length stack.old }
     requires short { regs.old.pc + 1 < 2 ^ 64 }
     ensures fits { regs.new.depth ≤ length stack.new }
+    ensures stays { Stays regs.old regs.new }
     ensures next { Advances result regs.old regs.new }
     ensures row { (l : Limits) (line : ℕ) (p : Storage) (below : List Activation) (now : Outside) →
         Obeys result l line (λ o m a b. pushed o m a b (Of (Integer value))) p p regs.old regs.new stack.old stack.new below below now now }
@@ -93,6 +98,7 @@ pub fn push_truth(stack: &mut [Slot], regs: &mut Registers, operand: i64) -> Flo
     requires fits { regs.old.depth ≤ length stack.old }
     requires short { regs.old.pc + 1 < 2 ^ 64 }
     ensures fits { regs.new.depth ≤ length stack.new }
+    ensures stays { Stays regs.old regs.new }
     ensures next { Advances result regs.old regs.new }
     ensures row { (l : Limits) (line : ℕ) (p : Storage) (below : List Activation) (now : Outside) →
         Obeys result l line (λ o m a b. having (truth_of operand) o (λ c. pushed o m a b (Of (Truth c)))) p p regs.old regs.new stack.old stack.new below below now now }
@@ -109,6 +115,7 @@ pub fn push_character(stack: &mut [Slot], regs: &mut Registers, operand: i64) ->
     requires fits { regs.old.depth ≤ length stack.old }
     requires short { regs.old.pc + 1 < 2 ^ 64 }
     ensures fits { regs.new.depth ≤ length stack.new }
+    ensures stays { Stays regs.old regs.new }
     ensures next { Advances result regs.old regs.new }
     ensures row { (l : Limits) (line : ℕ) (p : Storage) (below : List Activation) (now : Outside) →
         Obeys result l line (λ o m a b. having (code_of operand) o (λ c. pushed o m a b (Of (Character c)))) p p regs.old regs.new stack.old stack.new below below now now }
@@ -125,6 +132,7 @@ pub fn push_none(stack: &mut [Slot], regs: &mut Registers) -> Flow
     requires fits { regs.old.depth ≤ length stack.old }
     requires short { regs.old.pc + 1 < 2 ^ 64 }
     ensures fits { regs.new.depth ≤ length stack.new }
+    ensures stays { Stays regs.old regs.new }
     ensures next { Advances result regs.old regs.new }
     ensures row { (l : Limits) (line : ℕ) (p : Storage) (below : List Activation) (now : Outside) →
         Obeys result l line (λ o m a b. pushed o m a b (Of Nothing)) p p regs.old regs.new stack.old stack.new below below now now }
@@ -138,6 +146,7 @@ pub fn dup(stack: &mut [Slot], regs: &mut Registers) -> Flow
     requires fits { regs.old.depth ≤ length stack.old }
     requires short { regs.old.pc + 1 < 2 ^ 64 }
     ensures fits { regs.new.depth ≤ length stack.new }
+    ensures stays { Stays regs.old regs.new }
     ensures next { Advances result regs.old regs.new }
     ensures row { (l : Limits) (line : ℕ) (p : Storage) (below : List Activation) (now : Outside) →
         Obeys result l line (λ o m a b. popping a.stack o (λ v s. pushed o m a b v)) p p regs.old regs.new stack.old stack.new below below now now }
@@ -152,6 +161,7 @@ pub fn drop_top(stack: &[Slot], regs: &mut Registers) -> Flow
     requires fits { regs.old.depth ≤ length stack.now }
     requires short { regs.old.pc + 1 < 2 ^ 64 }
     ensures fits { regs.new.depth ≤ length stack.now }
+    ensures stays { Stays regs.old regs.new }
     ensures next { Advances result regs.old regs.new }
     ensures row { (l : Limits) (line : ℕ) (p : Storage) (below : List Activation) (now : Outside) →
         Obeys result l line (λ o m a b. popping a.stack o (λ v s. on o m a s b)) p p regs.old regs.new stack.now stack.now below below now now }
@@ -166,6 +176,7 @@ pub fn swap(stack: &mut [Slot], regs: &mut Registers) -> Flow
     requires fits { regs.old.depth ≤ length stack.old }
     requires short { regs.old.pc + 1 < 2 ^ 64 }
     ensures fits { regs.new.depth ≤ length stack.new }
+    ensures stays { Stays regs.old regs.new }
     ensures next { Advances result regs.old regs.new }
     ensures row { (l : Limits) (line : ℕ) (p : Storage) (below : List Activation) (now : Outside) →
         Obeys result l line (λ o m a b. popping a.stack o (λ y s. popping s o (λ x s. on o m a (x ∷ y ∷ s) b))) p p regs.old regs.new stack.old stack.new below below now now }
@@ -181,6 +192,7 @@ pub fn two(stack: &mut [Slot], regs: &mut Registers, op: Dyadic) -> Flow
     requires short { regs.old.pc + 1 < 2 ^ 64 }
     requires no_texts { is_on_texts op ≡ false }
     ensures fits { regs.new.depth ≤ length stack.new }
+    ensures stays { Stays regs.old regs.new }
     ensures next { Advances result regs.old regs.new }
     ensures row { (l : Limits) (line : ℕ) (p : Storage) (below : List Activation) (now : Outside) →
         Obeys result l line (λ o m a b. two_row o m a b line op) p p regs.old regs.new stack.old stack.new below below now now }
@@ -195,6 +207,7 @@ pub fn one(stack: &mut [Slot], regs: &mut Registers, op: Monadic) -> Flow
     requires fits { regs.old.depth ≤ length stack.old }
     requires short { regs.old.pc + 1 < 2 ^ 64 }
     ensures fits { regs.new.depth ≤ length stack.new }
+    ensures stays { Stays regs.old regs.new }
     ensures next { Advances result regs.old regs.new }
     ensures row { (l : Limits) (line : ℕ) (p : Storage) (below : List Activation) (now : Outside) →
         Obeys result l line (λ o m a b. one_row o m a b line op) p p regs.old regs.new stack.old stack.new below below now now }
@@ -209,6 +222,7 @@ pub fn relation(stack: &mut [Slot], regs: &mut Registers, operand: i64) -> Flow
     requires fits { regs.old.depth ≤ length stack.old }
     requires short { regs.old.pc + 1 < 2 ^ 64 }
     ensures fits { regs.new.depth ≤ length stack.new }
+    ensures stays { Stays regs.old regs.new }
     ensures next { Advances result regs.old regs.new }
     ensures row { (l : Limits) (line : ℕ) (p : Storage) (below : List Activation) (now : Outside) →
         Obeys result l line (λ o m a b. having (comparison_of operand) o (λ r. two_row o m a b line (Dyadic.Compare r))) p p regs.old regs.new stack.old stack.new below below now now }
@@ -225,6 +239,7 @@ pub fn step_test(stack: &mut [Slot], regs: &mut Registers) -> Flow
     requires fits { regs.old.depth ≤ length stack.old }
     requires short { regs.old.pc + 1 < 2 ^ 64 }
     ensures fits { regs.new.depth ≤ length stack.new }
+    ensures stays { Stays regs.old regs.new }
     ensures next { Advances result regs.old regs.new }
     ensures row { (l : Limits) (line : ℕ) (p : Storage) (below : List Activation) (now : Outside) →
         Obeys result l line (λ o m a b. testing_step plain line a.stack o (λ c s. on o m a (Of c ∷ s) b)) p p regs.old regs.new stack.old stack.new below below now now }

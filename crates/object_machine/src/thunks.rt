@@ -18,7 +18,7 @@ ghost use Rattle.object_machine.specs.Placing.{LeadsFrom};
 ghost use Rattle.object_machine.specs.Thunking.{AnswerLeads, Asked, FindsThunk, IsThunk, OpensThunk};
 
 use crate::actuals::give_parameter;
-use crate::cells::level_frame;
+use crate::cells::near_span;
 use crate::classes::{Qualification, qualify, stamp_of};
 use crate::constants::{index, truth};
 use crate::entering::cover;
@@ -115,13 +115,13 @@ fn named_thunk(storage: &Storage, home: FrameRef, level: i64, cell: i64) -> Opti
     ensures row { (l : LimitsOf) (before : Option (List ℕ)) (now : Outside) (o : World) (m : Frames) (a : ActivationOf) → Stores l storage.now before now o m → Leads storage.now.frames.items m home → a.home ≡ home.stamp →
         FindsThunk result storage.now.frames.items o m a level cell }
 {
-    let Some(frame) = level_frame(&storage.frames, home, level) else {
+    let Some(span) = near_span(&storage.frames, home, level) else {
         return None;
     };
     let Some(number) = index(cell) else {
         return None;
     };
-    let Some(slot) = frames::cell(&storage.frames, &storage.cells, frame, number) else {
+    let Some(slot) = frames::cell_in(&storage.cells, span, number) else {
         return None;
     };
     thunk_of(slot)

@@ -4,7 +4,7 @@ use Rattle.sim_code.specs.Machine.{Machine, cell, level, number, thunk_in}
 use Rattle.sim_code.specs.Outcome.{Run}
 use Rattle.frame_arena.specs.Frames.{Holds, Leads, SlotLeads}
 use Rattle.frame_arena.specs.Stacks.{slot_at}
-use Rattle.object_machine.proofs.Places.{Then, at_cell, has_leads, led_at, no_frame, no_number}
+use Rattle.object_machine.proofs.Places.{Then, at_cell, led_at, no_frame, no_number}
 use Rattle.object_machine.proofs.ThunkRows.{home_leads}
 use Rattle.object_machine.proofs.thunks.named_thunk.Goals as goal
 
@@ -36,12 +36,12 @@ returns-in_default-index c = record {
       let K : (ℕ × ℕ → Run Machine) → ℕ → ℕ → Run Machine = λ go j k. having (cell m j k) o (λ v. having (thunk_in v) o go) in
       let T : (ℕ × ℕ → Run Machine) → ℕ → Run Machine = λ go j. Then m a z w o (K go) j in
       let ecell : to_z w64 (of_z w64 w) ≡ w = search rules in
-      (tt, λ go. no_number m a z w o (K go) c.in-Some.frame.stamp (ap (λ z. level m a z o (T go)) (sym elevel) ∙ c.in-Some.ensures.row p.cells.items m a o (T go) h home ea) (c.in_default-index.ensures ∙ ap number ecell));
+      (tt, λ go. no_number m a z w o (K go) c.in-Some.span.number (ap (λ z. level m a z o (T go)) (sym elevel) ∙ c.in-Some.ensures.row p.cells.items m a o (T go) h home ea) (c.in_default-index.ensures ∙ ap number ecell));
 }
 
-pub returns-in_default-cell : goal.returns-in_default-cell
+pub returns-in_default-cell_in : goal.returns-in_default-cell_in
 unfolding having
-returns-in_default-cell c = record {
+returns-in_default-cell_in c = record {
   row = λ l before now o m a s led ea.
       let p = c.args.storage.now in
       let z = c.args.level in
@@ -52,12 +52,10 @@ returns-in_default-cell c = record {
       let K : (ℕ × ℕ → Run Machine) → ℕ → ℕ → Run Machine = λ go j k. having (cell m j k) o (λ v. having (thunk_in v) o go) in
       let T : (ℕ × ℕ → Run Machine) → ℕ → Run Machine = λ go j. Then m a z w o (K go) j in
       let ecell : to_z w64 (of_z w64 w) ≡ w = search rules in
-      let f = c.in-Some.frame in
+      let f = c.in-Some.span in
       let k = c.in-Some-index.number in
-      let there : Leads c.deref.result.now m f = has_leads c.deref.result.now p.cells.items m f h c.in-Some.ensures.there in
-      let h2 : Holds c.deref-2.result.now c.deref-3.result.now m = subst (λ x. Holds x c.deref-3.result.now m) (sym c.deref-2.ensures.value) (subst (λ x. Holds p.frames.items x m) (sym c.deref-3.ensures.value) s.frames) in
-      let there2 : Leads c.deref-2.result.now m f = subst (λ x. Leads x m f) (sym c.deref-2.ensures.value) (subst (λ x. Leads x m f) c.deref.ensures.value there) in
-      (tt, λ go. at_cell m a z w o (K go) f.stamp k (ap (λ z. level m a z o (T go)) (sym elevel) ∙ c.in-Some.ensures.row p.cells.items m a o (T go) h home ea) (c.in-Some-index.ensures ∙ ap number ecell) ∙ ap (λ q. having q o (λ v. having (thunk_in v) o go)) (sym (c.in_default-cell.ensures.value m h2 there2)));
+      let h2 : Holds c.deref.result.now c.deref-2.result.now m = subst (λ x. Holds c.deref.result.now x m) (sym c.deref-2.ensures.value) h in
+      (tt, λ go. at_cell m a z w o (K go) f.number k (ap (λ z. level m a z o (T go)) (sym elevel) ∙ c.in-Some.ensures.row p.cells.items m a o (T go) h home ea) (c.in-Some-index.ensures ∙ ap number ecell) ∙ ap (λ q. having q o (λ v. having (thunk_in v) o go)) (sym (c.in_default-cell_in.ensures.value c.deref.result.now m h2 c.in-Some.ensures.span)));
 }
 
 pub returns : goal.returns
@@ -73,14 +71,12 @@ returns c = record {
       let K : (ℕ × ℕ → Run Machine) → ℕ → ℕ → Run Machine = λ go j k. having (cell m j k) o (λ v. having (thunk_in v) o go) in
       let T : (ℕ × ℕ → Run Machine) → ℕ → Run Machine = λ go j. Then m a z w o (K go) j in
       let ecell : to_z w64 (of_z w64 w) ≡ w = search rules in
-      let f = c.in-Some.frame in
+      let f = c.in-Some.span in
       let k = c.in-Some-index.number in
-      let there : Leads c.deref.result.now m f = has_leads c.deref.result.now p.cells.items m f h c.in-Some.ensures.there in
-      let h2 : Holds c.deref-2.result.now c.deref-3.result.now m = subst (λ x. Holds x c.deref-3.result.now m) (sym c.deref-2.ensures.value) (subst (λ x. Holds p.frames.items x m) (sym c.deref-3.ensures.value) s.frames) in
-      let there2 : Leads c.deref-2.result.now m f = subst (λ x. Leads x m f) (sym c.deref-2.ensures.value) (subst (λ x. Leads x m f) c.deref.ensures.value there) in
-      let slot = c.in-Some-cell.slot in
-      let leads : SlotLeads p.frames.items m slot = led_at p.frames.items m c.deref-3.result.now slot (subst (λ v. (k : ℕ) → SlotLeads p.frames.items m (slot_at v k)) (sym c.deref-3.ensures.value) s.frames.links) c.in-Some-cell.ensures.lies in (
+      let h2 : Holds c.deref.result.now c.deref-2.result.now m = subst (λ x. Holds c.deref.result.now x m) (sym c.deref-2.ensures.value) h in
+      let slot = c.in-Some-cell_in.slot in
+      let leads : SlotLeads p.frames.items m slot = led_at p.frames.items m c.deref-2.result.now slot (subst (λ v. (k : ℕ) → SlotLeads p.frames.items m (slot_at v k)) (sym c.deref-2.ensures.value) s.frames.links) c.in-Some-cell_in.ensures.lies in (
         home_leads c.thunk_of.result p.frames.items m slot c.thunk_of.ensures.leads leads,
-        λ go. at_cell m a z w o (K go) f.stamp k (ap (λ z. level m a z o (T go)) (sym elevel) ∙ c.in-Some.ensures.row p.cells.items m a o (T go) h home ea) (c.in-Some-index.ensures ∙ ap number ecell) ∙ ap (λ q. having q o (λ v. having (thunk_in v) o go)) (sym (c.in-Some-cell.ensures.value m h2 there2)) ∙ ap (λ q. having q o go) (sym c.thunk_of.ensures.is),
+        λ go. at_cell m a z w o (K go) f.number k (ap (λ z. level m a z o (T go)) (sym elevel) ∙ c.in-Some.ensures.row p.cells.items m a o (T go) h home ea) (c.in-Some-index.ensures ∙ ap number ecell) ∙ ap (λ q. having q o (λ v. having (thunk_in v) o go)) (sym (c.in-Some-cell_in.ensures.value c.deref.result.now m h2 c.in-Some.ensures.span)) ∙ ap (λ q. having q o go) (sym c.thunk_of.ensures.is),
       );
 }
